@@ -1,0 +1,10 @@
+-- T9: the marked cases of document 01, computed. One theorem over one table, on bytes in and bytes out.
+use mathlib.Core.Path.{refl}
+use Rattle.texts.proofs.Computing.{computeJudgement}
+use Rattle.engine.proofs.Computing.{computeRun}
+use Rattle.checker.specs.CheckText.{countLf, checkSheet, checkText}
+use Rattle.checker.specs.Marked.{marked, MarkedCases, AcceptsResult, AcceptsAnswer}
+
+pub markedCases : MarkedCases
+unfolding computeRun computeJudgement countLf checkSheet checkText marked AcceptsResult AcceptsAnswer
+markedCases = ((refl, refl), ((refl, refl), ((refl, tt), ((refl, refl), ((refl, tt), ((refl, tt), ((refl, refl), ((refl, tt), ((refl, tt), ((refl, refl), ((refl, refl), ((refl, tt), ((refl, refl), ((refl, tt), ((refl, refl), ((refl, tt), tt))))))))))))))))

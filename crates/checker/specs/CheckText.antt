@@ -1,0 +1,58 @@
+-- Document 01, "Turned back, in checking order", for the checker: refusals 1, 2, 4, 5, 6 to 11, or the judgement; and the final
+-- contents of each lent buffer. A function of the sheet's bytes, the text's bytes and the lengths of the lent buffers.
+use Prim.Native.Nat.{ℕ, zero, suc, _*_}
+use mathlib.Core.Bool.{Bool, true, false, cond}
+use mathlib.Core.List.{List, [], _∷_}
+use lib.Dec.{eqb, leb, ltb}
+use lib.ListN.{length}
+use Rattle.sheets.specs.Limits.{maxSheetBytes, tableNumbers, maxTextBytes}
+use Rattle.sheets.specs.Bytes.{lf}
+use Rattle.sheets.specs.Sheets.{Sheet, Refusal, refusal, Read, sheet, refused, readSheet}
+use Rattle.texts.specs.Judging.{Judgement, judge}
+use Rattle.engine.specs.EngineRun.{demanded, zeroed}
+
+pub data Checked : Type 0 where
+  judged : Judgement → Checked
+  turnedBack : Refusal → Checked
+
+-- "for each LF in the answer text"
+unfoldable pub countLf : List ℕ → ℕ
+countLf [] = 0
+countLf (c ∷ cs) = cond (eqb c lf) (suc (countLf cs)) (countLf cs)
+
+unfoldable pub checkSheet : List ℕ → Read → Checked
+checkSheet text (refused r) = turnedBack r
+checkSheet text (sheet s) = judged (judge s text)
+
+-- The sheet's bytes, the text's, the lengths of table and work buffer.
+unfoldable pub checkText : List ℕ → List ℕ → ℕ → ℕ → Checked
+checkText bytes text tableLength workLength =
+    elim (ltb maxSheetBytes (length bytes)) [
+      | true ↦ turnedBack (refusal 1 0)
+      | false ↦
+          elim (ltb tableLength tableNumbers) [
+            | true ↦ turnedBack (refusal 2 0)
+            | false ↦
+                elim (ltb maxTextBytes (length text)) [
+                  | true ↦ turnedBack (refusal 4 0)
+                  | false ↦
+                      elim (ltb workLength (demanded (countLf text))) [
+                        | true ↦ turnedBack (refusal 5 0)
+                        | false ↦
+                            checkSheet text (readSheet bytes)
+                      ]
+                ]
+          ]
+    ]
+
+-- "On 1 to 5 no buffer changes. Past 5, refused or not, the first 8,192 numbers of the table and the demanded part of the work
+-- buffer are zero at the end, the rest of both unchanged."
+unfoldable pub isEarly : Checked → Bool
+isEarly (judged j) = false
+isEarly (turnedBack r) = leb (r .number) 5
+
+unfoldable pub tableAfter : Checked → List ℕ → List ℕ
+tableAfter r table = cond (isEarly r) table (zeroed tableNumbers table)
+
+unfoldable pub workAfter : Checked → List ℕ → List ℕ → List ℕ
+workAfter r text work = cond (isEarly r) work (zeroed (demanded (countLf text)) work)

@@ -1,0 +1,4 @@
+-- The checker: what it answers and what each lent buffer then holds, for every input.
+pub mod CheckText
+pub mod Promises
+pub mod Marked

@@ -1,0 +1,46 @@
+-- Promises T1, T5 and T6 about the checker (demands 1 and 2).
+use Prim.Native.Nat.{ℕ, suc, _≤_, _*_}
+use mathlib.Core.Path.{_≡_}
+use mathlib.Core.List.{List}
+use mathlib.Core.Logic.{_⊎_, _↔_}
+use lib.ListN.{length}
+use Rattle.sheets.specs.Sheets.{Sheet, Refusal, Read, sheet, readSheet}
+use Rattle.texts.specs.Spelled.{SpellsDerivation, BreaksAfter}
+use Rattle.texts.specs.Judging.{Judgement, valid, invalid}
+use Rattle.engine.specs.EngineRun.{Told, toldProved, Answer, answered, engineRun}
+use Rattle.checker.specs.CheckText.{Checked, judged, turnedBack, checkText, tableAfter, workAfter}
+
+-- What the checker hands back, in numbers: 0 valid, 1 not valid, 3 refused; the line that breaks or that is refused, 0 where there
+-- is none; the refusal number, 0 where it is none.
+pub record HandedBack : Type 0 where
+  pub verdict : ℕ
+  pub line : ℕ
+  pub number : ℕ
+
+unfoldable pub handedBack : Checked → HandedBack
+handedBack (judged valid) = record { verdict = 0; line = 0; number = 0 }
+handedBack (judged (invalid k)) = record { verdict = 1; line = k; number = 0 }
+handedBack (turnedBack r) = record { verdict = 3; line = r .line; number = r .number }
+
+-- T1, demand 1: what the checker hands back and what each lent buffer then holds. `check` promises this for every input.
+pub record CheckContract (bytes text table work table′ work′ : List ℕ) (r : HandedBack) : Type 0 where
+  pub value : r ≡ handedBack (checkText bytes text (length table) (length work))
+  pub tableEnd : table′ ≡ tableAfter (checkText bytes text (length table) (length work)) table
+  pub workEnd : work′ ≡ workAfter (checkText bytes text (length table) (length work)) text work
+
+-- T6: "where it turns nothing back", it "accepts a text exactly if it spells ... a derivation of an instance of that goal", and
+-- else names the first line that breaks.
+pub record CheckExact (bytes text : List ℕ) (t w : ℕ) (j : Judgement) : Type 0 where
+  pub read : (s : Sheet) × (readSheet bytes ≡ sheet s)
+  pub accepts : (j ≡ valid) ↔ SpellsDerivation (read .0) text
+  pub breaks : (n : ℕ) → (j ≡ invalid (suc n)) ↔ (BreaksAfter (read .0) text n × (SpellsDerivation (read .0) text → ⊥))
+
+abbrev pub AllExact : Type 0
+AllExact = (bytes text : List ℕ) (t w : ℕ) (j : Judgement) → checkText bytes text t w ≡ judged j → CheckExact bytes text t w j
+
+-- T5: it "accepts every derivation written": what the engine told as proved is valid, with any buffers that the checker does not
+-- turn back. Only refusals 2 and 5 can arise.
+abbrev pub AcceptsWritten : Type 0
+AcceptsWritten = (bytes : List ℕ) (budget t w a : ℕ) (x : Answer) → engineRun bytes budget t w a ≡ answered x → x .outcome ≡ toldProved
+    → (t′ w′ : ℕ) → (checkText bytes (x .text) t′ w′ ≡ judged valid)
+    ⊎ ((r : Refusal) × (checkText bytes (x .text) t′ w′ ≡ turnedBack r) × ((r .number ≡ 2) ⊎ (r .number ≡ 5)))

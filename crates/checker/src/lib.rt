@@ -1,0 +1,1 @@
+// The checker, see specs/ and proofs/.

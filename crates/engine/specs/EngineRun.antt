@@ -1,0 +1,86 @@
+-- Document 01, "Turned back, in checking order", for the engine: refusals 1, 2, 3, 5, 6 to 11, 12, or the answer; and the final
+-- contents of each lent buffer. A function of the sheet's bytes, the budget and the lengths of the lent buffers.
+use Prim.Native.Nat.{ℕ, zero, suc, _*_}
+use mathlib.Core.Bool.{Bool, true, false, _||_, cond}
+use mathlib.Core.List.{List, [], _∷_, _++_}
+use lib.Dec.{eqb, leb, ltb}
+use lib.ListN.{length, drop, replicate}
+use Rattle.search.specs.Search.{Outcome, ends, spent, proved, noProof, search}
+use Rattle.sheets.specs.Limits.{maxSheetBytes, tableNumbers, maxBudget, numbersPerUnit, maxTextBytes}
+use Rattle.sheets.specs.Sheets.{Sheet, Refusal, refusal, Read, sheet, refused, readSheet}
+use Rattle.texts.specs.Spelling.{noText, spentText}
+use Rattle.texts.specs.Promises.{searchText}
+
+-- "Outcomes are `proved`, `no`, `spent`".
+pub data Told : Type 0 where
+  toldProved toldNo toldSpent : Told
+
+-- "the run hands back outcome, units and text length"
+pub record Answer : Type 0 where
+  pub outcome : Told
+  pub units : ℕ
+  pub text : List ℕ
+
+pub data Result : Type 0 where
+  answered : Answer → Result
+  turnedBack : Refusal → Result
+
+-- "`R`, outcome, units ... spent reports the budget"
+unfoldable pub answerTo : Sheet → ℕ → Outcome → Answer
+answerTo s budget (ends (proved store path) n) = record { outcome = toldProved; units = n; text = searchText s store path n }
+answerTo s budget (ends noProof n) = record { outcome = toldNo; units = n; text = noText n }
+answerTo s budget spent = record { outcome = toldSpent; units = budget; text = spentText budget }
+
+-- 12: "The answer text is over 65,535 bytes or longer than the answer buffer"
+unfoldable pub fit : ℕ → Answer → Result
+fit answerLength a = cond (ltb maxTextBytes (length (a .text)) || ltb answerLength (length (a .text))) (turnedBack (refusal 12 0)) (answered a)
+
+-- 6 to 11, then the search
+unfoldable pub runSheet : ℕ → ℕ → Read → Result
+runSheet budget answerLength (refused r) = turnedBack r
+runSheet budget answerLength (sheet s) = fit answerLength (answerTo s budget (search budget (s .clauses) (s .goal)))
+
+-- "The work buffer holds under 64 numbers for each unit of budget": the demanded part.
+unfoldable pub demanded : ℕ → ℕ
+demanded units = numbersPerUnit * units
+
+-- The sheet's bytes, the budget, the lengths of table, work buffer and answer buffer.
+unfoldable pub engineRun : List ℕ → ℕ → ℕ → ℕ → ℕ → Result
+engineRun bytes budget tableLength workLength answerLength =
+    elim (ltb maxSheetBytes (length bytes)) [
+      | true ↦ turnedBack (refusal 1 0)
+      | false ↦
+          elim (ltb tableLength tableNumbers) [
+            | true ↦ turnedBack (refusal 2 0)
+            | false ↦
+                elim (eqb budget 0 || ltb maxBudget budget) [
+                  | true ↦ turnedBack (refusal 3 0)
+                  | false ↦
+                      elim (ltb workLength (demanded budget)) [
+                        | true ↦ turnedBack (refusal 5 0)
+                        | false ↦
+                            runSheet budget answerLength (readSheet bytes)
+                      ]
+                ]
+          ]
+    ]
+
+-- "On 1 to 5 no buffer changes. Past 5, refused or not, the first 8,192 numbers of the table and the demanded part of the work
+-- buffer are zero at the end, the rest of both unchanged."
+unfoldable pub isEarly : Result → Bool
+isEarly (answered a) = false
+isEarly (turnedBack r) = leb (r .number) 5
+
+unfoldable pub zeroed : ℕ → List ℕ → List ℕ
+zeroed n l = replicate n 0 ++ drop n l
+
+unfoldable pub tableAfter : Result → List ℕ → List ℕ
+tableAfter r table = cond (isEarly r) table (zeroed tableNumbers table)
+
+unfoldable pub workAfter : Result → ℕ → List ℕ → List ℕ
+workAfter r budget work = cond (isEarly r) work (zeroed (demanded budget) work)
+
+-- "A refusal never changes the answer buffer; an answer changes only its own bytes".
+unfoldable pub answerAfter : Result → List ℕ → List ℕ
+answerAfter (answered a) answer = a .text ++ drop (length (a .text)) answer
+answerAfter (turnedBack r) answer = answer

@@ -1,0 +1,3 @@
+-- The engine's run: what it answers and what each lent buffer then holds, for every input.
+pub mod EngineRun
+pub mod Promises

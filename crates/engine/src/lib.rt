@@ -1,0 +1,1 @@
+// The engine, see specs/ and proofs/.

@@ -1,0 +1,85 @@
+-- What steps keep holds after any number of acts, and at the end: the one induction over searches, for every invariant.
+use Prim.Native.Nat.{ℕ, zero, suc, _+_}
+use mathlib.Core.Path.{_≡_, refl, sym, subst}
+use mathlib.Core.List.{List, [], _∷_}
+use native.Mathlib.Omega.{arith}
+use Rattle.terms.specs.Lists.{All}
+use Rattle.terms.proofs.Lists.{all-append, all-weaken}
+use Rattle.formulas.specs.Formulas.{Goal, Clause}
+use Rattle.sequents.specs.Sequents.{Line}
+use Rattle.unification.specs.Store.{Leaf, Store}
+use Rattle.search.specs.Configurations.{Configuration, take, try, match, done}
+use Rattle.search.specs.Steps.{step}
+use Rattle.search.specs.Search.{status, start, advance, after, Verdict, proved, noProof, ComesToFrom, ComesTo, ends, search}
+use Rattle.search.proofs.Units.{allUnits}
+
+-- A property of states, with the number of acts done: true at the start and kept by an act, it is true after any number of acts.
+pub after-state : (cs : List Clause) (g : Goal) (S : ℕ → List Configuration → Type 0) → S 0 (start cs g)
+    → ((u : ℕ) (ds : List Configuration) → S u ds → S (suc u) (advance u ds)) → (n : ℕ) → S n (after cs g n)
+unfolding after
+after-state cs g S first acts zero = first
+after-state cs g S first acts (suc n) = acts n (after cs g n) (after-state cs g S first acts n)
+
+-- So is a property of configurations that a step carries on, and that waiting does.
+pub after-all : (cs : List Clause) (g : Goal) (P : ℕ → Configuration → Type 0) → All (P 0) (start cs g) → ((u : ℕ) (c : Configuration) → P u c → All (P (suc u)) (step u c))
+    → ((u : ℕ) (c : Configuration) → P u c → P (suc u) c) → (n : ℕ) → All (P n) (after cs g n)
+unfolding advance
+after-all cs g P first acts waits n = after-state cs g (λ u. All (P u)) first act n
+  where
+    act : (u : ℕ) (ds : List Configuration) → All (P u) ds → All (P (suc u)) (advance u ds)
+    act u [] h = tt
+    act u (c ∷ ds) h = all-append (P (suc u)) (step u c) ds (acts u c (h .0)) (all-weaken (P u) (P (suc u)) (waits u) ds (h .1))
+
+-- The state at which the verdict is given.
+abbrev pub Stands : Verdict → List Configuration → Type 0
+Stands (proved s ls) ds = (alternatives : List Configuration) × (ds ≡ done s ls ∷ alternatives)
+Stands noProof ds = ds ≡ []
+
+-- no act is needed: the verdict is given here
+stands-now : (u : ℕ) (ds : List Configuration) (v : Verdict) → ComesToFrom zero u (status u ds) v → Stands v ds
+unfolding status ComesToFrom
+stands-now u [] v h = subst (λ (w : Verdict). Stands w []) (sym h) refl
+stands-now u (take s g b ∷ ds) v h = absurd h
+stands-now u (try s a m ms k b ∷ ds) v h = absurd h
+stands-now u (match m b ∷ ds) v h = absurd h
+stands-now u (done s ls ∷ ds) v h = subst (λ (w : Verdict). Stands w (done s ls ∷ ds)) (sym h) (ds, refl)
+
+-- an act is needed: what it comes to is what the next state comes to
+stands-later : (n u : ℕ) (ds : List Configuration) (v : Verdict) → ComesToFrom (suc n) u (status u ds) v → ComesToFrom n (suc u) (status (suc u) (advance u ds)) v
+unfolding status ComesToFrom advance
+stands-later n u [] v h = absurd h
+stands-later n u (take s g b ∷ ds) v h = h
+stands-later n u (try s a m ms k b ∷ ds) v h = h
+stands-later n u (match m b ∷ ds) v h = h
+stands-later n u (done s ls ∷ ds) v h = absurd h
+
+stands-from : (cs : List Clause) (g : Goal) (n u : ℕ) (v : Verdict) → ComesToFrom n u (status u (after cs g u)) v → Stands v (after cs g (u + n))
+unfolding after
+stands-from cs g zero u v h =
+    let q : u ≡ u + 0 = omega arith in
+    subst (λ (m : ℕ). Stands v (after cs g m)) q (stands-now u (after cs g u) v h)
+stands-from cs g (suc n) u v h =
+    let q : suc u + n ≡ u + suc n = omega arith in
+    subst (λ (m : ℕ). Stands v (after cs g m)) q (stands-from cs g n (suc u) v (stands-later n u (after cs g u) v h))
+
+-- A search that comes to a verdict after n acts stands there.
+pub comes-stands : (cs : List Clause) (g : Goal) (n : ℕ) (v : Verdict) → ComesTo cs g n v → Stands v (after cs g n)
+unfolding ComesTo after
+comes-stands cs g n v h =
+    let q : 0 + n ≡ n = omega arith in
+    subst (λ (m : ℕ). Stands v (after cs g m)) q (stands-from cs g n 0 v h)
+
+-- So a proved search has its end in front,
+pub proved-stands : (cs : List Clause) (g : Goal) (budget n : ℕ) (s : Store) (path : List (Line Leaf)) → search budget cs g ≡ ends (proved s path) n → Stands (proved s path) (after cs g n)
+proved-stands cs g budget n s path e = comes-stands cs g n (proved s path) (allUnits cs g .tells budget n (proved s path) .0 e .0)
+
+-- of which everything holds that a step carries on;
+pub proved-all : (cs : List Clause) (g : Goal) (P : Configuration → Type 0) → All P (start cs g) → ((u : ℕ) (c : Configuration) → P c → All P (step u c))
+    → (budget n : ℕ) (s : Store) (path : List (Line Leaf)) → search budget cs g ≡ ends (proved s path) n → P (done s path)
+proved-all cs g P first acts budget n s path e = subst (All P) (proved-stands cs g budget n s path e .1) (after-all cs g (λ u. P) first acts (λ u c h. h) n) .0
+
+-- and a search does not come to no, if what an act keeps is false of the empty state.
+pub never-no : (cs : List Clause) (g : Goal) (S : List Configuration → Type 0) → S (start cs g) → ((u : ℕ) (ds : List Configuration) → S ds → S (advance u ds)) → (S [] → ⊥)
+    → (budget n : ℕ) → search budget cs g ≡ ends noProof n → ⊥
+never-no cs g S first acts empty budget n e =
+    empty (subst S (comes-stands cs g n noProof (allUnits cs g .tells budget n noProof .0 e .0)) (after-state cs g (λ u. S) first acts n))

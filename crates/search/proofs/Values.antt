@@ -1,0 +1,135 @@
+-- Valuations of the search's variables by terms of derivations: where two agree, and what they give fresh variables.
+use Prim.Native.Nat.{ℕ, suc, _≤_, _<_}
+use mathlib.Core.Path.{_≡_, refl, sym, _∙_, ap, ap₂, subst, fun-ext}
+use mathlib.Core.Bool.{Bool, true, false, cond}
+use mathlib.Core.List.{List, [], _∷_, map}
+use native.Mathlib.Omega.{arith}
+use lib.Dec.{eqb}
+use lib.ListN.{length}
+use borrow.Author.Tests.{eqb-false}
+use Rattle.terms.specs.Lists.{All, update}
+use Rattle.terms.specs.Terms.{Term, Terms, substitute, substitutes, Leaves, LeavesAll}
+use Rattle.terms.proofs.Lists.{update-same, update-other}
+use Rattle.terms.proofs.Terms.{substitute-where, substitutes-where}
+use Rattle.sequents.specs.Symbols.{Symbol, made, symbolLevel, Ground, level}
+use Rattle.sequents.specs.Sequents.{Environment, Program, hypothesis, Sequent, sequent, putTerms, putEnvironment, putProgram, putSequent}
+use Rattle.unification.specs.Store.{Leaf, var, con, Binding, Store, fresh, freshLevels, past, freshVariables}
+use Rattle.unification.specs.Promises.{Below, BelowBinding, Formed}
+use Rattle.unification.proofs.Stores.{fresh-formed}
+use Rattle.unification.proofs.Valuation.{Domain, value, Equation, Solves}
+use Rattle.search.proofs.Invariant.{EnvironmentBelow, ProgramBelow, GoalsBelow}
+
+-- Values are terms of derivations: a made constant stands for itself.
+unfoldable pub symbols : Domain Symbol
+unfolding symbolLevel
+symbols = record { constant = made; level = symbolLevel; level-constant = λ c k. refl; constant-number = λ c k d j e. cc }
+
+abbrev pub Valuation : Type 0
+Valuation = ℕ → Ground
+
+-- What a leaf of the search stands for.
+abbrev pub valued : Valuation → Leaf → Ground
+valued σ = value symbols σ
+
+-- The valuation solves the store.
+abbrev pub Solution : Valuation → Store → Type 0
+Solution σ s = Solves symbols σ s
+
+-- valuations that agree below n
+
+abbrev pub Agree : ℕ → Valuation → Valuation → Type 0
+Agree n σ τ = (x : ℕ) → x < n → σ x ≡ τ x
+
+valued-agree : (n : ℕ) (σ τ : Valuation) → Agree n σ τ → (a : Leaf) → Below n a → valued σ a ≡ valued τ a
+unfolding value Below
+valued-agree n σ τ h (var x) b = h x b
+valued-agree n σ τ h (con c k) b = refl
+
+pub term-agree : (t : Term Leaf) (n : ℕ) (σ τ : Valuation) → Leaves t (Below n) → Agree n σ τ → substitute t (valued σ) ≡ substitute t (valued τ)
+term-agree t n σ τ b h = substitute-where t (Below n) (valued σ) (valued τ) b (valued-agree n σ τ h)
+
+pub terms-agree : (ts : Terms Leaf) (n : ℕ) (σ τ : Valuation) → LeavesAll ts (Below n) → Agree n σ τ → substitutes ts (valued σ) ≡ substitutes ts (valued τ)
+terms-agree ts n σ τ b h = substitutes-where ts (Below n) (valued σ) (valued τ) b (valued-agree n σ τ h)
+
+pub environment-agree : (e : Environment Leaf) (n : ℕ) (σ τ : Valuation) → EnvironmentBelow n e → Agree n σ τ → putEnvironment (valued σ) e ≡ putEnvironment (valued τ) e
+environment-agree e n σ τ b h = fun-ext (λ v. term-agree (e v) n σ τ (b v) h)
+
+pub program-agree : (P : Program Leaf) (n : ℕ) (σ τ : Valuation) → ProgramBelow n P → Agree n σ τ → putProgram (valued σ) P ≡ putProgram (valued τ) P
+program-agree [] n σ τ b h = refl
+program-agree (x ∷ P) n σ τ b h = ap₂ _∷_ (ap (hypothesis (x .clause)) (environment-agree (x .environment) n σ τ (b .0) h)) (program-agree P n σ τ (b .1) h)
+
+pub goals-agree : (gs : List (Sequent Leaf)) (n : ℕ) (σ τ : Valuation) → GoalsBelow gs n → Agree n σ τ → map (putSequent (valued σ)) gs ≡ map (putSequent (valued τ)) gs
+goals-agree [] n σ τ b h = refl
+goals-agree (g ∷ gs) n σ τ b h =
+    ap₂ _∷_ (ap₂ (λ (e : Environment Symbol) (P : Program Symbol). sequent (g .goal) e P (g .level))
+    (environment-agree (g .environment) n σ τ (b .0 .0) h) (program-agree (g .program) n σ τ (b .0 .1) h)) (goals-agree gs n σ τ (b .1) h)
+
+-- a fresh variable
+
+-- a solution with one fresh variable solves the store without it, and the variable's value is no higher than its level
+fresh-one : (v i : ℕ) (s : Store) (σ : Valuation) → Solution σ (fresh (v ∷ []) i s) → Solution σ s × (level (σ (s .next)) ≤ i)
+unfolding fresh freshLevels past level symbols
+fresh-one v i s σ h = (
+  record { equations = h .equations; levels = λ x b. subst (λ (k : ℕ). level (σ x) ≤ k) (update-other (s .level) (s .next) i x (λ q. omega arith)) (h .levels x (omega arith)) },
+  subst (λ (k : ℕ). level (σ (s .next)) ≤ k) (update-same (s .level) (s .next) i) (h .levels (s .next) (omega arith)),
+)
+
+-- a value no higher than its level makes a solution one with the fresh variable
+add-one : (v i : ℕ) (s : Store) (σ : Valuation) (t : Ground) → Formed s → Solution σ s → level t ≤ i → Solution (update σ (s .next) t) (fresh (v ∷ []) i s)
+unfolding fresh freshLevels past level symbols update
+add-one v i s σ t f h l = record {
+  equations = all-both (s .bindings) (f .below) (h .equations);
+  levels = λ x b. go x (eqb x (s .next)) refl b;
+}
+  where
+    τ : Valuation
+    τ = update σ (s .next) t
+
+    same : Agree (s .next) σ τ
+    same x b = sym (update-other σ (s .next) t x (λ q. omega arith))
+
+    all-both : (bs : List Binding) → All (BelowBinding (s .next)) bs → All (Equation symbols σ) bs → All (Equation symbols τ) bs
+    all-both [] b e = tt
+    all-both (x ∷ bs) b e = (sym (same (x .name) (b .0 .0)) ∙ e .0 ∙ term-agree (x .value) (s .next) σ τ (b .0 .1) same, all-both bs (b .1) (e .1))
+
+    go : (x : ℕ) (c : Bool) → eqb x (s .next) ≡ c → x < suc (s .next) → level (cond c t (σ x)) ≤ cond c i (s .level x)
+    go x true e b = l
+    go x false e b = h .levels x (let d = eqb-false x (s .next) e in omega arith)
+
+-- fresh variables of a prefix
+
+pub freshVariables-length : (vs : List ℕ) (n : ℕ) (σ : Valuation) → length (putTerms (valued σ) (freshVariables vs n)) ≡ length vs
+unfolding freshVariables
+freshVariables-length [] n σ = refl
+freshVariables-length (v ∷ vs) n σ = ap suc (freshVariables-length vs (suc n) σ)
+
+pub fresh-solution : (vs : List ℕ) (i : ℕ) (s : Store) (σ : Valuation) → Solution σ (fresh vs i s)
+    → Solution σ s × All (λ t. level t ≤ i) (putTerms (valued σ) (freshVariables vs (s .next)))
+unfolding fresh freshLevels past freshVariables value substitute
+fresh-solution [] i s σ h = (h, tt)
+fresh-solution (v ∷ vs) i s σ h =
+    let r = fresh-solution vs i (fresh (v ∷ []) i s) σ h in
+    let q = fresh-one v i s σ (r .0) in
+    (q .0, (q .1, r .1))
+
+-- The valuation with given values for the fresh variables of a prefix.
+pub record Extension (vs : List ℕ) (ts : List Ground) (i : ℕ) (s : Store) (σ : Valuation) : Type 0 where
+  pub valuation : Valuation
+  pub solves : Solution valuation (fresh vs i s)
+  pub agree : Agree (s .next) σ valuation
+  pub terms : putTerms (valued valuation) (freshVariables vs (s .next)) ≡ ts
+
+pub extend : (vs : List ℕ) (ts : List Ground) (i : ℕ) (s : Store) (σ : Valuation) → Formed s → Solution σ s → length ts ≡ length vs → All (λ t. level t ≤ i) ts
+    → Extension vs ts i s σ
+unfolding fresh freshLevels past freshVariables value substitute
+extend [] [] i s σ f h n l = record { valuation = σ; solves = h; agree = λ x b. refl; terms = refl }
+extend [] (t ∷ ts) i s σ f h n l = absurd (omega arith)
+extend (v ∷ vs) [] i s σ f h n l = absurd (omega arith)
+extend (v ∷ vs) (t ∷ ts) i s σ f h n l =
+    let r = extend vs ts i (fresh (v ∷ []) i s) (update σ (s .next) t) (fresh-formed (v ∷ []) i s f) (add-one v i s σ t f h (l .0)) (omega arith) (l .1) in
+    record {
+      valuation = r .valuation;
+      solves = r .solves;
+      agree = λ x b. sym (update-other σ (s .next) t x (λ q. omega arith)) ∙ r .agree x (omega arith);
+      terms = ap₂ _∷_ (sym (r .agree (s .next) (omega arith)) ∙ update-same σ (s .next) t) (r .terms);
+    }

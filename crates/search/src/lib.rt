@@ -1,0 +1,1 @@
+// The search: definitions and laws only, see specs/ and proofs/.

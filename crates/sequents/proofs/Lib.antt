@@ -1,0 +1,6 @@
+pub mod Sequents
+pub mod Lines
+pub mod Renamings
+pub mod Locality
+pub mod Promises
+pub mod Cases

@@ -1,0 +1,7 @@
+-- Document 01, "Derivations": sequents, their derivations as trees and as lines, and instances of a goal.
+pub mod Symbols
+pub mod Sequents
+pub mod Derivations
+pub mod Lines
+pub mod Renamings
+pub mod Promises

@@ -1,0 +1,1 @@
+// Derivations: definitions and laws only, see specs/ and proofs/.

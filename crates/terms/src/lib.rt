@@ -1,0 +1,1 @@
+// First-order terms: definitions and laws only, see specs/ and proofs/.

@@ -1,0 +1,1 @@
+// The answer text: definitions and laws only, see specs/ and proofs/.

@@ -1,0 +1,81 @@
+-- Small matches, computed: what is bound, what is lowered, what fails and after how many acts.
+use Prim.Native.Nat.{ℕ, suc}
+use mathlib.Core.Path.{_≡_, refl}
+use mathlib.Core.Bool.{Bool, true, false, cond}
+use mathlib.Core.List.{List, [], _∷_}
+use lib.Dec.{eqb}
+use Rattle.terms.specs.Lists.{update}
+use Rattle.terms.specs.Terms.{Term, leaf, app, Terms, nil, cons, substitute}
+use Rattle.unification.specs.Store.{Leaf, var, con, Store, look, look1, lower, bind, boundTo, at, onlyAt, solve1, solved, solution}
+use Rattle.unification.specs.Matching.{Pair, Matching, pairs, check, fail, pushTerms, pushPairs, comparing, onNode, visit, compareTerms, matchStep, matchSteps}
+
+-- variable x has level x; nothing is bound
+abbrev store : Store
+store = record { bindings = []; level = λ x. x; next = 8 }
+
+abbrev against : Term Leaf → Term Leaf → Matching
+against t u = pairs store (record { goal = t; clause = u } ∷ [])
+
+abbrev f : Term Leaf → Term Leaf
+f t = app 0 (cons t nil)
+
+-- after n acts: 0 failed, 1 ended well, 2 under way; then the level and the value of a variable
+abbrev stand : Matching → ℕ
+stand (pairs s []) = 1
+stand (pairs s (p ∷ ps)) = 2
+stand (check s y t n ns ps) = 2
+stand fail = 0
+
+abbrev storeOf : Matching → Store
+storeOf (pairs s ps) = s
+storeOf (check s y t n ns ps) = s
+storeOf fail = store
+
+unfoldable standing : ℕ → Term Leaf → Term Leaf → ℕ
+unfolding matchSteps matchStep compareTerms visit onNode comparing pushPairs pushTerms look look1 lower bind update
+standing n t u = stand (matchSteps n (against t u))
+
+unfoldable levelAfter : ℕ → Term Leaf → Term Leaf → ℕ → ℕ
+unfolding matchSteps matchStep compareTerms visit onNode comparing pushPairs pushTerms look look1 lower bind update
+levelAfter n t u x = storeOf (matchSteps n (against t u)) .level x
+
+unfoldable valueAfter : ℕ → Term Leaf → Term Leaf → ℕ → Term Leaf
+unfolding matchSteps matchStep compareTerms visit onNode comparing pushPairs pushTerms look look1 lower bind update solution solved solve1 boundTo onlyAt at substitute
+valueAfter n t u x = solution (storeOf (matchSteps n (against t u))) x
+
+-- x1 against f(x3): one pair, two nodes; x3 comes down to level 1
+lowered : levelAfter 3 (leaf (var 1)) (f (leaf (var 3))) 3 ≡ 1
+unfolding levelAfter
+lowered = refl
+
+not-raised : levelAfter 3 (leaf (var 3)) (f (leaf (var 1))) 1 ≡ 1
+unfolding levelAfter
+not-raised = refl
+
+value : valueAfter 3 (leaf (var 1)) (f (leaf (var 3))) 1 ≡ f (leaf (var 3))
+unfolding valueAfter
+value = refl
+
+-- the variable itself, deep inside: no match, seen at the second node
+occurs : standing 3 (leaf (var 1)) (f (leaf (var 1))) ≡ 0
+unfolding standing
+occurs = refl
+
+-- a made constant above the level, and at it
+above : standing 2 (leaf (var 1)) (leaf (con 0 2)) ≡ 0
+unfolding standing
+above = refl
+
+within : standing 2 (leaf (var 2)) (leaf (con 0 2)) ≡ 1
+unfolding standing
+within = refl
+
+-- the goal's variable is bound to the clause's
+direction : valueAfter 2 (leaf (var 1)) (leaf (var 3)) 1 ≡ leaf (var 3)
+unfolding valueAfter
+direction = refl
+
+-- bindings made on the way are looked through, and both ways into the values: g(x1, x3) against g(f(x3), c), five acts and a node more
+through : valueAfter 6 (app 1 (cons (leaf (var 1)) (cons (leaf (var 3)) nil))) (app 1 (cons (f (leaf (var 3))) (cons (app 2 nil) nil))) 1 ≡ f (app 2 nil)
+unfolding valueAfter
+through = refl

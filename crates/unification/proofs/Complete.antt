@@ -1,0 +1,160 @@
+-- Matching is complete: what solves it solves it after every act, so that no act fails.
+use Prim.Native.Nat.{ℕ, zero, suc, _≤_, _<_, min}
+use mathlib.Core.Path.{_≡_, refl, sym, _∙_, ap}
+use mathlib.Core.Bool.{Bool, true, false, _&&_, cond}
+use mathlib.Core.List.{List, [], _∷_}
+use mathlib.Core.Option.{Option, none, some, Option·map}
+use mathlib.Core.Logic.{_⊎_, inl, inr}
+use native.Mathlib.Omega.{arith}
+use lib.Dec.{eqb, leb}
+use borrow.Author.Tests.{eqb-true, eq-eqb, leb-false}
+use Rattle.terms.specs.Lists.{All, update}
+use Rattle.terms.specs.Terms.{Term, leaf, app, Terms, nil, cons, substitute, substitutes, size, sizes, levelBy, levelsBy, Leaves}
+use Rattle.terms.proofs.Terms.{leaf-not-app, nil-not-cons}
+use Rattle.unification.specs.Store.{Leaf, var, con, Store, look, lower, bind}
+use Rattle.unification.specs.Matching.{Pair, Matching, pairs, check, fail, pushTerms, pushPairs, comparing, onNode, visit, compareTerms, matchStep, matchSteps}
+use Rattle.unification.specs.Promises.{Below}
+use Rattle.unification.proofs.Look.{look-below}
+use Rattle.unification.proofs.Valuation.{Domain, value, Solves, Equal, look-value}
+use Rattle.unification.proofs.Sound.{SolvesMatching}
+use Rattle.unification.proofs.Invariant.{Checking, Running, matchSteps-running}
+
+-- Two tests that are true.
+true-and : (a b : Bool) → a ≡ true → b ≡ true → a && b ≡ true
+true-and true b p q = q
+true-and false b p q = p
+
+module _ {B : Type 0} (D : Domain B) (σ : ℕ → Term B) where
+  -- A node of the range check for y of t, which are to be equal: its value is no higher than that of y; it is t, or smaller.
+  pub record Part (y : ℕ) (t n : Term Leaf) : Type 0 where
+    pub level : levelBy (substitute n (value D σ)) (D .level) ≤ levelBy (σ y) (D .level)
+    pub small : (n ≡ t) ⊎ (size (substitute n (value D σ)) < size (σ y))
+
+  -- The nodes left in a range check are such parts.
+  unfoldable pub Parts : Matching → Type 0
+  Parts (pairs s ps) = Unit {0}
+  Parts (check s y t n ns ps) = All (Part y t) (n ∷ ns)
+  Parts fail = Unit {0}
+
+  -- σ solves the matching, and the nodes of its range check are parts.
+  abbrev pub Fits : Matching → Type 0
+  Fits m = SolvesMatching D σ m × Parts m
+
+  -- A level may be lowered to a bound that σ keeps.
+  pub lower-complete : (s : Store) (z k : ℕ) → Solves D σ s → levelBy (σ z) (D .level) ≤ k → z < s .next → Solves D σ (lower s z k)
+  unfolding lower update
+  lower-complete s z k v h l = record { equations = v .equations; levels = λ x b. go x (eqb x z) refl b }
+    where
+      go : (x : ℕ) (c : Bool) → eqb x z ≡ c → x < s .next → levelBy (σ x) (D .level) ≤ cond c (min (s .level z) k) (s .level x)
+      go x true e b = rw (eqb-true x z e) (let q = v .levels z l in omega arith)
+      go x false e b = v .levels x b
+
+  -- After a node: the next one, or the binding.
+  onNode-complete : (s : Store) (y : ℕ) (t : Term Leaf) (ns : List (Term Leaf)) (ps : List Pair)
+      → Solves D σ s → σ y ≡ substitute t (value D σ) → All (Equal D σ) ps → All (Part y t) ns → Fits (onNode s y t ns ps)
+  unfolding onNode SolvesMatching Parts bind
+  onNode-complete s y t [] ps v e h p = ((record { equations = (e, v .equations); levels = v .levels }, h), tt)
+  onNode-complete s y t (n ∷ ns) ps v e h p = ((v, e, h), p)
+
+  -- The arguments of a part that is no larger than the value of y are smaller parts.
+  pushTerms-parts : (ts : Terms Leaf) (ns : List (Term Leaf)) (y : ℕ) (t : Term Leaf) → levelsBy (substitutes ts (value D σ)) (D .level) ≤ levelBy (σ y) (D .level)
+      → sizes (substitutes ts (value D σ)) < size (σ y) → All (Part y t) ns → All (Part y t) (pushTerms ts ns)
+  unfolding pushTerms substitute levelBy size
+  pushTerms-parts nil ns y t l z h = h
+  pushTerms-parts (cons u us) ns y t l z h = (record { level = omega arith; small = inr (omega arith) }, pushTerms-parts us ns y t (omega arith) (omega arith) h)
+
+  -- u is the node that is due, as looked through.
+  visit-complete : (s : Store) (y : ℕ) (t u : Term Leaf) (ns : List (Term Leaf)) (ps : List Pair)
+      → Solves D σ s → σ y ≡ substitute t (value D σ) → All (Equal D σ) ps → y < s .next → Leaves u (Below (s .next)) → (u ≡ leaf (var y) → ⊥)
+      → levelBy (substitute u (value D σ)) (D .level) ≤ levelBy (σ y) (D .level) → size (substitute u (value D σ)) ≤ size (σ y)
+      → All (Part y t) ns → Fits (visit s y t u ns ps)
+  unfolding visit substitute value levelBy size Leaves Below
+  visit-complete s y t (leaf (var z)) ns ps v e h ly bu d hl hs p = go (eqb z y) refl
+    where
+      go : (c : Bool) → eqb z y ≡ c → Fits (cond c fail (onNode (lower s z (s .level y)) y t ns ps))
+      go true q = absurd (d (ap (λ x. leaf (var x)) (eqb-true z y q)))
+      go false q = onNode-complete (lower s z (s .level y)) y t ns ps (lower-complete s z (s .level y) v (let r = v .levels y ly in omega arith) bu) e h p
+  visit-complete s y t (leaf (con c j)) ns ps v e h ly bu d hl hs p = go (leb j (s .level y)) refl
+    where
+      go : (b : Bool) → leb j (s .level y) ≡ b → Fits (cond b (onNode s y t ns ps) fail)
+      go true q = onNode-complete s y t ns ps v e h p
+      go false q = absurd (let r = v .levels y ly in let w = leb-false j (s .level y) q in let k = D .level-constant c j in omega arith)
+  visit-complete s y t (app f ts) ns ps v e h ly bu d hl hs p = onNode-complete s y t (pushTerms ts ns) ps v e h (pushTerms-parts ts ns y t hl hs p)
+
+  -- The argument pairs of two lists of terms.
+  pub comparing-complete : (s : Store) (ts us : Terms Leaf) (ps : List Pair) → Solves D σ s → substitutes ts (value D σ) ≡ substitutes us (value D σ) → All (Equal D σ) ps
+      → Fits (comparing s (pushPairs ts us ps))
+  unfolding pushPairs comparing SolvesMatching Parts substitute
+  comparing-complete s nil nil ps v e h = ((v, h), tt)
+  comparing-complete s nil (cons u us) ps v e h = absurd (nil-not-cons (substitute u (value D σ)) (substitutes us (value D σ)) e)
+  comparing-complete s (cons t ts) nil ps v e h = absurd (nil-not-cons (substitute t (value D σ)) (substitutes ts (value D σ)) (sym e))
+  comparing-complete s (cons t ts) (cons u us) ps v e h = go (pushPairs ts us ps) (comparing-complete s ts us ps v (cc) h)
+    where
+      go : (q : Option (List Pair)) → Fits (comparing s q) → Fits (comparing s (Option·map (λ qs. record { goal = t; clause = u } ∷ qs) q))
+      go none i = absurd (i .0)
+      go (some qs) i = ((v, ((cc), i .0 .1)), tt)
+
+  -- A range check begins.
+  check-complete : (s : Store) (y : ℕ) (t : Term Leaf) (ps : List Pair) → Solves D σ s → σ y ≡ substitute t (value D σ) → All (Equal D σ) ps → Fits (check s y t t [] ps)
+  unfolding SolvesMatching Parts
+  check-complete s y t ps v e h = ((v, e, h), (record { level = rw e (omega arith); small = inl refl }, tt))
+
+  -- One pair, t and u being its sides as looked through.
+  compareTerms-complete : (s : Store) (t u : Term Leaf) (ps : List Pair) → Solves D σ s → substitute t (value D σ) ≡ substitute u (value D σ) → All (Equal D σ) ps
+      → Fits (compareTerms s t u ps)
+  unfolding compareTerms SolvesMatching Parts substitute value
+  compareTerms-complete s (leaf (var x)) (leaf (var y)) ps v e h = go (eqb x y)
+    where
+      go : (c : Bool) → Fits (cond c (pairs s ps) (check s x (leaf (var y)) (leaf (var y)) [] ps))
+      go true = ((v, h), tt)
+      go false = check-complete s x (leaf (var y)) ps v e h
+  compareTerms-complete s (leaf (var x)) (leaf (con d j)) ps v e h = check-complete s x (leaf (con d j)) ps v e h
+  compareTerms-complete s (leaf (var x)) (app g us) ps v e h = check-complete s x (app g us) ps v e h
+  compareTerms-complete s (leaf (con c k)) (leaf (var y)) ps v e h = check-complete s y (leaf (con c k)) ps v (sym e) h
+  compareTerms-complete s (leaf (con c k)) (leaf (con d j)) ps v e h =
+      let q : D .constant c k ≡ D .constant d j = cc in
+      let level : k ≡ j = sym (D .level-constant c k) ∙ ap (D .level) q ∙ D .level-constant d j in
+      rw (true-and (eqb c d) (eqb k j) (eq-eqb c d (D .constant-number c k d j q)) (eq-eqb k j level)) ((v, h), tt)
+  compareTerms-complete s (leaf (con c k)) (app g us) ps v e h = absurd (leaf-not-app (D .constant c k) g (substitutes us (value D σ)) e)
+  compareTerms-complete s (app f ts) (leaf (var y)) ps v e h = check-complete s y (app f ts) ps v (sym e) h
+  compareTerms-complete s (app f ts) (leaf (con d j)) ps v e h = absurd (leaf-not-app (D .constant d j) f (substitutes ts (value D σ)) (sym e))
+  compareTerms-complete s (app f ts) (app g us) ps v e h = rw (eq-eqb f g (cc)) (comparing-complete s ts us ps v (cc) h)
+
+  -- A node is not y: it is t, which is not, or it is too small.
+  not-itself : (R : ℕ → Type 0) (s : Store) (y : ℕ) (t n : Term Leaf) (ns : List (Term Leaf)) → Solves D σ s → Checking R s y t ns → Part y t n → look (s .bindings) n ≡ leaf (var y) → ⊥
+  unfolding substitute value
+  not-itself R s y t n ns v c p q = go (p .small)
+    where
+      same : substitute n (value D σ) ≡ σ y
+      same = sym (look-value D σ (s .bindings) n (v .equations)) ∙ ap (λ (u : Term Leaf). substitute u (value D σ)) q
+
+      go : (n ≡ t) ⊎ (size (substitute n (value D σ)) < size (σ y)) → ⊥
+      go (inl e) = c .other (sym (c .looked) ∙ ap (look (s .bindings)) (sym e) ∙ q)
+      go (inr l) = let w : size (substitute n (value D σ)) ≡ size (σ y) = ap size same in omega arith
+
+  -- A part is no larger than the value of y.
+  part-size : (y : ℕ) (t n : Term Leaf) → σ y ≡ substitute t (value D σ) → (n ≡ t) ⊎ (size (substitute n (value D σ)) < size (σ y)) → size (substitute n (value D σ)) ≤ size (σ y)
+  part-size y t n e (inl p) = rw (e, p) (omega arith)
+  part-size y t n e (inr l) = omega arith
+
+  -- One act.
+  pub matchStep-complete : (R : ℕ → Type 0) (m : Matching) → Running R m → Fits m → Fits (matchStep m)
+  unfolding matchStep SolvesMatching Parts Running
+  matchStep-complete R (pairs s []) r k = k
+  matchStep-complete R (pairs s (p ∷ ps)) r k =
+      let v = k .0 .0 in
+      compareTerms-complete s (look (s .bindings) (p .goal)) (look (s .bindings) (p .clause)) ps v
+      (look-value D σ (s .bindings) (p .goal) (v .equations) ∙ k .0 .1 .0 ∙ sym (look-value D σ (s .bindings) (p .clause) (v .equations))) (k .0 .1 .1)
+  matchStep-complete R (check s y t n ns ps) r k =
+      let v = k .0 .0 in
+      let c = r .0 in
+      let e : substitute (look (s .bindings) n) (value D σ) ≡ substitute n (value D σ) = look-value D σ (s .bindings) n (v .equations) in
+      visit-complete s y t (look (s .bindings) n) ns ps v (k .0 .1) (k .0 .2) (c .low) (look-below (s .bindings) n (s .next) (c .good .formed .below) (c .nodes .0))
+      (not-itself R s y t n (n ∷ ns) v c (k .1 .0)) (rw e (k .1 .0 .level)) (rw e (part-size y t n (k .0 .1) (k .1 .0 .small))) (k .1 .1)
+  matchStep-complete R fail r k = absurd (k .0)
+
+  -- Any number of acts.
+  pub matchSteps-complete : (R : ℕ → Type 0) (n : ℕ) (m : Matching) → Running R m → Fits m → Fits (matchSteps n m)
+  unfolding matchSteps
+  matchSteps-complete R zero m r k = k
+  matchSteps-complete R (suc n) m r k = matchStep-complete R (matchSteps n m) (matchSteps-running R n m r) (matchSteps-complete R n m r k)

@@ -1,0 +1,19 @@
+-- Promise T3 and the laws that lead to it, in reading order: the bindings as one substitution (Substitution, Look, Solution); what
+-- solves a store (Valuation, General), and which stores there are (Formed, Fresh); matching is sound, keeps stores formed, is
+-- complete, ends, and lowers levels for a reason (Sound, Invariant, Complete, Ends, Track); what it finds (Labelled, Unify, Promises).
+pub mod Substitution
+pub mod Look
+pub mod Solution
+pub mod Valuation
+pub mod General
+pub mod Formed
+pub mod Fresh
+pub mod Sound
+pub mod Invariant
+pub mod Complete
+pub mod Ends
+pub mod Track
+pub mod Labelled
+pub mod Unify
+pub mod Promises
+pub mod Cases

@@ -1,0 +1,5 @@
+-- The store of a search, matching act by act, and unification as document 003 defines it.
+pub mod Store
+pub mod Matching
+pub mod Labelled
+pub mod Promises

@@ -1,0 +1,1 @@
+// Unification under labels: definitions and laws only, see specs/ and proofs/.

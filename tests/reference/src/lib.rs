@@ -1,0 +1,28 @@
+//! Document 01 as a Rust program, written from that document alone, to judge another program by.
+//!
+//! Everything the search can come back to is persistent: formulas are shared trees, and bindings, levels, open goals,
+//! programs and the trace are persistent maps and lists. A choice point keeps the old state; nothing is undone by hand.
+//!
+//! No function here calls itself on a term, a text or a list, so deep inputs need no deep stack. Only the sheet's own
+//! nodes are dropped recursively, and a sheet has at most 1,024 of them.
+
+pub mod api;
+pub mod checker;
+pub mod fault;
+pub mod field;
+pub mod formula;
+pub mod generate;
+pub mod limits;
+pub mod list;
+pub mod map;
+pub mod random;
+pub mod refusal;
+pub mod search;
+pub mod sheet;
+pub mod term;
+pub mod text;
+pub mod unification;
+
+pub use api::{answer, check, check_text, engine_run, runner, Outcome, Run, Verdict};
+pub use fault::Fault;
+pub use refusal::Refusal;

@@ -1,0 +1,234 @@
+//! Generated sheets: what document 01 promises of every sheet, budget and set of buffers.
+
+mod common;
+
+use std::collections::BTreeMap;
+
+use common::naive::Judge;
+use reference::generate::{damaged, sheet};
+use reference::random::Random;
+use reference::{answer, check, check_text, engine_run, Outcome, Refusal, Verdict};
+
+const SHEETS: u64 = 6_000;
+
+/// Most budgets are small, to have all outcomes in little time.
+fn budget(seed: u64) -> u32 {
+    match seed % 97 {
+        0 => 50_000,
+        1..=9 => 256,
+        _ => 2_000,
+    }
+}
+
+fn name(outcome: Outcome) -> String {
+    match outcome {
+        Outcome::Refused(Refusal { number, .. }) => format!("refused {number:02}"),
+        outcome => format!("{outcome:?}").to_lowercase(),
+    }
+}
+
+#[test]
+fn every_outcome_occurs() {
+    let mut counts: BTreeMap<String, usize> = BTreeMap::new();
+    for seed in 0..SHEETS {
+        let (_, sheet) = sheet(seed);
+        *counts.entry(name(answer(&sheet, budget(seed), 65_535).0)).or_default() += 1;
+    }
+    println!("{SHEETS} sheets: {counts:?}");
+    for wanted in [
+        "proved",
+        "no",
+        "spent",
+        "refused 06",
+        "refused 07",
+        "refused 08",
+        "refused 09",
+        "refused 10",
+        "refused 11",
+        "refused 12",
+    ] {
+        assert!(counts.get(wanted).is_some_and(|&count| count >= 10), "{wanted} is rare");
+    }
+}
+
+#[test]
+fn the_checker_accepts_every_proof() {
+    let mut proofs = 0;
+    for seed in 0..SHEETS {
+        let (family, sheet) = sheet(seed);
+        let (outcome, _, text) = answer(&sheet, budget(seed), 65_535);
+        match outcome {
+            Outcome::Proved => {
+                proofs += 1;
+                assert_eq!(check(&sheet, &text), Verdict::Valid, "seed {seed}, {family:?}");
+                if let Some(judge) = Judge::new(&sheet) {
+                    assert_eq!(judge.judge(&text), 0, "seed {seed}, {family:?}");
+                }
+            }
+            Outcome::No | Outcome::Spent => assert_eq!(check(&sheet, &text), Verdict::Invalid(1)),
+            Outcome::Refused(Refusal { number: 12, .. }) => {}
+            Outcome::Refused(refusal) => assert_eq!(check(&sheet, b"R\tproved\t1\n"), Verdict::Refused(refusal)),
+        }
+    }
+    println!("{proofs} proofs");
+}
+
+/// The answer to proved and no needs its units and no more: below them spent, from them on the same answer.
+#[test]
+fn budgets_are_monotone() {
+    for seed in 0..SHEETS {
+        let (family, sheet) = sheet(seed);
+        let budget = budget(seed);
+        let first = answer(&sheet, budget, 65_535);
+        match first.0 {
+            Outcome::Proved | Outcome::No => {
+                let needed = first.1;
+                assert!((1..=budget).contains(&needed));
+                for larger in [needed, needed + 1, 2 * needed, 50_000] {
+                    if larger <= 50_000 {
+                        assert_eq!(
+                            answer(&sheet, larger, 65_535),
+                            first,
+                            "seed {seed}, {family:?}, budget {larger}"
+                        );
+                    }
+                }
+                for smaller in [1, needed / 2, needed - 1] {
+                    if (1..needed).contains(&smaller) {
+                        let text = format!("R\tspent\t{smaller}\n").into_bytes();
+                        assert_eq!(
+                            answer(&sheet, smaller, 65_535),
+                            (Outcome::Spent, smaller, text),
+                            "seed {seed}, {family:?}"
+                        );
+                    }
+                }
+                let length = first.2.len();
+                assert_eq!(answer(&sheet, budget, length), first);
+                assert_eq!(answer(&sheet, budget, length - 1).0, common::refused(12, 0));
+            }
+            Outcome::Spent => {
+                for smaller in [1, budget / 2, budget - 1] {
+                    assert_eq!(
+                        answer(&sheet, smaller, 65_535).0,
+                        Outcome::Spent,
+                        "seed {seed}, {family:?}"
+                    );
+                }
+            }
+            Outcome::Refused(_) => {
+                for other in [1, 10, 50_000] {
+                    let again = answer(&sheet, other, 65_535).0;
+                    // 12 alone depends on the budget: below the units it needs the walk is spent.
+                    let spent = first.0 == common::refused(12, 0) && again == Outcome::Spent && other < budget;
+                    assert!(again == first.0 || spent, "seed {seed}, {family:?}");
+                }
+            }
+        }
+    }
+}
+
+fn dirty(random: &mut Random, numbers: usize) -> Vec<u32> {
+    (0..numbers).map(|_| random.bits() as u32).collect()
+}
+
+#[test]
+fn buffers_end_as_promised() {
+    for seed in 0..3_000 {
+        let (family, sheet) = sheet(seed);
+        let mut random = Random::new(!seed);
+        let budget = 1 + random.below(400) as u32;
+        let demanded = 64 * budget as usize;
+        let mut table = dirty(&mut random, 8_192);
+        table.resize(8_192 + seed as usize % 50, 7);
+        let mut work = dirty(&mut random, demanded);
+        work.resize(demanded + seed as usize % 90, 9);
+        let mut bytes: Vec<u8> = (0..random.below(700)).map(|_| random.bits() as u8).collect();
+        let (old_table, old_work, old_bytes) = (table.clone(), work.clone(), bytes.clone());
+
+        let run = engine_run(&sheet, budget, &mut table, &mut work, &mut bytes);
+        let (outcome, units, text) = answer(&sheet, budget, bytes.len());
+        assert_eq!(
+            (run.outcome, run.units, run.length as usize),
+            (outcome, units, text.len()),
+            "seed {seed}, {family:?}"
+        );
+        assert!(table[..8_192]
+            .iter()
+            .chain(&work[..demanded])
+            .all(|&number| number == 0));
+        assert_eq!(table[8_192..], old_table[8_192..]);
+        assert_eq!(work[demanded..], old_work[demanded..]);
+        assert_eq!(bytes[..text.len()], text);
+        assert_eq!(bytes[text.len()..], old_bytes[text.len()..]);
+
+        let demanded = 64 * text.iter().filter(|&&byte| byte == b'\n').count();
+        let (mut table, mut work) = (old_table.clone(), dirty(&mut random, demanded));
+        work.resize(demanded + 5, 9);
+        let verdict = check_text(&sheet, &text, &mut table, &mut work);
+        assert_eq!(verdict, check(&sheet, &text));
+        assert!(table[..8_192]
+            .iter()
+            .chain(&work[..demanded])
+            .all(|&number| number == 0));
+        assert_eq!(table[8_192..], old_table[8_192..]);
+        assert_eq!(work[demanded..], [9; 5]);
+    }
+}
+
+/// Damaged proofs: the checker and the judge by substitution say the same, line for line.
+#[test]
+fn damaged_texts() {
+    let (mut texts, mut accepted, mut unjudged) = (0, 0, 0);
+    for seed in 0..SHEETS {
+        let (family, sheet) = sheet(seed);
+        let (Outcome::Proved, _, text) = answer(&sheet, budget(seed), 65_535) else {
+            continue;
+        };
+        let judge = Judge::new(&sheet);
+        let mut random = Random::new(seed ^ 0x5EED);
+        for _ in 0..12 {
+            let mut changed = damaged(&text, &mut random);
+            for _ in 0..random.below(3) {
+                changed = damaged(&changed, &mut random);
+            }
+            texts += 1;
+            let lines = changed.split_inclusive(|&byte| byte == b'\n').count() as u32;
+            let line = match check(&sheet, &changed) {
+                Verdict::Valid => {
+                    accepted += 1;
+                    0
+                }
+                Verdict::Invalid(line) => {
+                    assert!((1..=lines + 1).contains(&line), "seed {seed}, {family:?}");
+                    line
+                }
+                // Lines put in twice can make a text longer than 65,535 bytes.
+                Verdict::Refused(refusal) => {
+                    assert!(refusal.number == 4 && changed.len() > 65_535);
+                    continue;
+                }
+            };
+            match &judge {
+                Some(judge) => assert_eq!(
+                    line,
+                    judge.judge(&changed),
+                    "seed {seed}, {family:?}\n{}\n{}",
+                    String::from_utf8_lossy(&sheet),
+                    String::from_utf8_lossy(&changed)
+                ),
+                // Without the judge only a change of the units is known to keep a text valid.
+                None => {
+                    let after_first = |text: &[u8]| text.splitn(2, |&byte| byte == b'\n').nth(1).map(<[u8]>::to_vec);
+                    assert!(
+                        line > 0 || after_first(&changed) == after_first(&text),
+                        "seed {seed}, {family:?}"
+                    );
+                    unjudged += 1;
+                }
+            }
+        }
+    }
+    println!("{texts} damaged texts, {accepted} accepted, {unjudged} not judged by substitution");
+    assert!(accepted > 0);
+}
