@@ -13,8 +13,8 @@ use Rattle.terms.proofs.Lists.{all-append, all-weaken, update-all}
 use Rattle.terms.proofs.Terms.{leavesAll-weaken, leavesAll-any, leavesAll-substitutes}
 use Rattle.formulas.specs.Formulas.{Goal, atom, truth, and, or, implies, exists, forall, Clause}
 use Rattle.sequents.specs.Sequents.{Environment, Program, Entry, entries, Sequent, sequent, assign, bodySequent, Line}
-use Rattle.sequents.specs.Derivations.{sheetProgram, instanceOf}
-use Rattle.sequents.proofs.Sequents.{assign-all, entries-all}
+use Rattle.sequents.specs.Derivations.{instanceOf}
+use Rattle.sequents.proofs.Sequents.{assign-all, entries-all, sheet-all}
 use Rattle.unification.specs.Store.{Leaf, var, con, Store, past, fresh, freshVariables}
 use Rattle.unification.specs.Matching.{Pair, Matching, pairs, check, fail, pushPairs, comparing, matchStep, matchSteps}
 use Rattle.unification.specs.Promises.{Below, Formed}
@@ -207,14 +207,9 @@ startEnvironment-below v = go (ltb v 8) refl
     go true e = ltb-true v 8 e
     go false e = tt
 
-sheet-below : (cs : List Clause) → ProgramBelow 8 (sheetProgram cs startEnvironment)
-unfolding sheetProgram
-sheet-below [] = tt
-sheet-below (c ∷ cs) = (startEnvironment-below, sheet-below cs)
-
 pub start-invariant : (cs : List Clause) (g : Goal) → All Invariant (start cs g)
 unfolding start startGoal startStore instanceOf Invariant
-start-invariant cs g = (record { formed = empty-formed (λ x. 0) 8; extra = ((startEnvironment-below, sheet-below cs), tt) }, tt)
+start-invariant cs g = (record { formed = empty-formed (λ x. 0) 8; extra = ((startEnvironment-below, sheet-all (EnvironmentBelow 8) cs startEnvironment startEnvironment-below), tt) }, tt)
 
 pub after-invariant : (cs : List Clause) (g : Goal) (n : ℕ) → All Invariant (after cs g n)
 after-invariant cs g n = after-all cs g (λ u. Invariant) (start-invariant cs g) step-keeps (λ u c h. h) n

@@ -5,4 +5,5 @@ pub mod After
 pub mod Invariant
 pub mod Values
 pub mod Sound
+pub mod Complete
 pub mod Promises

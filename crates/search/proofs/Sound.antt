@@ -4,21 +4,19 @@ use Prim.Native.Nat.{ℕ, suc, _≤_, _<_}
 use mathlib.Core.Path.{_≡_, refl, sym, _∙_, ap, subst, subst₂, fun-ext}
 use mathlib.Core.Bool.{Bool, true, false, cond}
 use mathlib.Core.List.{List, [], _∷_, _++_, map, reverse, reverse-cons}
-use mathlib.Core.Option.{Option}
 use mathlib.Core.Logic.{inl, inr}
 use native.Mathlib.Omega.{arith}
 use lib.Dec.{eqb, ltb}
 use borrow.Author.Tests.{eqb-true, ltb-true}
-use Rattle.terms.specs.Lists.{All, here, there, place, update}
-use Rattle.terms.specs.Terms.{Term, leaf, app, nil, Terms, substitute, substitutes, levelBy}
-use Rattle.terms.proofs.Lists.{all-append, map-append, map-map}
+use Rattle.terms.specs.Lists.{All, here, there, place}
+use Rattle.terms.specs.Terms.{leaf, app, nil, Terms, substitute, substitutes, levelBy}
+use Rattle.terms.proofs.Lists.{all-append, map-append}
 use Rattle.terms.proofs.Terms.{substitutes-substitutes}
 use Rattle.formulas.specs.Formulas.{Goal, atom, truth, and, or, implies, exists, forall, Clause}
 use Rattle.sequents.specs.Symbols.{Symbol, leftover, symbolLevel, Ground, level}
-use Rattle.sequents.specs.Sequents.{Environment, Program, hypothesis, Entry, entries, Sequent, sequent, assign, bodySequent, Dtrue, Dand, Dleft, Dright, Dassume, Line, plain, Dsome, Dall, Dclause, putTerms, putEnvironment, putHypothesis, putProgram, putEntry, putSequent, putLine}
-use Rattle.sequents.specs.Derivations.{sheetProgram, instanceOf}
+use Rattle.sequents.specs.Sequents.{Environment, Program, Entry, entries, Sequent, sequent, assign, Dtrue, Dand, Dleft, Dright, Dassume, Line, plain, Dsome, Dall, Dclause, putTerms, putEnvironment, putProgram, putEntry, putSequent, putLine}
 use Rattle.sequents.specs.Lines.{Uses, Infers, Leads, Derives}
-use Rattle.sequents.proofs.Sequents.{entries-put, update-put, assign-put, body-put}
+use Rattle.sequents.proofs.Sequents.{entries-put, assign-put, instance-put}
 use Rattle.sequents.proofs.Lines.{leads-append}
 use Rattle.unification.specs.Store.{Leaf, var, con, Store, fresh, freshVariables, at, solution}
 use Rattle.unification.specs.Matching.{Matching, pairs, check, fail, matchStep}
@@ -33,30 +31,15 @@ use Rattle.search.specs.Answers.{symbolOf, final, finalEnvironment, fina
 use Rattle.search.specs.Promises.{Sound}
 use Rattle.search.proofs.After.{proved-all}
 use Rattle.search.proofs.Invariant.{Invariant, start-invariant, step-keeps}
-use Rattle.search.proofs.Values.{symbols, Valuation, valued, Solution, freshVariables-length, fresh-solution}
+use Rattle.search.proofs.Values.{symbols, Valuation, valued, Solution, goalsAt, body-goals, update-goals, freshVariables-length, fresh-solution}
 
--- The goals and the lines with their values, the lines in the order taken.
-abbrev pub goalsAt : Valuation → List (Sequent Leaf) → List (Sequent Symbol)
-goalsAt σ gs = map (putSequent (valued σ)) gs
-
+-- The lines with their values, in the order taken.
 abbrev pub linesAt : Valuation → List (Line Leaf) → List (Line Symbol)
 linesAt σ path = map (putLine (valued σ)) (reverse path)
 
 -- the latest line is the last
 linesAt-cons : (σ : Valuation) (x : Line Leaf) (path : List (Line Leaf)) → linesAt σ (x ∷ path) ≡ linesAt σ path ++ (putLine (valued σ) x ∷ [])
 linesAt-cons σ x path = ap (map (putLine (valued σ))) (reverse-cons x path) ∙ map-append (putLine (valued σ)) (reverse path) (x ∷ [])
-
--- the goals that a member's body puts in front of others
-body-goals : (σ : Valuation) (o : Option Goal) (e : Environment Leaf) (f : Environment Symbol) (P : Program Leaf) (i : ℕ) (gs : List (Sequent Leaf))
-    → putEnvironment (valued σ) e ≡ f → bodySequent o f (putProgram (valued σ) P) i ++ goalsAt σ gs ≡ goalsAt σ (bodySequent o e P i ++ gs)
-body-goals σ o e f P i gs q =
-    ap (λ (h : Environment Symbol). bodySequent o h (putProgram (valued σ) P) i ++ goalsAt σ gs) (sym q) ∙ ap (_++ goalsAt σ gs) (sym (body-put (valued σ) o e P i))
-    ∙ sym (map-append (putSequent (valued σ)) (bodySequent o e P i) gs)
-
--- the goal under a quantifier, in front of others
-update-goals : (σ : Valuation) (g : Goal) (e : Environment Leaf) (v : ℕ) (t : Term Leaf) (P : Program Leaf) (i : ℕ) (gs : List (Sequent Leaf))
-    → sequent g (update (putEnvironment (valued σ) e) v (substitute t (valued σ))) (putProgram (valued σ) P) i ∷ goalsAt σ gs ≡ goalsAt σ (sequent g (update e v t) P i ∷ gs)
-update-goals σ g e v t P i gs = ap (λ (f : Environment Symbol). sequent g f (putProgram (valued σ) P) i ∷ goalsAt σ gs) (sym (update-put (valued σ) e v t))
 
 -- From the store s₀ and the sequent g₀ of the start.
 module _ (s₀ : Store) (g₀ : Sequent Leaf) where
@@ -218,11 +201,6 @@ final-solves : (s : Store) → Formed s → Solution (finalValues s) s
 unfolding leftovers symbols levelBy symbolLevel
 final-solves s f = general-solves symbols s (leftovers s) f (λ z l u. omega arith)
 
--- the start goal with final values is the instance that the answer states
-final-instance : (s : Store) (cs : List Clause) (g : Goal) → putSequent (final s) (startGoal cs g) ≡ instanceOf cs g (finalEnvironment s)
-unfolding startGoal instanceOf sheetProgram finalEnvironment
-final-instance s cs g = ap (λ (P : Program Symbol). sequent g (finalEnvironment s) P 0) (map-map (λ c. hypothesis c startEnvironment) (putHypothesis (final s)) cs)
-
 -- names that are no variable of the start stand for a constant of the sheet
 final-level0 : (s : Store) → ((x : ℕ) → x < 8 → level (final s (var x)) ≤ 0) → (v : ℕ) → level (finalEnvironment s v) ≤ 0
 unfolding finalEnvironment startEnvironment substitute level levelBy
@@ -233,13 +211,13 @@ final-level0 s h v = go (ltb v 8) refl
     go false e = omega arith
 
 pub sound : (cs : List Clause) (g : Goal) (budget n : ℕ) (s : Store) (path : List (Line Leaf)) → search budget cs g ≡ ends (proved s path) n → Sound cs g s path
-unfolding Invariant startStore finalLines level symbols value
+unfolding Invariant startStore startGoal finalLines finalEnvironment level symbols value
 sound cs g budget n s path e =
     let formed : Formed s = proved-all cs g Invariant (start-invariant cs g) step-keeps budget n s path e in
     let r : Reaches startStore (startGoal cs g) (finalValues s) (linesAt (finalValues s) path) [] =
     proved-all cs g (SoundConfiguration startStore (startGoal cs g)) (start-sound cs g) (step-sound startStore (startGoal cs g)) budget n s path e (finalValues s) (final-solves s formed) in
     record {
       level0 = final-level0 s (λ x l. subst (λ (θ : Leaf → Ground). level (θ (var x)) ≤ 0) (final-valued s) (r .first .levels x l));
-      derives = subst (λ (q : Sequent Symbol). Derives (finalLines s path) (q ∷ [])) (final-instance s cs g)
+      derives = subst (λ (q : Sequent Symbol). Derives (finalLines s path) (q ∷ [])) (instance-put (final s) cs g startEnvironment)
           (subst (λ (θ : Leaf → Ground). Derives (map (putLine θ) (reverse path)) (putSequent θ (startGoal cs g) ∷ [])) (final-valued s) (r .leads));
     }

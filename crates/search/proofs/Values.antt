@@ -1,18 +1,22 @@
--- Valuations of the search's variables by terms of derivations: where two agree, and what they give fresh variables.
+-- Valuations of the search's variables by terms of derivations: goals with their values, valuations that agree, and the values
+-- of fresh variables.
 use Prim.Native.Nat.{ℕ, suc, _≤_, _<_}
 use mathlib.Core.Path.{_≡_, refl, sym, _∙_, ap, ap₂, subst, fun-ext}
 use mathlib.Core.Bool.{Bool, true, false, cond}
-use mathlib.Core.List.{List, [], _∷_, map}
+use mathlib.Core.List.{List, [], _∷_, _++_, map}
+use mathlib.Core.Option.{Option}
 use native.Mathlib.Omega.{arith}
 use lib.Dec.{eqb}
 use lib.ListN.{length}
 use borrow.Author.Tests.{eqb-false}
 use Rattle.terms.specs.Lists.{All, update}
 use Rattle.terms.specs.Terms.{Term, Terms, substitute, substitutes, Leaves, LeavesAll}
-use Rattle.terms.proofs.Lists.{update-same, update-other}
+use Rattle.terms.proofs.Lists.{map-append, update-same, update-other}
 use Rattle.terms.proofs.Terms.{substitute-where, substitutes-where}
+use Rattle.formulas.specs.Formulas.{Goal}
 use Rattle.sequents.specs.Symbols.{Symbol, made, symbolLevel, Ground, level}
-use Rattle.sequents.specs.Sequents.{Environment, Program, hypothesis, Sequent, sequent, putTerms, putEnvironment, putProgram, putSequent}
+use Rattle.sequents.specs.Sequents.{Environment, Program, hypothesis, Sequent, sequent, bodySequent, putTerms, putEnvironment, putProgram, putSequent}
+use Rattle.sequents.proofs.Sequents.{update-put, body-put}
 use Rattle.unification.specs.Store.{Leaf, var, con, Binding, Store, fresh, freshLevels, past, freshVariables}
 use Rattle.unification.specs.Promises.{Below, BelowBinding, Formed}
 use Rattle.unification.proofs.Stores.{fresh-formed}
@@ -34,6 +38,23 @@ valued σ = value symbols σ
 -- The valuation solves the store.
 abbrev pub Solution : Valuation → Store → Type 0
 Solution σ s = Solves symbols σ s
+
+-- goals with their values
+
+abbrev pub goalsAt : Valuation → List (Sequent Leaf) → List (Sequent Symbol)
+goalsAt σ gs = map (putSequent (valued σ)) gs
+
+-- the goals that a member's body puts in front of others
+pub body-goals : (σ : Valuation) (o : Option Goal) (e : Environment Leaf) (f : Environment Symbol) (P : Program Leaf) (i : ℕ) (gs : List (Sequent Leaf))
+    → putEnvironment (valued σ) e ≡ f → bodySequent o f (putProgram (valued σ) P) i ++ goalsAt σ gs ≡ goalsAt σ (bodySequent o e P i ++ gs)
+body-goals σ o e f P i gs q =
+    ap (λ (h : Environment Symbol). bodySequent o h (putProgram (valued σ) P) i ++ goalsAt σ gs) (sym q) ∙ ap (_++ goalsAt σ gs) (sym (body-put (valued σ) o e P i))
+    ∙ sym (map-append (putSequent (valued σ)) (bodySequent o e P i) gs)
+
+-- the goal under a quantifier, in front of others
+pub update-goals : (σ : Valuation) (g : Goal) (e : Environment Leaf) (v : ℕ) (t : Term Leaf) (P : Program Leaf) (i : ℕ) (gs : List (Sequent Leaf))
+    → sequent g (update (putEnvironment (valued σ) e) v (substitute t (valued σ))) (putProgram (valued σ) P) i ∷ goalsAt σ gs ≡ goalsAt σ (sequent g (update e v t) P i ∷ gs)
+update-goals σ g e v t P i gs = ap (λ (f : Environment Symbol). sequent g f (putProgram (valued σ) P) i ∷ goalsAt σ gs) (sym (update-put (valued σ) e v t))
 
 -- valuations that agree below n
 
@@ -58,7 +79,7 @@ pub program-agree : (P : Program Leaf) (n : ℕ) (σ τ : Valuation) → Program
 program-agree [] n σ τ b h = refl
 program-agree (x ∷ P) n σ τ b h = ap₂ _∷_ (ap (hypothesis (x .clause)) (environment-agree (x .environment) n σ τ (b .0) h)) (program-agree P n σ τ (b .1) h)
 
-pub goals-agree : (gs : List (Sequent Leaf)) (n : ℕ) (σ τ : Valuation) → GoalsBelow gs n → Agree n σ τ → map (putSequent (valued σ)) gs ≡ map (putSequent (valued τ)) gs
+pub goals-agree : (gs : List (Sequent Leaf)) (n : ℕ) (σ τ : Valuation) → GoalsBelow gs n → Agree n σ τ → goalsAt σ gs ≡ goalsAt τ gs
 goals-agree [] n σ τ b h = refl
 goals-agree (g ∷ gs) n σ τ b h =
     ap₂ _∷_ (ap₂ (λ (e : Environment Symbol) (P : Program Symbol). sequent (g .goal) e P (g .level))

@@ -1,11 +1,12 @@
 -- Promises T2, T4, T5 and T7 about the search (demands 2 and 3), and that every match in it is one of T3's.
 use Prim.Native.Nat.{ℕ, _≤_, _<_}
 use mathlib.Core.Path.{_≡_}
+use mathlib.Core.Bool.{true}
 use mathlib.Core.List.{List, [], _∷_, map}
 use mathlib.Core.Logic.{_↔_}
 use Rattle.terms.specs.Lists.{All}
 use Rattle.terms.specs.Terms.{Term, leaf, substitutes}
-use Rattle.formulas.specs.Formulas.{Goal, Clause}
+use Rattle.formulas.specs.Formulas.{Goal, Clause, freeG}
 use Rattle.sequents.specs.Symbols.{Symbol, level}
 use Rattle.sequents.specs.Sequents.{Environment, Sequent, Line}
 use Rattle.sequents.specs.Derivations.{instanceOf, InstanceDerivation}
@@ -74,10 +75,14 @@ pub record Sound (cs : List Clause) (g : Goal) (s : Store) (path : List (Line Le
 abbrev pub Soundness : Type 0
 Soundness = (cs : List Clause) (g : Goal) (budget n : ℕ) (s : Store) (path : List (Line Leaf)) → search budget cs g ≡ ends (proved s path) n → Sound cs g s path
 
+-- The goal's free variables are names of a sheet, 0 to 7: the names to which the start gives a variable.
+abbrev pub SheetNames : Goal → Type 0
+SheetNames g = (v : ℕ) → freeG g v ≡ true → v < 8
+
 -- T7, demand 3: "whoever holds a sequent derivation of some instance of the goal, its free variables replaced by terms of level
 -- 0, is never told no".
 abbrev pub Completeness : Type 0
-Completeness = (cs : List Clause) (g : Goal) (e : Environment Symbol) → All Closed cs → InstanceDerivation cs g e
+Completeness = (cs : List Clause) (g : Goal) (e : Environment Symbol) → All Closed cs → SheetNames g → InstanceDerivation cs g e
     → (budget n : ℕ) → search budget cs g ≡ ends noProof n → ⊥
 
 -- T2

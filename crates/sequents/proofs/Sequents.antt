@@ -7,9 +7,10 @@ use Rattle.terms.specs.Lists.{All, update}
 use Rattle.terms.specs.Terms.{Term, Terms, substitute, substitutes}
 use Rattle.terms.proofs.Lists.{map-append, map-map, update-map, update-all, all-append}
 use Rattle.terms.proofs.Terms.{substitutes-substitutes}
-use Rattle.formulas.specs.Formulas.{Goal}
+use Rattle.formulas.specs.Formulas.{Goal, Clause}
 use Rattle.formulas.specs.Members.{Member, members}
-use Rattle.sequents.specs.Sequents.{Environment, Program, entry, entries, assign, bodySequent, putTerms, putEnvironment, putProgram, putEntry, putSequent}
+use Rattle.sequents.specs.Sequents.{Environment, Program, hypothesis, entry, entries, sequent, assign, bodySequent, putTerms, putEnvironment, putHypothesis, putProgram, putEntry, putSequent}
+use Rattle.sequents.specs.Derivations.{sheetProgram, instanceOf}
 
 -- the members of a program
 pub entries-put : {A B : Type 0} (θ : A → Term B) (P : Program A) → entries (putProgram θ P) ≡ map (putEntry θ) (entries P)
@@ -59,3 +60,15 @@ entries-all Q (h ∷ P) k =
     each : (ms : List Member) → All (λ m. Q (m .environment)) (map (entry (h .environment)) ms)
     each [] = tt
     each (m ∷ ms) = (k .0, each ms)
+
+-- instances of a goal
+
+pub instance-put : {A B : Type 0} (θ : A → Term B) (cs : List Clause) (g : Goal) (e : Environment A) → putSequent θ (instanceOf cs g e) ≡ instanceOf cs g (putEnvironment θ e)
+unfolding instanceOf sheetProgram
+instance-put θ cs g e = ap (λ P. sequent g (putEnvironment θ e) P 0) (map-map (λ c. hypothesis c e) (putHypothesis θ) cs)
+
+-- a property of the environment of a sheet's clauses
+pub sheet-all : {A : Type 0} (Q : Environment A → Type 0) (cs : List Clause) (e : Environment A) → Q e → All (λ h. Q (h .environment)) (sheetProgram cs e)
+unfolding sheetProgram
+sheet-all Q [] e h = tt
+sheet-all Q (c ∷ cs) e h = (h, sheet-all Q cs e h)

@@ -95,3 +95,19 @@ update-agree e f v a w h = go (eqb w v) refl
     go : (b : Bool) → eqb w v ≡ b → cond b a (e w) ≡ cond b a (f w)
     go true q = refl
     go false q = h (ne-eqb v w (λ p. eqb-false w v q (sym p)))
+
+-- Any
+
+-- P holds of some element.
+abbrev pub Any : {A : Type 0} → (A → Type 0) → List A → Type 0
+Any P [] = ⊥
+Any P (a ∷ l) = P a ⊎ Any P l
+
+pub any-left : {A : Type 0} (P : A → Type 0) (x y : List A) → Any P x → Any P (x ++ y)
+any-left P [] y h = absurd h
+any-left P (a ∷ x) y (inl h) = inl h
+any-left P (a ∷ x) y (inr h) = inr (any-left P x y h)
+
+pub any-right : {A : Type 0} (P : A → Type 0) (x y : List A) → Any P y → Any P (x ++ y)
+any-right P [] y h = h
+any-right P (a ∷ x) y h = inr (any-right P x y h)

@@ -37,8 +37,8 @@ module _ {B : Type 0} (D : Domain B) (σ : ℕ → Term B) where
   Parts fail = Unit {0}
 
   -- σ solves the matching, and the nodes of its range check are parts.
-  abbrev pub Fits : Matching → Type 0
-  Fits m = SolvesMatching D σ m × Parts m
+  abbrev pub Keeps : Matching → Type 0
+  Keeps m = SolvesMatching D σ m × Parts m
 
   -- A level may be lowered to a bound that σ keeps.
   pub lower-complete : (s : Store) (z k : ℕ) → Solves D σ s → levelBy (σ z) (D .level) ≤ k → z < s .next → Solves D σ (lower s z k)
@@ -51,7 +51,7 @@ module _ {B : Type 0} (D : Domain B) (σ : ℕ → Term B) where
 
   -- After a node: the next one, or the binding.
   onNode-complete : (s : Store) (y : ℕ) (t : Term Leaf) (ns : List (Term Leaf)) (ps : List Pair)
-      → Solves D σ s → σ y ≡ substitute t (value D σ) → All (Equal D σ) ps → All (Part y t) ns → Fits (onNode s y t ns ps)
+      → Solves D σ s → σ y ≡ substitute t (value D σ) → All (Equal D σ) ps → All (Part y t) ns → Keeps (onNode s y t ns ps)
   unfolding onNode SolvesMatching Parts bind
   onNode-complete s y t [] ps v e h p = ((record { equations = (e, v .equations); levels = v .levels }, h), tt)
   onNode-complete s y t (n ∷ ns) ps v e h p = ((v, e, h), p)
@@ -67,45 +67,45 @@ module _ {B : Type 0} (D : Domain B) (σ : ℕ → Term B) where
   visit-complete : (s : Store) (y : ℕ) (t u : Term Leaf) (ns : List (Term Leaf)) (ps : List Pair)
       → Solves D σ s → σ y ≡ substitute t (value D σ) → All (Equal D σ) ps → y < s .next → Leaves u (Below (s .next)) → (u ≡ leaf (var y) → ⊥)
       → levelBy (substitute u (value D σ)) (D .level) ≤ levelBy (σ y) (D .level) → size (substitute u (value D σ)) ≤ size (σ y)
-      → All (Part y t) ns → Fits (visit s y t u ns ps)
+      → All (Part y t) ns → Keeps (visit s y t u ns ps)
   unfolding visit substitute value levelBy size Leaves Below
   visit-complete s y t (leaf (var z)) ns ps v e h ly bu d hl hs p = go (eqb z y) refl
     where
-      go : (c : Bool) → eqb z y ≡ c → Fits (cond c fail (onNode (lower s z (s .level y)) y t ns ps))
+      go : (c : Bool) → eqb z y ≡ c → Keeps (cond c fail (onNode (lower s z (s .level y)) y t ns ps))
       go true q = absurd (d (ap (λ x. leaf (var x)) (eqb-true z y q)))
       go false q = onNode-complete (lower s z (s .level y)) y t ns ps (lower-complete s z (s .level y) v (let r = v .levels y ly in omega arith) bu) e h p
   visit-complete s y t (leaf (con c j)) ns ps v e h ly bu d hl hs p = go (leb j (s .level y)) refl
     where
-      go : (b : Bool) → leb j (s .level y) ≡ b → Fits (cond b (onNode s y t ns ps) fail)
+      go : (b : Bool) → leb j (s .level y) ≡ b → Keeps (cond b (onNode s y t ns ps) fail)
       go true q = onNode-complete s y t ns ps v e h p
       go false q = absurd (let r = v .levels y ly in let w = leb-false j (s .level y) q in let k = D .level-constant c j in omega arith)
   visit-complete s y t (app f ts) ns ps v e h ly bu d hl hs p = onNode-complete s y t (pushTerms ts ns) ps v e h (pushTerms-parts ts ns y t hl hs p)
 
   -- The argument pairs of two lists of terms.
   pub comparing-complete : (s : Store) (ts us : Terms Leaf) (ps : List Pair) → Solves D σ s → substitutes ts (value D σ) ≡ substitutes us (value D σ) → All (Equal D σ) ps
-      → Fits (comparing s (pushPairs ts us ps))
+      → Keeps (comparing s (pushPairs ts us ps))
   unfolding pushPairs comparing SolvesMatching Parts substitute
   comparing-complete s nil nil ps v e h = ((v, h), tt)
   comparing-complete s nil (cons u us) ps v e h = absurd (nil-not-cons (substitute u (value D σ)) (substitutes us (value D σ)) e)
   comparing-complete s (cons t ts) nil ps v e h = absurd (nil-not-cons (substitute t (value D σ)) (substitutes ts (value D σ)) (sym e))
   comparing-complete s (cons t ts) (cons u us) ps v e h = go (pushPairs ts us ps) (comparing-complete s ts us ps v (cc) h)
     where
-      go : (q : Option (List Pair)) → Fits (comparing s q) → Fits (comparing s (Option·map (λ qs. record { goal = t; clause = u } ∷ qs) q))
+      go : (q : Option (List Pair)) → Keeps (comparing s q) → Keeps (comparing s (Option·map (λ qs. record { goal = t; clause = u } ∷ qs) q))
       go none i = absurd (i .0)
       go (some qs) i = ((v, ((cc), i .0 .1)), tt)
 
   -- A range check begins.
-  check-complete : (s : Store) (y : ℕ) (t : Term Leaf) (ps : List Pair) → Solves D σ s → σ y ≡ substitute t (value D σ) → All (Equal D σ) ps → Fits (check s y t t [] ps)
+  check-complete : (s : Store) (y : ℕ) (t : Term Leaf) (ps : List Pair) → Solves D σ s → σ y ≡ substitute t (value D σ) → All (Equal D σ) ps → Keeps (check s y t t [] ps)
   unfolding SolvesMatching Parts
   check-complete s y t ps v e h = ((v, e, h), (record { level = rw e (omega arith); small = inl refl }, tt))
 
   -- One pair, t and u being its sides as looked through.
   compareTerms-complete : (s : Store) (t u : Term Leaf) (ps : List Pair) → Solves D σ s → substitute t (value D σ) ≡ substitute u (value D σ) → All (Equal D σ) ps
-      → Fits (compareTerms s t u ps)
+      → Keeps (compareTerms s t u ps)
   unfolding compareTerms SolvesMatching Parts substitute value
   compareTerms-complete s (leaf (var x)) (leaf (var y)) ps v e h = go (eqb x y)
     where
-      go : (c : Bool) → Fits (cond c (pairs s ps) (check s x (leaf (var y)) (leaf (var y)) [] ps))
+      go : (c : Bool) → Keeps (cond c (pairs s ps) (check s x (leaf (var y)) (leaf (var y)) [] ps))
       go true = ((v, h), tt)
       go false = check-complete s x (leaf (var y)) ps v e h
   compareTerms-complete s (leaf (var x)) (leaf (con d j)) ps v e h = check-complete s x (leaf (con d j)) ps v e h
@@ -138,7 +138,7 @@ module _ {B : Type 0} (D : Domain B) (σ : ℕ → Term B) where
   part-size y t n e (inr l) = omega arith
 
   -- One act.
-  pub matchStep-complete : (R : ℕ → Type 0) (m : Matching) → Running R m → Fits m → Fits (matchStep m)
+  pub matchStep-complete : (R : ℕ → Type 0) (m : Matching) → Running R m → Keeps m → Keeps (matchStep m)
   unfolding matchStep SolvesMatching Parts Running
   matchStep-complete R (pairs s []) r k = k
   matchStep-complete R (pairs s (p ∷ ps)) r k =
@@ -154,7 +154,7 @@ module _ {B : Type 0} (D : Domain B) (σ : ℕ → Term B) where
   matchStep-complete R fail r k = absurd (k .0)
 
   -- Any number of acts.
-  pub matchSteps-complete : (R : ℕ → Type 0) (n : ℕ) (m : Matching) → Running R m → Fits m → Fits (matchSteps n m)
+  pub matchSteps-complete : (R : ℕ → Type 0) (n : ℕ) (m : Matching) → Running R m → Keeps m → Keeps (matchSteps n m)
   unfolding matchSteps
   matchSteps-complete R zero m r k = k
   matchSteps-complete R (suc n) m r k = matchStep-complete R (matchSteps n m) (matchSteps-running R n m r) (matchSteps-complete R n m r k)

@@ -1,73 +1,19 @@
--- Fresh variables: the store stays formed, and its solutions are those before, extended to the fresh variables.
+-- Fresh variables: the solutions of the store are those before, extended to the fresh variables.
 use Prim.Native.Nat.{ℕ, suc, _≤_, _<_}
 use mathlib.Core.Path.{_≡_, refl, sym, _∙_, ap₂}
 use mathlib.Core.Bool.{Bool, true, false, cond}
 use mathlib.Core.List.{List, [], _∷_, map}
 use native.Mathlib.Omega.{arith}
-use lib.Dec.{eqb, ltb}
+use lib.Dec.{eqb}
 use lib.ListN.{length}
-use borrow.Author.Tests.{eqb-false, ltb-true, ltb-false}
+use borrow.Author.Tests.{eqb-false}
 use Rattle.terms.specs.Lists.{All, update}
-use Rattle.terms.specs.Terms.{Term, substitute, levelBy, Leaves, Appears}
-use Rattle.terms.proofs.Lists.{update-same, update-other, all-weaken}
-use Rattle.terms.proofs.Terms.{leaves-weaken}
-use Rattle.unification.specs.Store.{Leaf, var, con, Binding, Store, freshLevels, past, fresh, freshVariables, solution}
-use Rattle.unification.specs.Promises.{Below, BelowBinding, Formed}
-use Rattle.unification.proofs.Substitution.{con-not-var}
-use Rattle.unification.proofs.Formed.{solution-beyond}
+use Rattle.terms.specs.Terms.{Term, substitute, levelBy, Leaves}
+use Rattle.terms.proofs.Lists.{update-same, update-other}
+use Rattle.unification.specs.Store.{Leaf, Store, freshLevels, past, fresh, freshVariables}
+use Rattle.unification.specs.Promises.{Below, Formed}
+use Rattle.unification.proofs.Stores.{fresh-formed}
 use Rattle.unification.proofs.Valuation.{Domain, value, value-below, Solves, equations-below}
-
--- What is below n is below m, if m is not less.
-pub below-more : (t : Term Leaf) (n m : ℕ) → n ≤ m → Leaves t (Below n) → Leaves t (Below m)
-unfolding Below
-below-more t n m l h = leaves-weaken t (Below n) (Below m) go h
-  where
-    go : (a : Leaf) → Below n a → Below m a
-    go (var x) b = omega arith
-    go (con c k) b = tt
-
--- The number after the fresh variables is no smaller.
-pub past-le : (vs : List ℕ) (n : ℕ) → n ≤ past vs n
-unfolding past
-past-le [] n = omega arith
-past-le (v ∷ vs) n = let h = past-le vs (suc n) in omega arith
-
--- A fresh variable changes no older level.
-pub freshLevels-older : (vs : List ℕ) (n i : ℕ) (l : ℕ → ℕ) (x : ℕ) → x < n → freshLevels vs n i l x ≡ l x
-unfolding freshLevels
-freshLevels-older [] n i l x h = refl
-freshLevels-older (v ∷ vs) n i l x h = freshLevels-older vs (suc n) i (update l n i) x (omega arith) ∙ update-other l n i x (λ q. omega arith)
-
--- A store stays formed.
-pub fresh-formed : (vs : List ℕ) (i : ℕ) (s : Store) → Formed s → Formed (fresh vs i s)
-unfolding fresh solution
-fresh-formed vs i s f = record {
-  bound = f .bound;
-  below = all-weaken (BelowBinding (s .next)) (BelowBinding (past vs (s .next))) more (s .bindings) (f .below);
-  proper = λ x c k l h. proper x c k h (ltb x (s .next)) refl;
-  ordered = λ x z l h. ordered x z l h (ltb x (s .next)) refl;
-}
-  where
-    more : (b : Binding) → BelowBinding (s .next) b → BelowBinding (past vs (s .next)) b
-    more b h = let p = past-le vs (s .next) in let q = h .0 in (omega arith, below-more (b .value) (s .next) (past vs (s .next)) p (h .1))
-
-    levels : ℕ → ℕ
-    levels = freshLevels vs (s .next) i (s .level)
-
-    proper : (x c k : ℕ) → Appears (solution s x) (con c k) → (b : Bool) → ltb x (s .next) ≡ b → k ≤ levels x
-    proper x c k h true e = let l = ltb-true x (s .next) e in rw (freshLevels-older vs (s .next) i (s .level) x l) (f .proper x c k l h)
-    proper x c k h false e = absurd (con-not-var c k x (solution-beyond s x (con c k) f (ltb-false x (s .next) e) h))
-
-    ordered : (x z : ℕ) → x < past vs (s .next) → Appears (solution s x) (var z) → (b : Bool) → ltb x (s .next) ≡ b → (z < past vs (s .next)) × (levels z ≤ levels x)
-    ordered x z m h true e =
-        let l = ltb-true x (s .next) e in
-        let o = f .ordered x z l h in
-        let p = past-le vs (s .next) in
-        let q = o .0 in
-        (omega arith, rw (freshLevels-older vs (s .next) i (s .level) x l, freshLevels-older vs (s .next) i (s .level) z (o .0)) (o .1))
-    ordered x z m h false e = let q : z ≡ x = (let p = solution-beyond s x (var z) f (ltb-false x (s .next) e) h in cc) in rw q (m, omega arith)
-
--- Solutions
 
 module _ {B : Type 0} (D : Domain B) where
   -- One fresh variable: a solution is one of the store before, and keeps the new level.

@@ -12,7 +12,7 @@ use Rattle.terms.proofs.Lists.{all-weaken}
 use Rattle.terms.proofs.Terms.{level-substitute}
 use Rattle.unification.specs.Store.{Leaf, var, con, Binding, Store, look, apply, onlyAt, boundTo, solved, solution}
 use Rattle.unification.specs.Promises.{Unbound, WellBound, Formed}
-use Rattle.unification.proofs.Solution.{final, newest, final-bind, final-unbound, appears-unbound, final-bound}
+use Rattle.unification.proofs.Solution.{final, newest, final-bind, boundTo-unbound, appears-unbound, final-bound}
 use Rattle.unification.proofs.Valuation.{Domain, value, searchTerms, value-at, value-apply, Equation, Solves, look-value}
 
 -- The final values are a solution.
@@ -37,7 +37,7 @@ module _ {B : Type 0} (D : Domain B) where
   -- An unbound variable has its value by τ.
   pub general-unbound : (bs : List Binding) (τ : ℕ → Term B) (x : ℕ) → WellBound bs → Unbound bs x → general bs τ x ≡ τ x
   unfolding general substitute value
-  general-unbound bs τ x w u = ap (λ (t : Term Leaf). substitute t (value D τ)) (final-unbound bs x w u)
+  general-unbound bs τ x w u = ap (λ (t : Term Leaf). substitute t (value D τ)) (boundTo-unbound bs x w u)
 
   -- It solves the bindings,
   pub general-equations : (bs : List Binding) (τ : ℕ → Term B) → WellBound bs → All (Equation D (general bs τ)) bs

@@ -18,7 +18,7 @@ use Rattle.unification.proofs.Substitution.{con-not-var}
 use Rattle.unification.proofs.Look.{look-below}
 use Rattle.unification.proofs.Solution.{look-twice}
 use Rattle.unification.proofs.General.{apply-look}
-use Rattle.unification.proofs.Formed.{Allowed, solution-unbound, lower-same, lower-other, lower-le, lower-formed, bind-formed}
+use Rattle.unification.proofs.Stores.{Allowed, solution-unbound, lower-same, lower-other, lower-le, lower-formed, bind-formed}
 
 -- The leaf appears in one of the terms, θ put to use.
 abbrev pub AppearsOne : (ℕ → Term Leaf) → Leaf → List (Term Leaf) → Type 0

@@ -1,12 +1,12 @@
 -- Promise T3 and the laws that lead to it, in reading order: the bindings as one substitution (Substitution, Look, Solution); what
--- solves a store (Valuation, General), and which stores there are (Formed, Fresh); matching is sound, keeps stores formed, is
+-- solves a store (Valuation, General), and which stores there are (Stores, Fresh); matching is sound, keeps stores formed, is
 -- complete, ends, and lowers levels for a reason (Sound, Invariant, Complete, Ends, Track); what it finds (Labelled, Unify, Promises).
 pub mod Substitution
 pub mod Look
 pub mod Solution
 pub mod Valuation
 pub mod General
-pub mod Formed
+pub mod Stores
 pub mod Fresh
 pub mod Sound
 pub mod Invariant

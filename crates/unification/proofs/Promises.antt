@@ -13,7 +13,7 @@ use Rattle.unification.proofs.Valuation.{searchTerms, Solves, Equal}
 use Rattle.unification.proofs.General.{general}
 use Rattle.unification.proofs.Sound.{SolvesMatching, matchSteps-sound}
 use Rattle.unification.proofs.Invariant.{Running, matchSteps-running}
-use Rattle.unification.proofs.Complete.{Parts, Fits, matchSteps-complete}
+use Rattle.unification.proofs.Complete.{Parts, Keeps, matchSteps-complete}
 use Rattle.unification.proofs.Ends.{matching-ends, ended-stays}
 use Rattle.unification.proofs.Track.{Later, Origin, Tracked, matchSteps-tracked}
 use Rattle.unification.proofs.Labelled.{absorbed-proper}
@@ -30,7 +30,7 @@ module _ (s : Store) (ps : List Pair) (L : Labelling) (f : Formed s) (b : All (B
   begins = (record { formed = f; extra = refl }, b)
 
   -- A unifier's solution is kept by every act.
-  kept : (φ : Substitution) → Unifier L (readPairs s ps) φ → (n : ℕ) → Fits searchTerms (general searchTerms (s .bindings) (φ .to)) (matchSteps n (pairs s ps))
+  kept : (φ : Substitution) → Unifier L (readPairs s ps) φ → (n : ℕ) → Keeps searchTerms (general searchTerms (s .bindings) (φ .to)) (matchSteps n (pairs s ps))
   unfolding SolvesMatching Parts
   kept φ u n =
       matchSteps-complete searchTerms (general searchTerms (s .bindings) (φ .to)) Number n (pairs s ps) begins
@@ -39,7 +39,7 @@ module _ (s : Store) (ps : List Pair) (L : Labelling) (f : Formed s) (b : All (B
   -- A match that fails has no unifier.
   failed : (n : ℕ) → matchSteps n (pairs s ps) ≡ fail → (φ : Substitution) → Unifier L (readPairs s ps) φ → ⊥
   unfolding SolvesMatching
-  failed n e φ u = subst (Fits searchTerms (general searchTerms (s .bindings) (φ .to))) e (kept φ u n) .0
+  failed n e φ u = subst (Keeps searchTerms (general searchTerms (s .bindings) (φ .to))) e (kept φ u n) .0
 
   -- s′ is the store after a match that succeeded.
   module _ (n : ℕ) (s′ : Store) (e : matchSteps n (pairs s ps) ≡ pairs s′ []) where
@@ -83,7 +83,7 @@ module _ (s : Store) (ps : List Pair) (L : Labelling) (f : Formed s) (b : All (B
     unfolding SolvesMatching
     absorbed φ u =
         found-absorbed s s′ f formed (tracked .0) number (φ .to)
-        (subst (Fits searchTerms (general searchTerms (s .bindings) (φ .to))) e (kept φ u n) .0 .0 .equations)
+        (subst (Keeps searchTerms (general searchTerms (s .bindings) (φ .to))) e (kept φ u n) .0 .0 .equations)
 
     general-unifier : (φ : Substitution) → Unifier L (readPairs s ps) φ → MoreGeneral L found-mgu φ
     unfolding found-mgu mgu

@@ -61,22 +61,22 @@ unfolding WellBound Appears substitute at
 not-itself b bs w u e = w .2 (subst (λ t. Appears t (var (b .name))) (sym (ap (λ t. apply t (final bs)) e ∙ u)) refl)
 
 -- An unbound variable is its own final value.
-pub final-unbound : (bs : List Binding) (x : ℕ) → WellBound bs → Unbound bs x → final bs x ≡ leaf (var x)
+pub boundTo-unbound : (bs : List Binding) (x : ℕ) → WellBound bs → Unbound bs x → final bs x ≡ leaf (var x)
 unfolding WellBound look boundTo solved substitute at
-final-unbound [] x w u = refl
-final-unbound (b ∷ bs) x w u =
-    let r = unbound-older (look bs (leaf (var x))) b bs x (w .1) (not-itself b bs w (final-unbound bs (b .name) (w .3) (w .0))) refl u in
-    final-bind b bs x ∙ ap (λ t. apply t (newest b bs)) (final-unbound bs x (w .3) (r .0)) ∙ onlyAt-other (b .name) (apply (b .value) (final bs)) x (r .1)
+boundTo-unbound [] x w u = refl
+boundTo-unbound (b ∷ bs) x w u =
+    let r = unbound-older (look bs (leaf (var x))) b bs x (w .1) (not-itself b bs w (boundTo-unbound bs (b .name) (w .3) (w .0))) refl u in
+    final-bind b bs x ∙ ap (λ t. apply t (newest b bs)) (boundTo-unbound bs x (w .3) (r .0)) ∙ onlyAt-other (b .name) (apply (b .value) (final bs)) x (r .1)
 
 -- Nothing else appears there.
 pub unbound-appears : (bs : List Binding) (x : ℕ) (a : Leaf) → WellBound bs → Unbound bs x → Appears (final bs x) a → a ≡ var x
 unfolding Appears
-unbound-appears bs x a w u h = subst (λ t. Appears t a) (final-unbound bs x w u) h
+unbound-appears bs x a w u h = subst (λ t. Appears t a) (boundTo-unbound bs x w u) h
 
 -- Nothing is bound to itself.
 pub value-not-name : (b : Binding) (bs : List Binding) → WellBound (b ∷ bs) → b .value ≡ leaf (var (b .name)) → ⊥
 unfolding WellBound
-value-not-name b bs w = not-itself b bs w (final-unbound bs (b .name) (w .3) (w .0))
+value-not-name b bs w = not-itself b bs w (boundTo-unbound bs (b .name) (w .3) (w .0))
 
 -- Unbound after a binding: unbound before it, and another variable.
 pub unbound-before : (b : Binding) (bs : List Binding) (x : ℕ) → WellBound (b ∷ bs) → Unbound (b ∷ bs) x → Unbound bs x × (x ≡ b .name → ⊥)
@@ -159,7 +159,7 @@ pub final-bound : (bs : List Binding) → WellBound bs → All (λ b. final bs (
 unfolding WellBound substitute at
 final-bound [] w = tt
 final-bound (b ∷ bs) w = (
-  final-bind b bs (b .name) ∙ ap (λ t. apply t (newest b bs)) (final-unbound bs (b .name) (w .3) (w .0)) ∙ onlyAt-same (b .name) value ∙ sym (apply-fixed value (newest b bs) alone) ∙ sym (apply-bind b bs (b .value)),
+  final-bind b bs (b .name) ∙ ap (λ t. apply t (newest b bs)) (boundTo-unbound bs (b .name) (w .3) (w .0)) ∙ onlyAt-same (b .name) value ∙ sym (apply-fixed value (newest b bs) alone) ∙ sym (apply-bind b bs (b .value)),
   all-weaken (λ c. final bs (c .name) ≡ apply (c .value) (final bs)) (λ c. final (b ∷ bs) (c .name) ≡ apply (c .value) (final (b ∷ bs))) keep bs (final-bound bs (w .3)),
 )
   where

@@ -13,9 +13,9 @@ use Rattle.terms.specs.Terms.{Term, leaf, app, Terms, nil, cons, substitute, su
 use Rattle.unification.specs.Store.{Leaf, var, con, Binding, Store, look, lower, bind, at, solution}
 use Rattle.unification.specs.Matching.{Pair, Matching, pairs, check, fail, pushTerms, pushPairs, comparing, onNode, visit, compareTerms, matchStep, matchSteps}
 use Rattle.unification.specs.Promises.{Unbound, WellBound, Formed, reading}
-use Rattle.unification.proofs.Solution.{final, final-unbound, unbound-before, stays-appears, enters-appears, look-twice}
+use Rattle.unification.proofs.Solution.{final, boundTo-unbound, unbound-before, stays-appears, enters-appears, look-twice}
 use Rattle.unification.proofs.General.{apply-look}
-use Rattle.unification.proofs.Formed.{lower-same, lower-other, lower-le, lower-formed}
+use Rattle.unification.proofs.Stores.{lower-same, lower-other, lower-le, lower-formed}
 use Rattle.unification.proofs.Invariant.{Running, matchStep-running, matchSteps-running}
 
 -- s₀ is the store at the start of the matching, s the present one: unbound variables were unbound, levels were no lower.
@@ -93,7 +93,7 @@ lower-tracing s₀ s y t z ns d u f c = record {
     same = lower-other s z k y (λ p. d (sym p))
 
     appears : Appears (reading s t) (var z)
-    appears = c .within .0 z (subst (λ (v : Term Leaf). Appears v (var z)) (sym (final-unbound (s .bindings) z (f .bound) u)) refl)
+    appears = c .within .0 z (subst (λ (v : Term Leaf). Appears v (var z)) (sym (boundTo-unbound (s .bindings) z (f .bound) u)) refl)
 
     here : ((lower s z k) .level z ≡ s .level z) ⊎ ((lower s z k) .level z ≡ k) → Seen s₀ (lower s z k) y t z
     here (inl q) = same-seen s₀ s z k y t z q same (c .seen z u)
@@ -120,7 +120,7 @@ bind-tracked s₀ s y t ps f g c = (
     b = record { name = y; value = t }
 
     itself : Appears (final bs y) (var y)
-    itself = subst (λ (v : Term Leaf). Appears v (var y)) (sym (final-unbound bs y (f .bound) (g .bound .0))) refl
+    itself = subst (λ (v : Term Leaf). Appears v (var y)) (sym (boundTo-unbound bs y (f .bound) (g .bound .0))) refl
 
     -- Where x appears in the final value of t: whence the level of y comes, there comes that of x.
     through : (x : ℕ) → Appears (reading s t) (var x) → s .level x ≡ s .level y → Origin s₀ s y → Origin s₀ (bind s y t) x

@@ -16,10 +16,10 @@ use Rattle.unification.specs.Labelled.{Substitution, Labelling, Proper, 
 use Rattle.unification.specs.Promises.{Unbound, Formed, reading, readPairs, Labels}
 use Rattle.unification.proofs.Substitution.{con-not-var, apply-apply, apply-agree}
 use Rattle.unification.proofs.Look.{unbound-beyond, isUnbound, isUnbound-true, unbound-isUnbound}
-use Rattle.unification.proofs.Solution.{final-unbound, appears-unbound}
+use Rattle.unification.proofs.Solution.{boundTo-unbound, appears-unbound}
 use Rattle.unification.proofs.Valuation.{value, leafLevel, searchTerms, value-at, Equation, Solves, Equal}
 use Rattle.unification.proofs.General.{final-equations, general, general-value, general-unbound, general-solves, general-itself}
-use Rattle.unification.proofs.Formed.{solution-beyond}
+use Rattle.unification.proofs.Stores.{solution-beyond}
 use Rattle.unification.proofs.Track.{Later, Origin}
 
 -- Substitutions as valuations
@@ -85,7 +85,7 @@ module _ (s s′ : Store) (f : Formed s) (f′ : Formed s′) (l : Later s s′)
   -- A variable that has not been made is its own final value.
   found-beyond : (x : ℕ) → s .next ≤ x → solution s′ x ≡ leaf (var x)
   unfolding solution
-  found-beyond x h = final-unbound (s′ .bindings) x (f′ .bound) (unbound-beyond (s′ .bindings) (s′ .next) x (omega arith) (f′ .below))
+  found-beyond x h = boundTo-unbound (s′ .bindings) x (f′ .bound) (unbound-beyond (s′ .bindings) (s′ .next) x (omega arith) (f′ .below))
 
   -- It is the identity there.
   pub found-finite : (x : ℕ) → s .next ≤ x → found s s′ x ≡ leaf (var x)

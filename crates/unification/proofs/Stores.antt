@@ -1,17 +1,18 @@
--- What keeps a store formed: a level lowered, a variable bound after its range check.
-use Prim.Native.Nat.{ℕ, _≤_, _<_, min}
-use mathlib.Core.Path.{_≡_, refl, sym, subst}
+-- What keeps a store formed: a level lowered, a variable bound after its range check, fresh variables made.
+use Prim.Native.Nat.{ℕ, suc, _≤_, _<_, min}
+use mathlib.Core.Path.{_≡_, refl, sym, _∙_, subst}
 use mathlib.Core.Bool.{Bool, true, false}
-use mathlib.Core.List.{List, []}
+use mathlib.Core.List.{List, [], _∷_}
 use mathlib.Core.Logic.{_⊎_, inl, inr}
 use native.Mathlib.Omega.{arith}
-use lib.Dec.{eqb}
-use borrow.Author.Tests.{eqb-true, eqb-false}
+use lib.Dec.{eqb, ltb}
+use borrow.Author.Tests.{eqb-true, eqb-false, ltb-true, ltb-false}
+use Rattle.terms.specs.Lists.{update}
 use Rattle.terms.specs.Terms.{Term, Leaves, Appears}
-use Rattle.terms.proofs.Lists.{update-same, update-other}
-use Rattle.terms.proofs.Terms.{appears-leaves}
-use Rattle.unification.specs.Store.{Leaf, var, con, Binding, Store, look, lower, bind, boundTo, solved, solution}
-use Rattle.unification.specs.Promises.{Below, Unbound, WellBound, Formed, reading}
+use Rattle.terms.proofs.Lists.{update-same, update-other, all-weaken}
+use Rattle.terms.proofs.Terms.{appears-leaves, leaves-weaken}
+use Rattle.unification.specs.Store.{Leaf, var, con, Binding, Store, look, lower, bind, freshLevels, past, fresh, boundTo, solved, solution}
+use Rattle.unification.specs.Promises.{Below, BelowBinding, Unbound, WellBound, Formed, reading}
 use Rattle.unification.proofs.Substitution.{con-not-var, apply-variable}
 use Rattle.unification.proofs.Look.{unbound-beyond}
 use Rattle.unification.proofs.Solution.{Stays, Enters, bind-appears, unbound-appears}
@@ -100,6 +101,58 @@ bind-formed s y t u e l b allowed f = record {
     ordered : (x z : ℕ) → x < s .next → Stays new bs x (var z) ⊎ Enters new bs x (var z) → (z < s .next) × (s .level z ≤ s .level x)
     ordered x z m (inl h) = f .ordered x z m (h .0)
     ordered x z m (inr h) = (reading-below s t z f b (h .1), (let p = f .ordered x y m (h .0) .1 in let q = allowed (var z) (h .1) .1 in omega arith))
+
+-- Fresh variables
+
+-- What is below n is below m, if m is not less.
+pub below-more : (t : Term Leaf) (n m : ℕ) → n ≤ m → Leaves t (Below n) → Leaves t (Below m)
+unfolding Below
+below-more t n m l h = leaves-weaken t (Below n) (Below m) go h
+  where
+    go : (a : Leaf) → Below n a → Below m a
+    go (var x) b = omega arith
+    go (con c k) b = tt
+
+-- The number after the fresh variables is no smaller.
+pub past-le : (vs : List ℕ) (n : ℕ) → n ≤ past vs n
+unfolding past
+past-le [] n = omega arith
+past-le (v ∷ vs) n = let h = past-le vs (suc n) in omega arith
+
+-- A fresh variable changes no older level.
+pub freshLevels-older : (vs : List ℕ) (n i : ℕ) (l : ℕ → ℕ) (x : ℕ) → x < n → freshLevels vs n i l x ≡ l x
+unfolding freshLevels
+freshLevels-older [] n i l x h = refl
+freshLevels-older (v ∷ vs) n i l x h = freshLevels-older vs (suc n) i (update l n i) x (omega arith) ∙ update-other l n i x (λ q. omega arith)
+
+-- A store stays formed.
+pub fresh-formed : (vs : List ℕ) (i : ℕ) (s : Store) → Formed s → Formed (fresh vs i s)
+unfolding fresh solution
+fresh-formed vs i s f = record {
+  bound = f .bound;
+  below = all-weaken (BelowBinding (s .next)) (BelowBinding (past vs (s .next))) more (s .bindings) (f .below);
+  proper = λ x c k l h. proper x c k h (ltb x (s .next)) refl;
+  ordered = λ x z l h. ordered x z l h (ltb x (s .next)) refl;
+}
+  where
+    more : (b : Binding) → BelowBinding (s .next) b → BelowBinding (past vs (s .next)) b
+    more b h = let p = past-le vs (s .next) in let q = h .0 in (omega arith, below-more (b .value) (s .next) (past vs (s .next)) p (h .1))
+
+    levels : ℕ → ℕ
+    levels = freshLevels vs (s .next) i (s .level)
+
+    proper : (x c k : ℕ) → Appears (solution s x) (con c k) → (b : Bool) → ltb x (s .next) ≡ b → k ≤ levels x
+    proper x c k h true e = let l = ltb-true x (s .next) e in rw (freshLevels-older vs (s .next) i (s .level) x l) (f .proper x c k l h)
+    proper x c k h false e = absurd (con-not-var c k x (solution-beyond s x (con c k) f (ltb-false x (s .next) e) h))
+
+    ordered : (x z : ℕ) → x < past vs (s .next) → Appears (solution s x) (var z) → (b : Bool) → ltb x (s .next) ≡ b → (z < past vs (s .next)) × (levels z ≤ levels x)
+    ordered x z m h true e =
+        let l = ltb-true x (s .next) e in
+        let o = f .ordered x z l h in
+        let p = past-le vs (s .next) in
+        let q = o .0 in
+        (omega arith, rw (freshLevels-older vs (s .next) i (s .level) x l, freshLevels-older vs (s .next) i (s .level) z (o .0)) (o .1))
+    ordered x z m h false e = let q : z ≡ x = (let p = solution-beyond s x (var z) f (ltb-false x (s .next) e) h in cc) in rw q (m, omega arith)
 
 -- A store without bindings.
 pub empty-formed : (l : ℕ → ℕ) (n : ℕ) → Formed (record { bindings = []; level = l; next = n })
