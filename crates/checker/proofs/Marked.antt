@@ -2,9 +2,9 @@
 use mathlib.Core.Path.{refl}
 use Rattle.texts.proofs.Computing.{computeJudgement}
 use Rattle.engine.proofs.Computing.{computeRun}
-use Rattle.checker.specs.CheckText.{countLf, checkSheet, checkText}
+use Rattle.checker.specs.CheckText.{countLf, checkSheet, turnBackIf, checkText}
 use Rattle.checker.specs.Marked.{marked, MarkedCases, AcceptsResult, AcceptsAnswer}
 
 pub markedCases : MarkedCases
-unfolding computeRun computeJudgement countLf checkSheet checkText marked AcceptsResult AcceptsAnswer
+unfolding computeRun computeJudgement countLf checkSheet turnBackIf checkText marked AcceptsResult AcceptsAnswer
 markedCases = ((refl, refl), ((refl, refl), ((refl, tt), ((refl, refl), ((refl, tt), ((refl, tt), ((refl, refl), ((refl, tt), ((refl, tt), ((refl, refl), ((refl, refl), ((refl, tt), ((refl, refl), ((refl, tt), ((refl, refl), ((refl, tt), tt))))))))))))))))

@@ -24,26 +24,19 @@ unfoldable pub checkSheet : List ℕ → Read → Checked
 checkSheet text (refused r) = turnedBack r
 checkSheet text (sheet s) = judged (judge s text)
 
+-- Refused with this number and line 0, if the test says so.
+unfoldable pub turnBackIf : Bool → ℕ → Checked → Checked
+turnBackIf true n r = turnedBack (refusal n 0)
+turnBackIf false n r = r
+
 -- The sheet's bytes, the text's, the lengths of table and work buffer.
 unfoldable pub checkText : List ℕ → List ℕ → ℕ → ℕ → Checked
 checkText bytes text tableLength workLength =
-    elim (ltb maxSheetBytes (length bytes)) [
-      | true ↦ turnedBack (refusal 1 0)
-      | false ↦
-          elim (ltb tableLength tableNumbers) [
-            | true ↦ turnedBack (refusal 2 0)
-            | false ↦
-                elim (ltb maxTextBytes (length text)) [
-                  | true ↦ turnedBack (refusal 4 0)
-                  | false ↦
-                      elim (ltb workLength (demanded (countLf text))) [
-                        | true ↦ turnedBack (refusal 5 0)
-                        | false ↦
-                            checkSheet text (readSheet bytes)
-                      ]
-                ]
-          ]
-    ]
+    turnBackIf (ltb maxSheetBytes (length bytes)) 1
+    (turnBackIf (ltb tableLength tableNumbers) 2
+    (turnBackIf (ltb maxTextBytes (length text)) 4
+    (turnBackIf (ltb workLength (demanded (countLf text))) 5
+    (checkSheet text (readSheet bytes)))))
 
 -- "On 1 to 5 no buffer changes. Past 5, refused or not, the first 8,192 numbers of the table and the demanded part of the work
 -- buffer are zero at the end, the rest of both unchanged."

@@ -9,9 +9,9 @@ use Rattle.sheets.proofs.Computing.{computeSheet}
 use Rattle.texts.specs.Spelling.{noText, spentText}
 use Rattle.texts.specs.Promises.{searchText}
 use Rattle.texts.proofs.Computing.{computeText}
-use Rattle.engine.specs.EngineRun.{Result, answerTo, fit, runSheet, demanded, engineRun}
+use Rattle.engine.specs.EngineRun.{Result, answerTo, fit, runSheet, demanded, turnBackIf, engineRun}
 
 unfoldable pub computeRun : List ℕ → ℕ → ℕ → ℕ → ℕ → Result
-unfolding engineRun runSheet fit answerTo demanded searchText noText spentText finalLines finalEnvironment final symbolOf solution solved solve1 onlyAt at boundTo
+unfolding engineRun turnBackIf runSheet fit answerTo demanded searchText noText spentText finalLines finalEnvironment final symbolOf solution solved solve1 onlyAt at boundTo
     freeVariables freeFrom computeSheet computeSearch computeText
 computeRun bytes budget t w a = engineRun bytes budget t w a

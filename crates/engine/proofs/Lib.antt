@@ -1,2 +1,5 @@
 pub mod Computing
 pub mod Cases
+pub mod Answered
+pub mod Demand3
+pub mod Buffers

@@ -44,26 +44,19 @@ runSheet budget answerLength (sheet s) = fit answerLength (answerTo s budget (se
 unfoldable pub demanded : ℕ → ℕ
 demanded units = numbersPerUnit * units
 
+-- Refused with this number and line 0, if the test says so.
+unfoldable pub turnBackIf : Bool → ℕ → Result → Result
+turnBackIf true n r = turnedBack (refusal n 0)
+turnBackIf false n r = r
+
 -- The sheet's bytes, the budget, the lengths of table, work buffer and answer buffer.
 unfoldable pub engineRun : List ℕ → ℕ → ℕ → ℕ → ℕ → Result
 engineRun bytes budget tableLength workLength answerLength =
-    elim (ltb maxSheetBytes (length bytes)) [
-      | true ↦ turnedBack (refusal 1 0)
-      | false ↦
-          elim (ltb tableLength tableNumbers) [
-            | true ↦ turnedBack (refusal 2 0)
-            | false ↦
-                elim (eqb budget 0 || ltb maxBudget budget) [
-                  | true ↦ turnedBack (refusal 3 0)
-                  | false ↦
-                      elim (ltb workLength (demanded budget)) [
-                        | true ↦ turnedBack (refusal 5 0)
-                        | false ↦
-                            runSheet budget answerLength (readSheet bytes)
-                      ]
-                ]
-          ]
-    ]
+    turnBackIf (ltb maxSheetBytes (length bytes)) 1
+    (turnBackIf (ltb tableLength tableNumbers) 2
+    (turnBackIf (eqb budget 0 || ltb maxBudget budget) 3
+    (turnBackIf (ltb workLength (demanded budget)) 5
+    (runSheet budget answerLength (readSheet bytes)))))
 
 -- "On 1 to 5 no buffer changes. Past 5, refused or not, the first 8,192 numbers of the table and the demanded part of the work
 -- buffer are zero at the end, the rest of both unchanged."

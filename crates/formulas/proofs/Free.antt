@@ -46,7 +46,7 @@ mutual
   appearsIn-free (cons t ts) v (inl h) = or-left (freeT t v) (freeTs ts v) (appears-free t v h)
   appearsIn-free (cons t ts) v (inr h) = or-right (freeT t v) (freeTs ts v) (appearsIn-free ts v h)
 
--- terms under environments that agree on the names that stand free
+-- terms under environments that agree on the names that stand free in them are the same
 pub substitutes-free : {A : Type 0} (ts : Terms ℕ) (e f : ℕ → Term A) → ((v : ℕ) → freeTs ts v ≡ true → e v ≡ f v) → substitutes ts e ≡ substitutes ts f
 substitutes-free ts e f h = substitutes-agree ts e f (λ v k. h v (appearsIn-free ts v k))
 
@@ -78,7 +78,7 @@ quantify-within w c m h v = go (standsFree w m) refl
     go true e k = joins (eqb w v) k
     go false e k = absent e k (eqb w v) refl
 
--- every member of a clause
+-- so it is with every member of a clause
 pub members-within : (c : Clause) → All (Within c) (members c)
 unfolding members freeC standsFree freeB elem
 members-within (fact p ts) = (λ v h. sym (or-false (freeTs ts v)) ∙ h, tt)

@@ -1,4 +1,4 @@
--- What steps keep holds after any number of acts, and at the end: the one induction over searches, for every invariant.
+-- What acts keep holds after any number of acts, and at the end: the one induction over searches, for every invariant.
 use Prim.Native.Nat.{ℕ, zero, suc, _+_}
 use mathlib.Core.Path.{_≡_, refl, sym, subst}
 use mathlib.Core.List.{List, [], _∷_}
@@ -20,7 +20,7 @@ unfolding after
 after-state cs g S first acts zero = first
 after-state cs g S first acts (suc n) = acts n (after cs g n) (after-state cs g S first acts n)
 
--- So is a property of configurations that a step carries on, and that waiting does.
+-- So is, of every configuration, a property that a step carries on to what it gives, and that stays while it waits.
 pub after-all : (cs : List Clause) (g : Goal) (P : ℕ → Configuration → Type 0) → All (P 0) (start cs g) → ((u : ℕ) (c : Configuration) → P u c → All (P (suc u)) (step u c))
     → ((u : ℕ) (c : Configuration) → P u c → P (suc u) c) → (n : ℕ) → All (P n) (after cs g n)
 unfolding advance
@@ -53,6 +53,7 @@ stands-later n u (try s a m ms k b ∷ ds) v h = h
 stands-later n u (match m b ∷ ds) v h = h
 stands-later n u (done s ls ∷ ds) v h = absurd h
 
+-- so a search that comes to a verdict n acts after the first u stands there after u + n
 stands-from : (cs : List Clause) (g : Goal) (n u : ℕ) (v : Verdict) → ComesToFrom n u (status u (after cs g u)) v → Stands v (after cs g (u + n))
 unfolding after
 stands-from cs g zero u v h =
@@ -62,7 +63,7 @@ stands-from cs g (suc n) u v h =
     let q : suc u + n ≡ u + suc n = omega arith in
     subst (λ (m : ℕ). Stands v (after cs g m)) q (stands-from cs g n (suc u) v (stands-later n u (after cs g u) v h))
 
--- A search that comes to a verdict after n acts stands there.
+-- A search that comes to a verdict after n acts stands there after them.
 pub comes-stands : (cs : List Clause) (g : Goal) (n : ℕ) (v : Verdict) → ComesTo cs g n v → Stands v (after cs g n)
 unfolding ComesTo after
 comes-stands cs g n v h =

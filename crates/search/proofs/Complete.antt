@@ -19,7 +19,7 @@ use Rattle.sequents.specs.Sequents.{Environment, Program, Entry, entries, Seque
 use Rattle.sequents.specs.Derivations.{Instantiates, Derivation, d-true, d-and, d-left, d-right, d-assume, d-some, d-all, d-clause, BodyDerivation, b-some, Derivable, instanceOf, InstanceDerivation}
 use Rattle.sequents.specs.Promises.{AgreeOn, Closed}
 use Rattle.sequents.proofs.Sequents.{entries-put, update-put, assign-put, assign-all, entries-all, instance-put, sheet-all}
-use Rattle.sequents.proofs.Renamings.{LowEnvironment, LowProgram, another-constant}
+use Rattle.sequents.proofs.Constants.{LowEnvironment, LowProgram, another-constant}
 use Rattle.sequents.proofs.Locality.{local}
 use Rattle.unification.specs.Store.{Leaf, var, con, Store, fresh, freshVariables}
 use Rattle.unification.specs.Matching.{Matching, pairs, check, fail, pushPairs, comparing, matchStep}
@@ -34,8 +34,6 @@ use Rattle.search.specs.Promises.{SheetNames}
 use Rattle.search.proofs.After.{never-no}
 use Rattle.search.proofs.Invariant.{GoalsBelow, TryBelow, Invariant, start-invariant, step-keeps}
 use Rattle.search.proofs.Values.{symbols, Valuation, valued, Solution, goalsAt, body-goals, Agree, terms-agree, environment-agree, program-agree, goals-agree, extend}
-
--- what is solvable
 
 -- The sequent has a derivation, and nothing in it has a level above its own.
 pub record Holds (g : Sequent Symbol) : Type 0 where
@@ -62,50 +60,50 @@ pub record Solved (s : Store) (gs : List (Sequent Leaf)) (σ : Valuation) : Type
   pub solves : Solution σ s
   pub goals : All Holds (goalsAt σ gs)
 
--- An atom that is tried with the members ms, of a level that nothing in its program exceeds.
+-- Of an atom that is tried with the members ms, one of these resolves it, and nothing in its program is above its level.
 pub record SolvedTry (s : Store) (a : Atom) (ms : List (Entry Leaf)) (gs : List (Sequent Leaf)) (σ : Valuation) : Type 0 where
   pub solved : Solved s gs σ
   pub program : LowProgram (a .level) (putProgram (valued σ) (a .program))
   pub members : All (λ m. LowEnvironment (a .level) (m .environment)) (map (putEntry (valued σ)) ms)
   pub resolvable : Resolvable (map (putEntry (valued σ)) ms) (putProgram (valued σ) (a .program)) (a .predicate) (substitutes (a .arguments) (valued σ)) (a .level)
 
+-- Of a match under way, σ solves it.
 pub record SolvedMatch (m : Matching) (gs : List (Sequent Leaf)) (σ : Valuation) : Type 0 where
   pub keeps : Keeps symbols σ m
   pub goals : All Holds (goalsAt σ gs)
 
+-- Some valuation does.
 abbrev pub Solvable : Configuration → Type 0
 Solvable (take s g b) = (σ : Valuation) × Solved s (g ∷ b .goals) σ
 Solvable (try s a m ms k b) = (σ : Valuation) × SolvedTry s a (m ∷ ms) (b .goals) σ
 Solvable (match m b) = (σ : Valuation) × SolvedMatch m (b .goals) σ
 Solvable (done s path) = Unit {0}
 
--- what holds still holds
-
--- with other environments and programs that are the same
+-- What holds still holds, with an environment and a program that are the same,
 holds-same : (g : Goal) (e f : Environment Symbol) (P Q : Program Symbol) (i : ℕ) → e ≡ f → P ≡ Q → Holds (sequent g e P i) → Holds (sequent g f Q i)
 holds-same g e f P Q i p q h = subst₂ (λ (d : Environment Symbol) (R : Program Symbol). Holds (sequent g d R i)) p q h
 
--- with a valuation that agrees
+-- and with a valuation that agrees.
 goals-hold : (gs : List (Sequent Leaf)) (n : ℕ) (σ τ : Valuation) → GoalsBelow gs n → Agree n σ τ → All Holds (goalsAt σ gs) → All Holds (goalsAt τ gs)
 goals-hold gs n σ τ b h k = subst (All Holds) (goals-agree gs n σ τ b h) k
 
--- a level higher
+-- a program is low for the next level too
 low-up : (i : ℕ) (P : Program Symbol) → LowProgram i P → LowProgram (suc i) P
 low-up i P h = all-weaken (λ x. LowEnvironment i (x .environment)) (λ x. LowEnvironment (suc i) (x .environment)) (λ x k v. let l = k v in omega arith) P h
 
--- a body's sequent
+-- a body that has a derivation holds
 body-holds : (o : Option Goal) (e : Environment Symbol) (P : Program Symbol) (i : ℕ) → LowEnvironment i e → LowProgram i P → BodyDerivation P o e i → All Holds (bodySequent o e P i)
 unfolding bodySequent
 body-holds none e P i le lP d = tt
 body-holds (some g) e P i le lP (b-some d) = (record { environment = le; program = lP; derivable = d }, tt)
 
--- the acts
-
+-- the acts: going on with the goals,
 proceed-complete : (s : Store) (gs : List (Sequent Leaf)) (path : List (Line Leaf)) (σ : Valuation) → Solved s gs σ → Any Solvable (proceed s gs path)
 unfolding proceed
 proceed-complete s [] path σ h = inl tt
 proceed-complete s (g ∷ gs) path σ h = inl (σ, h)
 
+-- after an act of matching,
 settle-complete : (m : Matching) (b : Branch) (σ : Valuation) → SolvedMatch m (b .goals) σ → Any Solvable (settle m b)
 unfolding settle SolvesMatching
 settle-complete (pairs s []) b σ h = proceed-complete s (b .goals) (b .path) σ (record { solves = h .keeps .0 .0; goals = h .goals })
@@ -113,12 +111,13 @@ settle-complete (pairs s (p ∷ ps)) b σ h = inl (σ, h)
 settle-complete (check s y t n ns ps) b σ h = inl (σ, h)
 settle-complete fail b σ h = absurd (h .keeps .0)
 
+-- with the members left,
 tryFrom-complete : (s : Store) (a : Atom) (ms : List (Entry Leaf)) (k : ℕ) (b : Branch) (σ : Valuation) → SolvedTry s a ms (b .goals) σ → Any Solvable (tryFrom s a ms k b)
 unfolding tryFrom
 tryFrom-complete s a [] k b σ h = absurd (mem-nil (h .resolvable .among))
 tryFrom-complete s a (m ∷ ms) k b σ h = inl (σ, h)
 
--- the member of a try that resolves the atom: its terms are the values of the fresh variables
+-- with the member of a try that resolves the atom: the terms for its prefix are the values of the fresh variables,
 tryMember-complete : (s : Store) (a : Atom) (m : Entry Leaf) (ms : List (Entry Leaf)) (k : ℕ) (b : Branch) (σ : Valuation)
     → Good (TryBelow a (m ∷ ms) (b .goals)) s → SolvedTry s a (m ∷ ms) (b .goals) σ
     → Resolves (putEntry (valued σ) m) (putProgram (valued σ) (a .program)) (a .predicate) (substitutes (a .arguments) (valued σ)) (a .level) → Any Solvable (tryMember s a m k b)
@@ -147,12 +146,13 @@ tryMember-complete s a m ms k b σ o h x =
           (goals-hold (b .goals) (s .next) σ τ (below .goals) (r .agree) (h .solved .goals)));
     })
 
--- a goal that is taken next
+-- with a goal that is taken next,
 take-solved : (s : Store) (g : Sequent Leaf) (gs : List (Sequent Leaf)) (σ : Valuation) → Solution σ s
     → LowEnvironment (g .level) (putEnvironment (valued σ) (g .environment)) → LowProgram (g .level) (putProgram (valued σ) (g .program)) → Derivable (putSequent (valued σ) g)
     → All Holds (goalsAt σ gs) → Solved s (g ∷ gs) σ
 take-solved s g gs σ v le lP d h = record { solves = v; goals = (record { environment = le; program = lP; derivable = d }, h) }
 
+-- taking a goal: the last step of its derivation says how to go on, a witness being the value of the fresh variable;
 takeGoal-complete : (u : ℕ) (s : Store) (g : Goal) (e : Environment Leaf) (P : Program Leaf) (i : ℕ) (b : Branch) (σ : Valuation)
     → Good (GoalsBelow (sequent g e P i ∷ b .goals)) s → Solution σ s → LowEnvironment i (putEnvironment (valued σ) e) → LowProgram i (putProgram (valued σ) P)
     → Derivation (putProgram (valued σ) P) g (putEnvironment (valued σ) e) i → All Holds (goalsAt σ (b .goals)) → Any Solvable (takeGoal u s g e P i b)
@@ -217,7 +217,7 @@ resolves-cases : {m n : Entry Symbol} {l : List (Entry Symbol)} {P : Program Sym
 resolves-cases here x = inl x
 resolves-cases (there {a = m} h) x = inr (record { member = m; among = h; resolves = x })
 
--- every act keeps what is solvable so
+-- so every act on what is solvable gives something that is
 pub step-complete : (u : ℕ) (c : Configuration) → Invariant c → Solvable c → Any Solvable (step u c)
 unfolding step Invariant
 step-complete u (take s g b) o h =
@@ -247,6 +247,7 @@ step-complete u (done s path) o h = inl tt
 abbrev pub Alive : List Configuration → Type 0
 Alive ds = All Invariant ds × Any Solvable ds
 
+-- an act keeps it so, be it on that one or on another
 advance-complete : (u : ℕ) (ds : List Configuration) → Alive ds → Alive (advance u ds)
 unfolding advance
 advance-complete u [] h = h
@@ -256,13 +257,11 @@ advance-complete u (c ∷ ds) h = (all-append Invariant (step u c) ds (step-keep
     go (inl x) = any-left Solvable (step u c) ds (step-complete u c (h .0 .0) x)
     go (inr x) = any-right Solvable (step u c) ds x
 
--- the start
-
 -- The terms for the goal's free variables, and a constant for the other names, of which nothing is known.
 unfoldable startValues : Goal → Environment Symbol → Valuation
 startValues g e v = cond (freeG g v) (e v) (app 0 nil)
 
--- so all have level 0,
+-- All have level 0,
 startValues-low : (g : Goal) (e : Environment Symbol) → ((v : ℕ) → freeG g v ≡ true → level (e v) ≤ 0) → (v : ℕ) → level (startValues g e v) ≤ 0
 unfolding startValues level levelBy
 startValues-low g e h v = go (freeG g v) refl
@@ -271,6 +270,7 @@ startValues-low g e h v = go (freeG g v) refl
     go true q = h v q
     go false q = omega arith
 
+-- so what the names of the start stand for has,
 startEnvironment-low : (σ : Valuation) → ((v : ℕ) → level (σ v) ≤ 0) → LowEnvironment 0 (putEnvironment (valued σ) startEnvironment)
 unfolding startEnvironment substitute value level levelBy
 startEnvironment-low σ h v = go (ltb v 8)
@@ -284,6 +284,7 @@ startValues-agree : (g : Goal) (e : Environment Symbol) → SheetNames g → Agr
 unfolding startValues startEnvironment substitute value
 startValues-agree g e n v h = rw (lt-ltb v 8 (n v h), h) refl
 
+-- So the start is solvable,
 start-complete : (cs : List Clause) (g : Goal) (e : Environment Symbol) → All Closed cs → SheetNames g → InstanceDerivation cs g e → Alive (start cs g)
 unfolding start startGoal startStore instanceOf level symbols
 start-complete cs g e c n d =
@@ -298,6 +299,7 @@ start-complete cs g e c n d =
     } in
     (start-invariant cs g, inl (σ, record { solves = record { equations = tt; levels = λ x l. low x }; goals = (subst Holds (sym (instance-put (valued σ) cs g startEnvironment)) holds, tt) }))
 
+-- and no search comes to no.
 pub complete : (cs : List Clause) (g : Goal) (e : Environment Symbol) → All Closed cs → SheetNames g → InstanceDerivation cs g e
     → (budget n : ℕ) → search budget cs g ≡ ends noProof n → ⊥
 complete cs g e c n d = never-no cs g Alive (start-complete cs g e c n d) advance-complete (λ h. h .1)

@@ -26,49 +26,54 @@ use Rattle.search.specs.Search.{startEnvironment, startStore, startGoal,
 use Rattle.search.specs.Promises.{MatchUnderWay, WellFormed}
 use Rattle.search.proofs.After.{after-all}
 
--- variables below n
-
+-- Variables are numbered below n: in an environment,
 abbrev pub EnvironmentBelow : ℕ → Environment Leaf → Type 0
 EnvironmentBelow n e = (v : ℕ) → Leaves (e v) (Below n)
 
+-- in a program,
 abbrev pub ProgramBelow : ℕ → Program Leaf → Type 0
 ProgramBelow n P = All (λ h. EnvironmentBelow n (h .environment)) P
 
+-- in members of one,
 abbrev pub EntriesBelow : ℕ → List (Entry Leaf) → Type 0
 EntriesBelow n ms = All (λ m. EnvironmentBelow n (m .environment)) ms
 
+-- in a sequent,
 abbrev pub SequentBelow : ℕ → Sequent Leaf → Type 0
 SequentBelow n g = EnvironmentBelow n (g .environment) × ProgramBelow n (g .program)
 
+-- in goals,
 abbrev pub GoalsBelow : List (Sequent Leaf) → ℕ → Type 0
 GoalsBelow gs n = All (SequentBelow n) gs
 
--- An atom that is tried with the members ms, the goals gs waiting.
+-- in an atom that is tried with the members ms, the goals gs waiting.
 pub record TryBelow (a : Atom) (ms : List (Entry Leaf)) (gs : List (Sequent Leaf)) (n : ℕ) : Type 0 where
   pub arguments : LeavesAll (a .arguments) (Below n)
   pub program : ProgramBelow n (a .program)
   pub members : EntriesBelow n ms
   pub goals : GoalsBelow gs n
 
--- The invariant.
+-- The invariant: a formed store, variables below its next number, and a match that comes from pairs that T3 speaks of.
 unfoldable pub Invariant : Configuration → Type 0
 Invariant (take s g b) = Good (GoalsBelow (g ∷ b .goals)) s
 Invariant (try s a m ms k b) = Good (TryBelow a (m ∷ ms) (b .goals)) s
 Invariant (match m b) = MatchUnderWay m × Running (GoalsBelow (b .goals)) m
 Invariant (done s ls) = Formed s
 
--- more variables
-
+-- What is below n is below a larger number: an environment,
 environment-more : (n m : ℕ) (e : Environment Leaf) → n ≤ m → EnvironmentBelow n e → EnvironmentBelow m e
 environment-more n m e l h v = below-more (e v) n m l (h v)
 
+-- a program,
 program-more : (n m : ℕ) (P : Program Leaf) → n ≤ m → ProgramBelow n P → ProgramBelow m P
 program-more n m P l h = all-weaken (λ x. EnvironmentBelow n (x .environment)) (λ x. EnvironmentBelow m (x .environment)) (λ x k. environment-more n m (x .environment) l k) P h
 
+-- goals,
 goals-more : (n m : ℕ) (gs : List (Sequent Leaf)) → n ≤ m → GoalsBelow gs n → GoalsBelow gs m
 goals-more n m gs l h =
     all-weaken (SequentBelow n) (SequentBelow m) (λ g k. (environment-more n m (g .environment) l (k .0), program-more n m (g .program) l (k .1))) gs h
 
+-- terms.
 terms-more : (n m : ℕ) (ts : Terms Leaf) → n ≤ m → LeavesAll ts (Below n) → LeavesAll ts (Below m)
 unfolding Below
 terms-more n m ts l h = leavesAll-weaken ts (Below n) (Below m) more h
@@ -77,40 +82,43 @@ terms-more n m ts l h = leavesAll-weaken ts (Below n) (Below m) more h
     more (var x) b = omega arith
     more (con c k) b = tt
 
--- terms of a sheet, under an environment
+-- terms of a sheet, under an environment that is below n, are below n
 pub substitutes-below : (ts : Terms ℕ) (e : Environment Leaf) (n : ℕ) → EnvironmentBelow n e → LeavesAll (substitutes ts e) (Below n)
 substitutes-below ts e n h = leavesAll-substitutes ts e (λ v. Unit {0}) (Below n) (λ v k. h v) (leavesAll-any ts (λ v. Unit {0}) (λ v. tt))
 
--- the fresh variables of a prefix
+-- the fresh variables of a prefix are below the number after them,
 freshVariables-below : (vs : List ℕ) (n : ℕ) → All (λ t. Leaves t (Below (past vs n))) (freshVariables vs n)
 unfolding freshVariables past Leaves Below
 freshVariables-below [] n = tt
 freshVariables-below (v ∷ vs) n = (past-le vs (suc n), freshVariables-below vs (suc n))
 
+-- so what the names of a member stand for is,
 pub prefix-below : (vs : List ℕ) (n : ℕ) (e : Environment Leaf) → EnvironmentBelow n e → EnvironmentBelow (past vs n) (assign vs (freshVariables vs n) e)
 prefix-below vs n e h =
     assign-all (λ t. Leaves t (Below (past vs n))) vs (freshVariables vs n) e (environment-more n (past vs n) e (past-le vs n) h) (freshVariables-below vs n)
 
+-- and so is its body
 body-below : (o : Option Goal) (e : Environment Leaf) (P : Program Leaf) (i n : ℕ) → EnvironmentBelow n e → ProgramBelow n P → GoalsBelow (bodySequent o e P i) n
 unfolding bodySequent
 body-below none e P i n he hP = tt
 body-below (some g) e P i n he hP = ((he, hP), tt)
 
--- another fact about the same store, or about one with fresh variables
+-- another fact about the same store,
 good-also : (R S : ℕ → Type 0) (s : Store) → Good R s → S (s .next) → Good S s
 good-also R S s o h = record { formed = o .formed; extra = h }
 
+-- or about the store with fresh variables
 good-fresh : (R S : ℕ → Type 0) (vs : List ℕ) (i : ℕ) (s : Store) → Good R s → S (past vs (s .next)) → Good S (fresh vs i s)
 unfolding fresh
 good-fresh R S vs i s o h = record { formed = fresh-formed vs i s (o .formed); extra = h }
 
--- the acts
-
+-- the acts: going on with the goals,
 proceed-keeps : (s : Store) (gs : List (Sequent Leaf)) (ls : List (Line Leaf)) → Good (GoalsBelow gs) s → All Invariant (proceed s gs ls)
 unfolding proceed Invariant
 proceed-keeps s [] ls o = (o .formed, tt)
 proceed-keeps s (g ∷ gs) ls o = (o, tt)
 
+-- after an act of matching,
 settle-keeps : (m : Matching) (b : Branch) → MatchUnderWay m → Running (GoalsBelow (b .goals)) m → All Invariant (settle m b)
 unfolding settle Invariant Running
 settle-keeps (pairs s []) b w r = proceed-keeps s (b .goals) (b .path) (r .0)
@@ -118,17 +126,19 @@ settle-keeps (pairs s (p ∷ ps)) b w r = ((w, r), tt)
 settle-keeps (check s y t n ns ps) b w r = ((w, r), tt)
 settle-keeps fail b w r = tt
 
--- a match begins
+-- beginning a match,
 comparing-keeps : (s : Store) (o : Option (List Pair)) (b : Branch) → Running (GoalsBelow (b .goals)) (comparing s o) → All Invariant (settle (comparing s o) b)
 unfolding comparing settle Running matchSteps
 comparing-keeps s none b r = tt
 comparing-keeps s (some ps) b r = settle-keeps (pairs s ps) b (record { before = s; compared = ps; acts = 0; formed = r .0 .formed; below = r .1; comes = refl }) r
 
+-- with the members left,
 tryFrom-keeps : (s : Store) (a : Atom) (ms : List (Entry Leaf)) (k : ℕ) (b : Branch) → Good (TryBelow a ms (b .goals)) s → All Invariant (tryFrom s a ms k b)
 unfolding tryFrom Invariant
 tryFrom-keeps s a [] k b o = tt
 tryFrom-keeps s a (m ∷ ms) k b o = (o, tt)
 
+-- with the member of a try,
 tryMember-keeps : (s : Store) (a : Atom) (m : Entry Leaf) (ms : List (Entry Leaf)) (k : ℕ) (b : Branch) → Good (TryBelow a (m ∷ ms) (b .goals)) s → All Invariant (tryMember s a m k b)
 unfolding tryMember fresh
 tryMember-keeps s a m ms k b o =
@@ -147,6 +157,7 @@ tryMember-keeps s a m ms k b o =
     (good-fresh (TryBelow a (m ∷ ms) (b .goals)) (GoalsBelow gs) vs (a .level) s o goals) (terms-more (s .next) n (a .arguments) l (x .arguments))
     (substitutes-below (m .member .arguments) e n he) tt)
 
+-- taking a goal;
 takeGoal-keeps : (u : ℕ) (s : Store) (g : Goal) (e : Environment Leaf) (P : Program Leaf) (i : ℕ) (b : Branch) → Good (GoalsBelow (sequent g e P i ∷ b .goals)) s
     → All Invariant (takeGoal u s g e P i b)
 unfolding takeGoal Invariant Leaves Below past
@@ -178,7 +189,7 @@ takeGoal-keeps u s (exists v g) e P i b o =
 takeGoal-keeps u s (forall v g) e P i b o =
     (good-also _ _ s o ((update-all (λ t. Leaves t (Below (s .next))) e v (leaf (con u (suc i))) (o .extra .0 .0) tt, o .extra .0 .1), o .extra .1), tt)
 
--- every act keeps the invariant
+-- so every act keeps the invariant
 pub step-keeps : (u : ℕ) (c : Configuration) → Invariant c → All Invariant (step u c)
 unfolding step Invariant matchSteps
 step-keeps u (take s g b) o = takeGoal-keeps u s (g .goal) (g .environment) (g .program) (g .level) b o
@@ -197,8 +208,7 @@ step-keeps u (match m b) o =
     (matchStep-running (GoalsBelow (b .goals)) m (o .1))
 step-keeps u (done s ls) o = (o, tt)
 
--- the start
-
+-- the start: its variables are 0 to 7,
 startEnvironment-below : EnvironmentBelow 8 startEnvironment
 unfolding startEnvironment Leaves Below
 startEnvironment-below v = go (ltb v 8) refl
@@ -207,14 +217,16 @@ startEnvironment-below v = go (ltb v 8) refl
     go true e = ltb-true v 8 e
     go false e = tt
 
+-- and its store is empty
 pub start-invariant : (cs : List Clause) (g : Goal) → All Invariant (start cs g)
 unfolding start startGoal startStore instanceOf Invariant
 start-invariant cs g = (record { formed = empty-formed (λ x. 0) 8; extra = ((startEnvironment-below, sheet-all (EnvironmentBelow 8) cs startEnvironment startEnvironment-below), tt) }, tt)
 
+-- so the invariant holds of every configuration of a search,
 pub after-invariant : (cs : List Clause) (g : Goal) (n : ℕ) → All Invariant (after cs g n)
 after-invariant cs g n = after-all cs g (λ u. Invariant) (start-invariant cs g) step-keeps (λ u c h. h) n
 
--- so every store of a search is formed, and every match in it one of T3's
+-- and every configuration that it holds of
 invariant-formed : (c : Configuration) → Invariant c → WellFormed c
 unfolding Invariant WellFormed
 invariant-formed (take s g b) h = h .formed
@@ -222,5 +234,6 @@ invariant-formed (try s a m ms k b) h = h .formed
 invariant-formed (match m b) h = h .0
 invariant-formed (done s ls) h = h
 
+-- has a formed store, and a match that is one of T3's
 pub after-formed : (cs : List Clause) (g : Goal) (n : ℕ) → All WellFormed (after cs g n)
 after-formed cs g n = all-weaken Invariant WellFormed invariant-formed (after cs g n) (after-invariant cs g n)

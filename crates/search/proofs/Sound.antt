@@ -1,36 +1,35 @@
--- T5: for every solution of its store, the lines of a configuration lead from the start to the goals that are left. At the end
--- none is left, and the final values are a solution.
-use Prim.Native.Nat.{ℕ, suc, _≤_, _<_}
-use mathlib.Core.Path.{_≡_, refl, sym, _∙_, ap, subst, subst₂, fun-ext}
+-- T5: for every solution of its store, the lines of a configuration lead from the start to the goals that are left. So at the
+-- end, where none is left, they derive the instance that the final values give.
+use Prim.Native.Nat.{ℕ, suc, _≤_}
+use mathlib.Core.Path.{_≡_, refl, sym, _∙_, ap, subst, subst₂}
 use mathlib.Core.Bool.{Bool, true, false, cond}
 use mathlib.Core.List.{List, [], _∷_, _++_, map, reverse, reverse-cons}
 use mathlib.Core.Logic.{inl, inr}
-use native.Mathlib.Omega.{arith}
-use lib.Dec.{eqb, ltb}
-use borrow.Author.Tests.{eqb-true, ltb-true}
+use lib.Dec.{eqb}
+use borrow.Author.Tests.{eqb-true}
 use Rattle.terms.specs.Lists.{All, here, there, place}
-use Rattle.terms.specs.Terms.{leaf, app, nil, Terms, substitute, substitutes, levelBy}
+use Rattle.terms.specs.Terms.{leaf, Terms, substitute, substitutes}
 use Rattle.terms.proofs.Lists.{all-append, map-append}
 use Rattle.terms.proofs.Terms.{substitutes-substitutes}
 use Rattle.formulas.specs.Formulas.{Goal, atom, truth, and, or, implies, exists, forall, Clause}
-use Rattle.sequents.specs.Symbols.{Symbol, leftover, symbolLevel, Ground, level}
+use Rattle.sequents.specs.Symbols.{Symbol, Ground, level}
 use Rattle.sequents.specs.Sequents.{Environment, Program, Entry, entries, Sequent, sequent, assign, Dtrue, Dand, Dleft, Dright, Dassume, Line, plain, Dsome, Dall, Dclause, putTerms, putEnvironment, putProgram, putEntry, putSequent, putLine}
 use Rattle.sequents.specs.Lines.{Uses, Infers, Leads, Derives}
 use Rattle.sequents.proofs.Sequents.{entries-put, assign-put, instance-put}
 use Rattle.sequents.proofs.Lines.{leads-append}
-use Rattle.unification.specs.Store.{Leaf, var, con, Store, fresh, freshVariables, at, solution}
+use Rattle.unification.specs.Store.{Leaf, var, con, Store, fresh, freshVariables}
 use Rattle.unification.specs.Matching.{Matching, pairs, check, fail, matchStep}
 use Rattle.unification.specs.Promises.{Formed}
 use Rattle.unification.proofs.Valuation.{value}
-use Rattle.unification.proofs.General.{general, general-solves}
 use Rattle.unification.proofs.Sound.{SolvesMatching, comparing-sound, matchStep-sound}
 use Rattle.search.specs.Configurations.{Branch, Atom, Configuration, take, try, match, done}
 use Rattle.search.specs.Steps.{proceed, settle, tryFrom, tryMember, takeGoal, step}
 use Rattle.search.specs.Search.{startEnvironment, startStore, startGoal, start, proved, ends, search}
-use Rattle.search.specs.Answers.{symbolOf, final, finalEnvironment, finalLines}
+use Rattle.search.specs.Answers.{final, finalEnvironment, finalLines}
 use Rattle.search.specs.Promises.{Sound}
 use Rattle.search.proofs.After.{proved-all}
 use Rattle.search.proofs.Invariant.{Invariant, start-invariant, step-keeps}
+use Rattle.search.proofs.Answers.{finalValues, final-valued, final-solves, final-level0}
 use Rattle.search.proofs.Values.{symbols, Valuation, valued, Solution, goalsAt, body-goals, update-goals, freshVariables-length, fresh-solution}
 
 -- The lines with their values, in the order taken.
@@ -73,19 +72,20 @@ module _ (s₀ : Store) (g₀ : Sequent Leaf) where
       (λ new. new ++ goalsAt σ (b .goals) ≡ rest)
       → Reaches σ (linesAt σ (x ∷ b .path)) rest
 
+  -- so for each kind of configuration
   abbrev pub SoundConfiguration : Configuration → Type 0
   SoundConfiguration (take s g b) = SoundAt s (g ∷ b .goals) (b .path)
   SoundConfiguration (try s a m ms k b) = SoundTry s a (m ∷ ms) k b
   SoundConfiguration (match m b) = SoundMatch m b
   SoundConfiguration (done s path) = SoundAt s [] path
 
-  -- the acts
-
+  -- the acts: going on with the goals,
   proceed-sound : (s : Store) (gs : List (Sequent Leaf)) (path : List (Line Leaf)) → SoundAt s gs path → All SoundConfiguration (proceed s gs path)
   unfolding proceed
   proceed-sound s [] path h = (h, tt)
   proceed-sound s (g ∷ gs) path h = (h, tt)
 
+  -- after an act of matching,
   settle-sound : (m : Matching) (b : Branch) → SoundMatch m b → All SoundConfiguration (settle m b)
   unfolding settle SolvesMatching
   settle-sound (pairs s []) b h = proceed-sound s (b .goals) (b .path) (λ σ v. h σ (v, tt))
@@ -93,12 +93,13 @@ module _ (s₀ : Store) (g₀ : Sequent Leaf) where
   settle-sound (check s y t n ns ps) b h = (h, tt)
   settle-sound fail b h = tt
 
+  -- with the members left,
   tryFrom-sound : (s : Store) (a : Atom) (ms : List (Entry Leaf)) (k : ℕ) (b : Branch) → SoundTry s a ms k b → All SoundConfiguration (tryFrom s a ms k b)
   unfolding tryFrom
   tryFrom-sound s a [] k b h = tt
   tryFrom-sound s a (m ∷ ms) k b h = (h, tt)
 
-  -- the member of a try, used with the values of its fresh variables
+  -- with the member of a try, its fresh variables having their values,
   tryMember-sound : (s : Store) (a : Atom) (m : Entry Leaf) (ms : List (Entry Leaf)) (k : ℕ) (b : Branch) → a .predicate ≡ m .member .predicate → SoundTry s a (m ∷ ms) k b
       → All SoundConfiguration (tryMember s a m k b)
   unfolding tryMember putLine place
@@ -121,6 +122,7 @@ module _ (s₀ : Store) (g₀ : Sequent Leaf) where
         premises = body-goals σ (m .member .body) e _ (a .program) (a .level) (b .goals) values;
       }))
 
+  -- taking a goal: the line that it adds is a step for it;
   takeGoal-sound : (u : ℕ) (s : Store) (g : Goal) (e : Environment Leaf) (P : Program Leaf) (i : ℕ) (b : Branch) → SoundAt s (sequent g e P i ∷ b .goals) (b .path)
       → All SoundConfiguration (takeGoal u s g e P i b)
   unfolding takeGoal Infers putLine value substitute symbols freshVariables
@@ -146,6 +148,7 @@ module _ (s₀ : Store) (g₀ : Sequent Leaf) where
     tt,
   )
 
+  -- so every act keeps the invariant
   pub step-sound : (u : ℕ) (c : Configuration) → SoundConfiguration c → All SoundConfiguration (step u c)
   unfolding step place
   step-sound u (take s g b) h = takeGoal-sound u s (g .goal) (g .environment) (g .program) (g .level) b h
@@ -169,47 +172,12 @@ module _ (s₀ : Store) (g₀ : Sequent Leaf) where
   step-sound u (match m b) h = settle-sound (matchStep m) b (λ σ v. h σ (matchStep-sound symbols σ m v))
   step-sound u (done s path) h = (h, tt)
 
--- the start, to which no line leads
+-- the start, which needs no line
 start-sound : (cs : List Clause) (g : Goal) → All (SoundConfiguration startStore (startGoal cs g)) (start cs g)
 unfolding start Leads
 start-sound cs g = ((λ σ v. record { first = v; leads = refl }), tt)
 
--- the end
-
--- An unbound variable is a leftover variable of its final level.
-unfoldable leftovers : Store → Valuation
-leftovers s x = leaf (leftover x (s .level x))
-
--- The final values are those of the general solution with leftover variables,
-abbrev finalValues : Store → Valuation
-finalValues s = general symbols (s .bindings) (leftovers s)
-
-final-valued : (s : Store) → valued (finalValues s) ≡ final s
-unfolding value final general symbols symbolOf leftovers at solution substitute
-final-valued s = fun-ext go
-  where
-    symbol : (a : Leaf) → value symbols (leftovers s) a ≡ symbolOf s a
-    symbol (var x) = refl
-    symbol (con c k) = refl
-
-    go : (a : Leaf) → valued (finalValues s) a ≡ final s a
-    go (var x) = ap (substitute (solution s x)) (fun-ext symbol)
-    go (con c k) = refl
-
--- which solves the store.
-final-solves : (s : Store) → Formed s → Solution (finalValues s) s
-unfolding leftovers symbols levelBy symbolLevel
-final-solves s f = general-solves symbols s (leftovers s) f (λ z l u. omega arith)
-
--- names that are no variable of the start stand for a constant of the sheet
-final-level0 : (s : Store) → ((x : ℕ) → x < 8 → level (final s (var x)) ≤ 0) → (v : ℕ) → level (finalEnvironment s v) ≤ 0
-unfolding finalEnvironment startEnvironment substitute level levelBy
-final-level0 s h v = go (ltb v 8) refl
-  where
-    go : (b : Bool) → ltb v 8 ≡ b → level (substitute (cond b (leaf (var v)) (app 0 nil)) (final s)) ≤ 0
-    go true e = h v (ltb-true v 8 e)
-    go false e = omega arith
-
+-- the end: no goal is left, and the final values are a solution
 pub sound : (cs : List Clause) (g : Goal) (budget n : ℕ) (s : Store) (path : List (Line Leaf)) → search budget cs g ≡ ends (proved s path) n → Sound cs g s path
 unfolding Invariant startStore startGoal finalLines finalEnvironment level symbols value
 sound cs g budget n s path e =

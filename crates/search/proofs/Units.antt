@@ -8,7 +8,7 @@ use Rattle.formulas.specs.Formulas.{Goal, Clause}
 use Rattle.search.specs.Search.{Status, isNo, isProved, runs, status, start, Verdict, ComesToFrom, ComesTo, Outcome, ends, spent, searchFrom, search}
 use Rattle.search.specs.Promises.{Units}
 
--- told the verdict v with n units, u of them having been done before
+-- what is told with n units, u acts having been done before, is what the search comes to after the others
 pub told : (budget u : ℕ) (st : Status) (n : ℕ) (v : Verdict) → searchFrom budget u st ≡ ends v n → (m : ℕ) × ComesToFrom m u st v × (u + m ≡ n) × (m ≤ budget)
 unfolding searchFrom ComesToFrom
 told zero u isNo n v h = (0, cc, (let q : u ≡ n = cc in omega arith), omega arith)
@@ -65,6 +65,7 @@ short-spent cs g budget h = go (search budget cs g) refl
 comes-once : (cs : List Clause) (g : Goal) (n m : ℕ) (v w : Verdict) → ComesTo cs g n v → ComesTo cs g m w → (n ≡ m) × (v ≡ w)
 comes-once cs g n m v w h k = let p = comes-told cs g (n + m) n v h (omega arith) in let q = comes-told cs g (n + m) m w k (omega arith) in (cc, cc)
 
+-- T2
 pub allUnits : (cs : List Clause) (g : Goal) → Units cs g
 allUnits cs g = record {
   tells = λ budget n v. (told-comes cs g budget n v, λ h. comes-told cs g budget n v (h .0) (h .1));

@@ -28,6 +28,7 @@ unfoldable pub symbols : Domain Symbol
 unfolding symbolLevel
 symbols = record { constant = made; level = symbolLevel; level-constant = λ c k. refl; constant-number = λ c k d j e. cc }
 
+-- A value for every variable.
 abbrev pub Valuation : Type 0
 Valuation = ℕ → Ground
 
@@ -39,55 +40,57 @@ valued σ = value symbols σ
 abbrev pub Solution : Valuation → Store → Type 0
 Solution σ s = Solves symbols σ s
 
--- goals with their values
-
+-- Goals with their values.
 abbrev pub goalsAt : Valuation → List (Sequent Leaf) → List (Sequent Symbol)
 goalsAt σ gs = map (putSequent (valued σ)) gs
 
--- the goals that a member's body puts in front of others
+-- the goal that is a member's body, before others: its values are those of its names
 pub body-goals : (σ : Valuation) (o : Option Goal) (e : Environment Leaf) (f : Environment Symbol) (P : Program Leaf) (i : ℕ) (gs : List (Sequent Leaf))
     → putEnvironment (valued σ) e ≡ f → bodySequent o f (putProgram (valued σ) P) i ++ goalsAt σ gs ≡ goalsAt σ (bodySequent o e P i ++ gs)
 body-goals σ o e f P i gs q =
     ap (λ (h : Environment Symbol). bodySequent o h (putProgram (valued σ) P) i ++ goalsAt σ gs) (sym q) ∙ ap (_++ goalsAt σ gs) (sym (body-put (valued σ) o e P i))
     ∙ sym (map-append (putSequent (valued σ)) (bodySequent o e P i) gs)
 
--- the goal under a quantifier, in front of others
+-- the goal under a quantifier, before others
 pub update-goals : (σ : Valuation) (g : Goal) (e : Environment Leaf) (v : ℕ) (t : Term Leaf) (P : Program Leaf) (i : ℕ) (gs : List (Sequent Leaf))
     → sequent g (update (putEnvironment (valued σ) e) v (substitute t (valued σ))) (putProgram (valued σ) P) i ∷ goalsAt σ gs ≡ goalsAt σ (sequent g (update e v t) P i ∷ gs)
 update-goals σ g e v t P i gs = ap (λ (f : Environment Symbol). sequent g f (putProgram (valued σ) P) i ∷ goalsAt σ gs) (sym (update-put (valued σ) e v t))
 
--- valuations that agree below n
-
+-- Valuations that agree on the variables below n
 abbrev pub Agree : ℕ → Valuation → Valuation → Type 0
 Agree n σ τ = (x : ℕ) → x < n → σ x ≡ τ x
 
+-- give the same value to a leaf that is below n,
 valued-agree : (n : ℕ) (σ τ : Valuation) → Agree n σ τ → (a : Leaf) → Below n a → valued σ a ≡ valued τ a
 unfolding value Below
 valued-agree n σ τ h (var x) b = h x b
 valued-agree n σ τ h (con c k) b = refl
 
+-- to a term,
 pub term-agree : (t : Term Leaf) (n : ℕ) (σ τ : Valuation) → Leaves t (Below n) → Agree n σ τ → substitute t (valued σ) ≡ substitute t (valued τ)
 term-agree t n σ τ b h = substitute-where t (Below n) (valued σ) (valued τ) b (valued-agree n σ τ h)
 
+-- to terms,
 pub terms-agree : (ts : Terms Leaf) (n : ℕ) (σ τ : Valuation) → LeavesAll ts (Below n) → Agree n σ τ → substitutes ts (valued σ) ≡ substitutes ts (valued τ)
 terms-agree ts n σ τ b h = substitutes-where ts (Below n) (valued σ) (valued τ) b (valued-agree n σ τ h)
 
+-- to an environment,
 pub environment-agree : (e : Environment Leaf) (n : ℕ) (σ τ : Valuation) → EnvironmentBelow n e → Agree n σ τ → putEnvironment (valued σ) e ≡ putEnvironment (valued τ) e
 environment-agree e n σ τ b h = fun-ext (λ v. term-agree (e v) n σ τ (b v) h)
 
+-- to a program,
 pub program-agree : (P : Program Leaf) (n : ℕ) (σ τ : Valuation) → ProgramBelow n P → Agree n σ τ → putProgram (valued σ) P ≡ putProgram (valued τ) P
 program-agree [] n σ τ b h = refl
 program-agree (x ∷ P) n σ τ b h = ap₂ _∷_ (ap (hypothesis (x .clause)) (environment-agree (x .environment) n σ τ (b .0) h)) (program-agree P n σ τ (b .1) h)
 
+-- to goals.
 pub goals-agree : (gs : List (Sequent Leaf)) (n : ℕ) (σ τ : Valuation) → GoalsBelow gs n → Agree n σ τ → goalsAt σ gs ≡ goalsAt τ gs
 goals-agree [] n σ τ b h = refl
 goals-agree (g ∷ gs) n σ τ b h =
     ap₂ _∷_ (ap₂ (λ (e : Environment Symbol) (P : Program Symbol). sequent (g .goal) e P (g .level))
     (environment-agree (g .environment) n σ τ (b .0 .0) h) (program-agree (g .program) n σ τ (b .0 .1) h)) (goals-agree gs n σ τ (b .1) h)
 
--- a fresh variable
-
--- a solution with one fresh variable solves the store without it, and the variable's value is no higher than its level
+-- A solution with one fresh variable solves the store without it, and gives it no value above its level.
 fresh-one : (v i : ℕ) (s : Store) (σ : Valuation) → Solution σ (fresh (v ∷ []) i s) → Solution σ s × (level (σ (s .next)) ≤ i)
 unfolding fresh freshLevels past level symbols
 fresh-one v i s σ h = (
@@ -95,7 +98,7 @@ fresh-one v i s σ h = (
   subst (λ (k : ℕ). level (σ (s .next)) ≤ k) (update-same (s .level) (s .next) i) (h .levels (s .next) (omega arith)),
 )
 
--- a value no higher than its level makes a solution one with the fresh variable
+-- With a value no higher than its level, a solution is one with the fresh variable.
 add-one : (v i : ℕ) (s : Store) (σ : Valuation) (t : Ground) → Formed s → Solution σ s → level t ≤ i → Solution (update σ (s .next) t) (fresh (v ∷ []) i s)
 unfolding fresh freshLevels past level symbols update
 add-one v i s σ t f h l = record {
@@ -117,13 +120,13 @@ add-one v i s σ t f h l = record {
     go x true e b = l
     go x false e b = h .levels x (let d = eqb-false x (s .next) e in omega arith)
 
--- fresh variables of a prefix
-
+-- The fresh variables of a prefix are one for each name;
 pub freshVariables-length : (vs : List ℕ) (n : ℕ) (σ : Valuation) → length (putTerms (valued σ) (freshVariables vs n)) ≡ length vs
 unfolding freshVariables
 freshVariables-length [] n σ = refl
 freshVariables-length (v ∷ vs) n σ = ap suc (freshVariables-length vs (suc n) σ)
 
+-- a solution with them solves the store without them, and gives them no value above their level;
 pub fresh-solution : (vs : List ℕ) (i : ℕ) (s : Store) (σ : Valuation) → Solution σ (fresh vs i s)
     → Solution σ s × All (λ t. level t ≤ i) (putTerms (valued σ) (freshVariables vs (s .next)))
 unfolding fresh freshLevels past freshVariables value substitute
@@ -133,13 +136,14 @@ fresh-solution (v ∷ vs) i s σ h =
     let q = fresh-one v i s σ (r .0) in
     (q .0, (q .1, r .1))
 
--- The valuation with given values for the fresh variables of a prefix.
+-- and a solution can be extended:
 pub record Extension (vs : List ℕ) (ts : List Ground) (i : ℕ) (s : Store) (σ : Valuation) : Type 0 where
   pub valuation : Valuation
   pub solves : Solution valuation (fresh vs i s)
   pub agree : Agree (s .next) σ valuation
   pub terms : putTerms (valued valuation) (freshVariables vs (s .next)) ≡ ts
 
+-- with any values no higher than their level.
 pub extend : (vs : List ℕ) (ts : List Ground) (i : ℕ) (s : Store) (σ : Valuation) → Formed s → Solution σ s → length ts ≡ length vs → All (λ t. level t ≤ i) ts
     → Extension vs ts i s σ
 unfolding fresh freshLevels past freshVariables value substitute

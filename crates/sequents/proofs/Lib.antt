@@ -1,6 +1,7 @@
 pub mod Sequents
 pub mod Lines
 pub mod Renamings
+pub mod Constants
 pub mod Locality
 pub mod Promises
 pub mod Cases

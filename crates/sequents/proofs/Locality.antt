@@ -19,13 +19,15 @@ use Rattle.sequents.specs.Sequents.{Environment, Program, hypothesis, En
 use Rattle.sequents.specs.Derivations.{Derivation, d-true, d-and, d-left, d-right, d-assume, d-some, d-all, d-clause, BodyDerivation, b-none, b-some, lines, bodyLines, sheetProgram, instanceOf}
 use Rattle.sequents.specs.Promises.{AgreeOn, Closed, Local}
 
--- e and f say the same of the names that stand free in the clause, the member, the body.
+-- e and f say the same of the names that stand free in the clause,
 abbrev pub AgreeOnClause : Clause → Environment Symbol → Environment Symbol → Type 0
 AgreeOnClause c e f = (v : ℕ) → freeC c v ≡ true → e v ≡ f v
 
+-- in the member,
 abbrev pub AgreeOnMember : Member → Environment Symbol → Environment Symbol → Type 0
 AgreeOnMember m e f = (v : ℕ) → standsFree v m ≡ true → e v ≡ f v
 
+-- in the body.
 abbrev pub AgreeOnBody : Option Goal → Environment Symbol → Environment Symbol → Type 0
 AgreeOnBody o e f = (v : ℕ) → freeB o v ≡ true → e v ≡ f v
 
@@ -36,18 +38,18 @@ Alike [] (k ∷ Q) = ⊥
 Alike (h ∷ P) [] = ⊥
 Alike (h ∷ P) (k ∷ Q) = (h .clause ≡ k .clause) × AgreeOnClause (h .clause) (h .environment) (k .environment) × Alike P Q
 
--- what a quantifier binds does not stand free
-under : (v : ℕ) (g : Goal) (e f : Environment Symbol) (t : Term Symbol) → ((w : ℕ) → (not (eqb v w) && freeG g w) ≡ true → e w ≡ f w) → AgreeOn g (update e v t) (update f v t)
-under v g e f t h w k = update-agree e f v t w (λ q. h w (rw q k))
+-- what a quantifier binds does not stand free under it: there the environments need not agree
+quantifier-agree : (v : ℕ) (g : Goal) (e f : Environment Symbol) (t : Term Symbol) → ((w : ℕ) → (not (eqb v w) && freeG g w) ≡ true → e w ≡ f w) → AgreeOn g (update e v t) (update f v t)
+quantifier-agree v g e f t h w k = update-agree e f v t w (λ q. h w (rw q k))
 
--- nor does what a prefix binds
+-- nor on what a prefix binds
 assign-agree : (vs : List ℕ) (ts : List (Term Symbol)) (e f : Environment Symbol) → length ts ≡ length vs → (v : ℕ) → (elem v vs ≡ false → e v ≡ f v) → assign vs ts e v ≡ assign vs ts f v
 unfolding assign elem
 assign-agree [] ts e f n v h = h refl
 assign-agree (w ∷ vs) [] e f n v h = absurd (omega arith)
 assign-agree (w ∷ vs) (t ∷ ts) e f n v h = assign-agree vs ts (update e w t) (update f w t) (omega arith) v (λ q. update-agree e f w t v (λ p. h (rw (p, elem) q)))
 
--- so the instance of a member is the same where the environments agree on it
+-- so names in the instance of a member stand for the same, if the environments agree on the member
 instance-agree : (m : Member) (ts : List (Term Symbol)) (e f : Environment Symbol) → length ts ≡ length (m .prefix) → AgreeOnMember m e f
     → (v : ℕ) → (freeTs (m .arguments) v || freeB (m .body) v) ≡ true → assign (m .prefix) ts e v ≡ assign (m .prefix) ts f v
 unfolding standsFree
@@ -60,7 +62,7 @@ pub record Twin (m : Entry Symbol) (l : List (Entry Symbol)) (h : Mem m l) (twin
   pub places : (k : ℕ) → place k at ≡ place k h
   pub agree : AgreeOnMember (m .member) (m .environment) environment
 
--- a clause's members have twins, if what follows has
+-- members of a clause have twins, if those that follow have
 clause-twin : (e f : Environment Symbol) (R S : List (Entry Symbol)) (ms : List Member) → All (λ m. AgreeOnMember m e f) ms
     → ((m : Entry Symbol) (h : Mem m R) → Twin m R h S) → (m : Entry Symbol) (h : Mem m (map (entry e) ms ++ R)) → Twin m (map (entry e) ms ++ R) h (map (entry f) ms ++ S)
 unfolding place
@@ -70,7 +72,7 @@ clause-twin e f R S (x ∷ ms) a t m (there h) =
     let r = clause-twin e f R S ms (a .1) t m h in
     record { environment = r .environment; at = there (r .at); places = λ k. r .places (suc k); agree = r .agree }
 
--- and so a program's
+-- so members of a program have twins in every program that is like it
 pub program-twin : (P Q : Program Symbol) → Alike P Q → (m : Entry Symbol) (h : Mem m (entries P)) → Twin m (entries P) h (entries Q)
 unfolding entries
 program-twin [] [] a m h = elim h [ ]
@@ -82,7 +84,7 @@ program-twin (p ∷ P) (k ∷ Q) a m h =
     (all-weaken (Within (p .clause)) (λ x. AgreeOnMember x (p .environment) (k .environment)) (λ x w v s. a .1 v (w v s)) (members (p .clause)) (members-within (p .clause)))
     (program-twin P Q (a .2)) m h)
 
--- a derivation with other environments
+-- a derivation has a twin, with the same lines
 mutual
   unfolding lines freeG freeC freeB
 
@@ -103,11 +105,11 @@ mutual
       let r = tree-local x f (hypothesis c f ∷ Q) (λ v k. a v (or-right (freeC c v) (freeG g v) k)) (refl, λ v k. a v (or-left (freeC c v) (freeG g v) k), p) in
       (d-assume (r .0), ap (plain Dassume ∷_) (r .1))
   tree-local (d-some {v = v} {g = g} {e = e} t l x) f Q a p =
-      let r = tree-local x (update f v t) Q (under v g e f t a) p in
+      let r = tree-local x (update f v t) Q (quantifier-agree v g e f t a) p in
       (d-some t l (r .0), ap (Dsome t ∷_) (r .1))
   tree-local (d-all {v = v} {g = g} {e = e} {i = i} n x) f Q a p =
       let c = leaf (made n (suc i)) in
-      let r = tree-local x (update f v c) Q (under v g e f c a) p in
+      let r = tree-local x (update f v c) Q (quantifier-agree v g e f c a) p in
       (d-all n (r .0), ap (Dall c ∷_) (r .1))
   tree-local (d-clause {P = P} {us = us} {e = e} m h ts l q k x) f Q a p =
       let w = program-twin P Q p m h in
@@ -132,6 +134,7 @@ unfolding sheetProgram
 sheet-alike [] e f h = tt
 sheet-alike (c ∷ cs) e f h = (refl, λ v k. absurd (h .0 v k), sheet-alike cs e f (h .1))
 
+-- so an instance of a goal is fixed by the terms for its free variables
 pub local : (cs : List Clause) (g : Goal) → All Closed cs → Local cs g
 unfolding instanceOf
 local cs g h = record { tree = λ e f a d. tree-local d f (sheetProgram cs f) a (sheet-alike cs e f h) }

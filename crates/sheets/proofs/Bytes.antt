@@ -99,31 +99,30 @@ unfolding nameBytes
 name-bytes [] h = tt
 name-bytes (c ∷ cs) h = let p = and-parts (isNameByte c) (nameBytes cs) h in (p .0, name-bytes cs (p .1))
 
--- A name: a letter, then name bytes, 16 bytes at most.
-pub record Name (b : List ℕ) : Type 0 where
-  pub first : ℕ
-  pub others : List ℕ
-  pub bytes : b ≡ first ∷ others
-  pub letter : isLetter first ≡ true
-  pub kinds : Every isNameByte b
-  pub short : length b ≤ maxName
-
--- the parts of a name
-pub name : (b : List ℕ) → isName b ≡ true → Name b
+-- a name is not empty
+pub name-nonempty : isName [] ≡ true → ⊥
 unfolding isName
-name [] h = absurd (true≢false (sym h))
-name (c ∷ cs) h =
-    let p = and-parts (isLetter c && nameBytes cs) (leb (length (c ∷ cs)) maxName) h in
-    let q = and-parts (isLetter c) (nameBytes cs) (p .0) in
-    record {
-      first = c;
-      others = cs;
-      bytes = refl;
-      letter = q .0;
-      kinds = (letter-name c (q .0), name-bytes cs (q .1));
-      short = leb-true (length (c ∷ cs)) maxName (p .1);
-    }
+name-nonempty h = true≢false (sym h)
 
--- the bytes of a name are graphic
+-- it begins with a letter
+pub name-letter : (c : ℕ) (cs : List ℕ) → isName (c ∷ cs) ≡ true → isLetter c ≡ true
+unfolding isName
+name-letter c cs h = and-parts (isLetter c) (nameBytes cs) (and-parts (isLetter c && nameBytes cs) (leb (length (c ∷ cs)) maxName) h .0) .0
+
+-- it has name bytes only
+pub name-kinds : (b : List ℕ) → isName b ≡ true → Every isNameByte b
+unfolding isName
+name-kinds [] h = tt
+name-kinds (c ∷ cs) h =
+    let p = and-parts (isLetter c) (nameBytes cs) (and-parts (isLetter c && nameBytes cs) (leb (length (c ∷ cs)) maxName) h .0) in
+    (letter-name c (p .0), name-bytes cs (p .1))
+
+-- it is short
+pub name-short : (b : List ℕ) → isName b ≡ true → length b ≤ maxName
+unfolding isName
+name-short [] h = omega arith
+name-short (c ∷ cs) h = leb-true (length (c ∷ cs)) maxName (and-parts (isLetter c && nameBytes cs) (leb (length (c ∷ cs)) maxName) h .1)
+
+-- its bytes are graphic
 pub name-is-graphic : (b : List ℕ) → isName b ≡ true → Graphic b
-name-is-graphic b h = all-weaken (λ d. isNameByte d ≡ true) (λ d. 32 < d) name-graphic b (name b h .kinds)
+name-is-graphic b h = all-weaken (λ d. isNameByte d ≡ true) (λ d. 32 < d) name-graphic b (name-kinds b h)

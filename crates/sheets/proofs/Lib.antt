@@ -5,3 +5,4 @@ pub mod Places
 pub mod Bytes
 pub mod Numbers
 pub mod Formed
+pub mod Names

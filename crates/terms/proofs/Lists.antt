@@ -103,11 +103,13 @@ abbrev pub Any : {A : Type 0} → (A → Type 0) → List A → Type 0
 Any P [] = ⊥
 Any P (a ∷ l) = P a ⊎ Any P l
 
+-- some element of the first of two lists
 pub any-left : {A : Type 0} (P : A → Type 0) (x y : List A) → Any P x → Any P (x ++ y)
 any-left P [] y h = absurd h
 any-left P (a ∷ x) y (inl h) = inl h
 any-left P (a ∷ x) y (inr h) = inr (any-left P x y h)
 
+-- some element of the second
 pub any-right : {A : Type 0} (P : A → Type 0) (x y : List A) → Any P y → Any P (x ++ y)
 any-right P [] y h = h
 any-right P (a ∷ x) y h = inr (any-right P x y h)

@@ -1,0 +1,161 @@
+-- T4: act by act the search follows definition 6, and its start is definition 8's.
+use Prim.Native.Nat.{ℕ, zero, suc, _+_, _≤_, _<_}
+use mathlib.Core.Path.{_≡_, refl, sym, ap, subst}
+use mathlib.Core.Bool.{Bool, true, false, cond}
+use mathlib.Core.List.{List, [], _∷_, map}
+use mathlib.Core.Option.{Option, none, some}
+use mathlib.Core.Logic.{inl, inr}
+use native.Mathlib.Omega.{arith}
+use lib.Dec.{eqb}
+use borrow.Author.Tests.{eqb-true}
+use Rattle.terms.specs.Lists.{All}
+use Rattle.terms.specs.Terms.{substitutes}
+use Rattle.terms.proofs.Lists.{all-append}
+use Rattle.terms.proofs.Terms.{substitutes-substitutes}
+use Rattle.formulas.specs.Formulas.{Goal, atom, truth, and, or, implies, exists, forall, Clause, freeG, freeFrom, freeVariables}
+use Rattle.sequents.specs.Sequents.{Environment, Program, Entry, entries, Sequent, sequent, Line, plain, Dtrue}
+use Rattle.sequents.specs.Derivations.{instanceOf}
+use Rattle.unification.specs.Store.{Leaf, Store, fresh, boundTo, solved, solution}
+use Rattle.unification.specs.Matching.{Pair, Matching, pairs, check, fail, pushPairs, comparing, matchStep, matchSteps}
+use Rattle.unification.specs.Promises.{Formed}
+use Rattle.unification.proofs.Invariant.{Good}
+use Rattle.search.specs.Configurations.{Branch, branch, Atom, Configuration, take, try, match, done}
+use Rattle.search.specs.Steps.{proceed, settle, tryFrom, tryMember, takeGoal, step}
+use Rattle.search.specs.Search.{startStore, startGoal, start}
+use Rattle.search.specs.Paper.{g-atom, embed, applyG, formulaG}
+use Rattle.search.specs.Procedure.{paperSequent, identity, By, DerivationSequence, composition, formulasOf, paperOf, initial}
+use Rattle.search.specs.Promises.{FollowsSteps}
+use Rattle.search.proofs.PaperFormulas.{sequent-identity}
+use Rattle.search.proofs.Invariant.{TryBelow, Invariant}
+use Rattle.search.proofs.ProcedurePlaces.{StandsAt, Placed, placed-all}
+use Rattle.search.proofs.ProcedureReached.{Reached, reached-more, reached-goals}
+use Rattle.search.proofs.ProcedureResolved.{atomSequent, triedEnvironment, triedBranch, compared-below, Resolving, resolved}
+use Rattle.search.proofs.ProcedureQuantifiers.{exists-reached, forall-reached}
+
+module _ (cs : List Clause) (g₀ : Goal) where
+  -- What is known of a configuration after u acts: where it stands in the procedure.
+  unfoldable pub Known : ℕ → Configuration → Type 0
+  Known u (take s q b) = Reached cs g₀ u s (map paperOf (q ∷ b .goals)) (b .path)
+  Known u (try s a m ms k b) = Reached cs g₀ u s (atomSequent a ∷ map paperOf (b .goals)) (b .path) × Placed 1 (entries (a .program)) k (m ∷ ms)
+  Known u (match m b) = Resolving cs g₀ u m b
+  Known u (done s ls) = Reached cs g₀ u s [] ls
+
+  pub known-follows : (u : ℕ) (c : Configuration) → Known u c → FollowsSteps cs g₀ c
+  unfolding Known FollowsSteps
+  known-follows u (take s q b) h = h .follows
+  known-follows u (try s a m ms k b) h = h .0 .follows
+  known-follows u (match m b) h = tt
+  known-follows u (done s ls) h = h .follows
+
+  -- It stays known while the configuration waits.
+  pub known-more : (u : ℕ) (c : Configuration) → Known u c → Known (suc u) c
+  unfolding Known
+  known-more u (take s q b) h = reached-more h
+  known-more u (try s a m ms k b) h = (reached-more (h .0), h .1)
+  known-more u (match m b) h = record { tried = h .tried; reached = reached-more (h .reached); acts = h .acts; comes = h .comes }
+  known-more u (done s ls) h = reached-more h
+
+  -- Taking a goal: the cases of definition 6 but (vi) and (vii)
+
+  proceed-known : (u : ℕ) (s : Store) (gs : List (Sequent Leaf)) (ls : List (Line Leaf)) → Reached cs g₀ u s (map paperOf gs) ls → All (Known u) (proceed s gs ls)
+  unfolding proceed Known
+  proceed-known u s [] ls r = (r, tt)
+  proceed-known u s (q ∷ gs) ls r = (r, tt)
+
+  tryFrom-known : (u : ℕ) (s : Store) (a : Atom) (ms : List (Entry Leaf)) (k : ℕ) (b : Branch) → Reached cs g₀ u s (atomSequent a ∷ map paperOf (b .goals)) (b .path)
+      → Placed 1 (entries (a .program)) k ms → All (Known u) (tryFrom s a ms k b)
+  unfolding tryFrom Known
+  tryFrom-known u s a [] k b r p = tt
+  tryFrom-known u s a (m ∷ ms) k b r p = ((r, p), tt)
+
+  takeGoal-known : (u : ℕ) (s : Store) (g : Goal) (e : Environment Leaf) (P : Program Leaf) (i : ℕ) (b : Branch) → Formed s
+      → Reached cs g₀ u s (map paperOf (sequent g e P i ∷ b .goals)) (b .path) → All (Known (suc u)) (takeGoal u s g e P i b)
+  unfolding takeGoal Known paperOf formulasOf formulaG applyG By
+  takeGoal-known u s (atom p ts) e P i b f r =
+      tryFrom-known (suc u) s (record { predicate = p; arguments = substitutes ts e; program = P; level = i }) (entries P) 1 b
+      (subst (λ us. Reached cs g₀ (suc u) s (paperSequent (g-atom p us) (formulasOf P) i ∷ map paperOf (b .goals)) (b .path)) (sym (substitutes-substitutes ts e embed)) (reached-more r)) (placed-all 1 (entries P))
+  takeGoal-known u s truth e P i b f r = proceed-known (suc u) s (b .goals) (plain Dtrue ∷ b .path) (reached-goals r (refl, refl))
+  takeGoal-known u s (and g h) e P i b f r = (reached-goals r (refl, refl), tt)
+  takeGoal-known u s (or g h) e P i b f r = (reached-goals r (inl (refl, refl)), (reached-goals r (inr (refl, refl)), tt))
+  takeGoal-known u s (implies c g) e P i b f r = (reached-goals r (refl, refl), tt)
+  takeGoal-known u s (exists v g) e P i b f r = (exists-reached v g e P i f r, tt)
+  takeGoal-known u s (forall v g) e P i b f r = (forall-reached v g e P i r, tt)
+
+  -- Trying a member, and matching
+
+  settle-known : (u : ℕ) (m : Matching) (b : Branch) → Resolving cs g₀ u m b → All (Known u) (settle m b)
+  unfolding settle Known
+  settle-known u (pairs s []) b h = proceed-known u s (b .goals) (b .path) (resolved h)
+  settle-known u (pairs s (p ∷ ps)) b h = (h, tt)
+  settle-known u (check s y t n ns ps) b h = (h, tt)
+  settle-known u fail b h = tt
+
+  tryMember-known : (u : ℕ) (s : Store) (a : Atom) (m : Entry Leaf) (ms : List (Entry Leaf)) (k : ℕ) (b : Branch) → Good (TryBelow a (m ∷ ms) (b .goals)) s
+      → Reached cs g₀ u s (atomSequent a ∷ map paperOf (b .goals)) (b .path) → StandsAt 1 (entries (a .program)) k m → a .predicate ≡ m .member .predicate → All (Known u) (tryMember s a m k b)
+  unfolding tryMember comparing settle matchSteps
+  tryMember-known u s a m ms k b o r p q = go (pushPairs (a .arguments) (substitutes (m .member .arguments) (triedEnvironment s m)) []) refl
+    where
+      go : (x : Option (List Pair)) → pushPairs (a .arguments) (substitutes (m .member .arguments) (triedEnvironment s m)) [] ≡ x
+          → All (Known u) (settle (comparing (fresh (m .member .prefix) (a .level) s) x) (triedBranch s a m k b))
+      go none e = tt
+      go (some qs) e = settle-known u (pairs (fresh (m .member .prefix) (a .level) s) qs) (triedBranch s a m k b) (record {
+        tried = record {
+          store = s;
+          atom = a;
+          entry = m;
+          k = k;
+          before = b;
+          branch = refl;
+          formed = o .formed;
+          placed = p;
+          predicate = q;
+          pairs = qs;
+          compared = e;
+          below = compared-below s a m qs (o .extra .arguments) (o .extra .members .0) e;
+        };
+        reached = r;
+        acts = 0;
+        comes = refl;
+      })
+
+  -- An act leads on by definition 6.
+  pub step-known : (u : ℕ) (c : Configuration) → Invariant c → Known u c → All (Known (suc u)) (step u c)
+  unfolding step Known Invariant matchSteps
+  step-known u (take s q b) o h = takeGoal-known u s (q .goal) (q .environment) (q .program) (q .level) b (o .formed) h
+  step-known u (try s a m ms k b) o h =
+      all-append (Known (suc u)) (cond (eqb (a .predicate) (m .member .predicate)) (tryMember s a m k b) []) (tryFrom s a ms (suc k) b)
+      (go (eqb (a .predicate) (m .member .predicate)) refl) (tryFrom-known (suc u) s a ms (suc k) b (reached-more (h .0)) (h .1 .1))
+    where
+      go : (same : Bool) → eqb (a .predicate) (m .member .predicate) ≡ same → All (Known (suc u)) (cond same (tryMember s a m k b) [])
+      go true e = tryMember-known (suc u) s a m ms k b o (reached-more (h .0)) (h .1 .0) (eqb-true (a .predicate) (m .member .predicate) e)
+      go false e = tt
+  step-known u (match m b) o h = settle-known (suc u) (matchStep m) b (record { tried = h .tried; reached = reached-more (h .reached); acts = suc (h .acts); comes = ap matchStep (h .comes) })
+  step-known u (done s ls) o h = (reached-more h, tt)
+
+  -- The start is definition 8's first state
+
+  freeFrom-below : (n v k : ℕ) (g : Goal) → n + v ≤ k → All (λ x. x < k) (freeFrom n v g)
+  unfolding freeFrom
+  freeFrom-below zero v k g l = tt
+  freeFrom-below (suc n) v k g l = go (freeG g v) (freeFrom-below n (suc v) k g (omega arith))
+    where
+      go : (b : Bool) → All (λ x. x < k) (freeFrom n (suc v) g) → All (λ x. x < k) (elim b [ true ↦ v ∷ freeFrom n (suc v) g | false ↦ freeFrom n (suc v) g ])
+      go true h = (omega arith, h)
+      go false h = h
+
+  pub start-known : All (Known 0) (start cs g₀)
+  unfolding start startStore startGoal instanceOf Known initial identity composition solution solved boundTo freeVariables paperOf
+  start-known = (
+    record {
+      follows = record {
+        state = initial cs g₀;
+        sequence = DerivationSequence.start;
+        goals = ap (_∷ []) (sym (sequent-identity (startGoal cs g₀)));
+        labels = λ x u. refl;
+        answer = λ x. refl;
+      };
+      constants = tt;
+      variables = freeFrom-below 8 0 8 g₀ (omega arith);
+    },
+    tt,
+  )
