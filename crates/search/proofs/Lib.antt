@@ -7,7 +7,9 @@ pub mod Values
 pub mod Answers
 pub mod Sound
 pub mod Complete
-pub mod PaperFormulas
+pub mod PaperApply
+pub mod PaperReplace
+pub mod PaperNames
 pub mod PaperElab
 pub mod ProcedureFresh
 pub mod ProcedureRenaming

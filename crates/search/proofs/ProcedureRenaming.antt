@@ -1,5 +1,5 @@
--- Definition 6 (vi), (vii): the renaming substitution for the fresh variables gives the member's head and body in the
--- environment that the search has for them.
+-- Definition 6 (vi), (vii): the renaming substitution for the fresh variables of a prefix gives the head and the body of the
+-- member in the environment that the search has for them.
 use Prim.Native.Nat.{ℕ, suc, _≤_}
 use mathlib.Core.Path.{_≡_, refl, sym, _∙_, ap, ap₂, fun-ext}
 use mathlib.Core.Bool.{Bool, true, false, cond}
@@ -16,71 +16,86 @@ use Rattle.formulas.specs.Formulas.{Goal}
 use Rattle.sequents.specs.Sequents.{Environment, putEnvironment, Program, putTerms, assign, bodySequent}
 use Rattle.sequents.proofs.Sequents.{assign-put}
 use Rattle.unification.specs.Store.{Leaf, var, freshVariables, at}
-use Rattle.search.specs.Paper.{name, free, Names, bound, onNames, embed, applyD, formulaG, names}
-use Rattle.search.specs.Procedure.{paperSequent, applySequent, renaming, paperBody, formulasOf, paperOf}
-use Rattle.search.proofs.PaperFormulas.{embed-onNames, formulaG-apply, formulaG-onNames, Tidy, tidy-names, tidy-bound}
-use Rattle.search.proofs.PaperElab.{boundBy, formulaB}
+use Rattle.search.specs.Paper.{name, free, Names, bound, onNames, embed, formulaG, names}
+use Rattle.search.specs.Procedure.{paperSequent, applySequent, renaming, paperBody, paperOf}
+use Rattle.search.proofs.PaperApply.{formulaG-apply, formulasAt}
+use Rattle.search.proofs.PaperReplace.{embed-put, Tidy, tidy-names, tidy-bound, formulaG-put}
+use Rattle.search.proofs.PaperNames.{formulaB}
+use Rattle.search.proofs.PaperElab.{boundBy}
 use Rattle.search.proofs.ProcedureFresh.{numbers}
 
--- A substitution that leaves the fresh variables alone goes to the rest of the environment.
-freshVariables-apply : (θ : ℕ → Term Leaf) (vs : List ℕ) (n : ℕ) → ((x : ℕ) → n ≤ x → θ x ≡ leaf (var x)) → putTerms (at θ) (freshVariables vs n) ≡ freshVariables vs n
+-- The search's environment with fresh variables, from n on, for the names of a prefix.
+abbrev pub freshEnvironment : List ℕ → ℕ → Environment Leaf → Environment Leaf
+freshEnvironment vs n e = assign vs (freshVariables vs n) e
+
+-- The paper's renaming substitution {⟨x₁, w₁⟩, …} for them.
+abbrev pub freshRenaming : List ℕ → ℕ → Names
+freshRenaming vs n = renaming vs (numbers vs n) (λ v. leaf (name v))
+
+-- Bindings of older variables
+
+-- The bindings θ leave the variables from n on alone.
+abbrev pub Older : (ℕ → Term Leaf) → ℕ → Type 0
+Older θ n = (x : ℕ) → n ≤ x → θ x ≡ leaf (var x)
+
+-- So they leave the fresh variables alone
+freshVariables-apply : (θ : ℕ → Term Leaf) (vs : List ℕ) (n : ℕ) → Older θ n → putTerms (at θ) (freshVariables vs n) ≡ freshVariables vs n
 unfolding freshVariables substitute at
 freshVariables-apply θ [] n h = refl
 freshVariables-apply θ (v ∷ vs) n h = ap₂ _∷_ (h n (omega arith)) (freshVariables-apply θ vs (suc n) (λ x l. h x (omega arith)))
 
-pub assign-apply : (θ : ℕ → Term Leaf) (vs : List ℕ) (n : ℕ) (e : Environment Leaf) → ((x : ℕ) → n ≤ x → θ x ≡ leaf (var x))
-    → putEnvironment (at θ) (assign vs (freshVariables vs n) e) ≡ assign vs (freshVariables vs n) (putEnvironment (at θ) e)
-assign-apply θ vs n e h = assign-put (at θ) vs (freshVariables vs n) e ∙ ap (λ ts. assign vs ts (putEnvironment (at θ) e)) (freshVariables-apply θ vs n h)
+-- and go to the rest of the environment.
+pub fresh-apply : (θ : ℕ → Term Leaf) (vs : List ℕ) (n : ℕ) (e : Environment Leaf) → Older θ n → putEnvironment (at θ) (freshEnvironment vs n e) ≡ freshEnvironment vs n (putEnvironment (at θ) e)
+fresh-apply θ vs n e h = assign-put (at θ) vs (freshVariables vs n) e ∙ ap (λ ts. assign vs ts (putEnvironment (at θ) e)) (freshVariables-apply θ vs n h)
 
--- Under ρ, then π, each name comes to what e says.
-abbrev Ready : Names → Names → Environment Leaf → Type 0
-Ready ρ π e = (u : ℕ) → (ρ u ≡ names e u) ⊎ ((ρ u ≡ leaf (name u)) × (π u ≡ names e u))
+-- Renaming
 
-ready-bound : (ρ π : Names) (e : Environment Leaf) (v w : ℕ) → Ready ρ π e → Ready (bound ρ v) (update π v (leaf (free (var w)))) (update e v (leaf (var w)))
+-- ρ, and then π, gives each name what e says.
+abbrev Ready : Names → Names → Environment Leaf → ℕ → Type 0
+Ready ρ π e u = (ρ u ≡ names e u) ⊎ ((ρ u ≡ leaf (name u)) × (π u ≡ names e u))
+
+-- One name of the prefix.
+ready-bound : (ρ π : Names) (e : Environment Leaf) (v w u : ℕ) → Ready ρ π e u → Ready (bound ρ v) (update π v (leaf (free (var w)))) (update e v (leaf (var w))) u
 unfolding update substitute embed
-ready-bound ρ π e v w h u = go (eqb u v) refl
+ready-bound ρ π e v w u h = go (eqb u v) refl
   where
-    go : (b : Bool) → eqb u v ≡ b
-        → (cond b (leaf (name v)) (ρ u) ≡ substitute (cond b (leaf (var w)) (e u)) embed)
-        ⊎ ((cond b (leaf (name v)) (ρ u) ≡ leaf (name u)) × (cond b (leaf (free (var w))) (π u) ≡ substitute (cond b (leaf (var w)) (e u)) embed))
+    go : (b : Bool) → eqb u v ≡ b → Ready (λ x. cond b (leaf (name v)) (ρ x)) (λ x. cond b (leaf (free (var w))) (π x)) (λ x. cond b (leaf (var w)) (e x)) u
     go true q = inr (ap (λ x. leaf (name x)) (sym (eqb-true u v q)), refl)
-    go false q = h u
+    go false q = h
 
-renaming-ready : (vs : List ℕ) (n : ℕ) (ρ π : Names) (e : Environment Leaf) → Ready ρ π e
-    → (u : ℕ) → substitute (boundBy vs ρ u) (onNames (renaming vs (numbers vs n) π)) ≡ names (assign vs (freshVariables vs n) e) u
+-- All of them.
+renaming-ready : (vs : List ℕ) (n : ℕ) (ρ π : Names) (e : Environment Leaf) (u : ℕ) → Ready ρ π e u
+    → substitute (boundBy vs ρ u) (onNames (renaming vs (numbers vs n) π)) ≡ names (freshEnvironment vs n e) u
 unfolding boundBy numbers renaming assign freshVariables substitute onNames
-renaming-ready [] n ρ π e h u = go (h u)
-  where
-    go : (ρ u ≡ names e u) ⊎ ((ρ u ≡ leaf (name u)) × (π u ≡ names e u)) → substitute (ρ u) (onNames π) ≡ names e u
-    go (inl q) = rw q (embed-onNames (e u) π)
-    go (inr q) = rw (q .0) (q .1)
-renaming-ready (v ∷ vs) n ρ π e h u = renaming-ready vs (suc n) (bound ρ v) (update π v (leaf (free (var n)))) (update e v (leaf (var n))) (ready-bound ρ π e v n h) u
+renaming-ready [] n ρ π e u (inl q) = rw q (embed-put (e u) π)
+renaming-ready [] n ρ π e u (inr q) = rw (q .0) (q .1)
+renaming-ready (v ∷ vs) n ρ π e u h = renaming-ready vs (suc n) (bound ρ v) (update π v (leaf (free (var n)))) (update e v (leaf (var n))) u (ready-bound ρ π e v n u h)
 
 -- What the names below a prefix stand for, once renamed.
-renaming-names : (vs : List ℕ) (n : ℕ) (e : Environment Leaf)
-    → _≡_ {A = Names} (λ u. substitute (boundBy vs (names e) u) (onNames (renaming vs (numbers vs n) (λ v. leaf (name v))))) (names (assign vs (freshVariables vs n) e))
-renaming-names vs n e = fun-ext (renaming-ready vs n (names e) (λ v. leaf (name v)) e (λ u. inl refl))
+renaming-names : (vs : List ℕ) (n : ℕ) (e : Environment Leaf) → _≡_ {A = Names} (λ u. substitute (boundBy vs (names e) u) (onNames (freshRenaming vs n))) (names (freshEnvironment vs n e))
+renaming-names vs n e = fun-ext (λ u. renaming-ready vs n (names e) (λ v. leaf (name v)) e u (inl refl))
 
--- The head.
+-- The arguments of the head.
 pub renaming-head : (ts : Terms ℕ) (vs : List ℕ) (n : ℕ) (e : Environment Leaf)
-    → substitutes (substitutes ts (boundBy vs (names e))) (onNames (renaming vs (numbers vs n) (λ v. leaf (name v)))) ≡ substitutes (substitutes ts (assign vs (freshVariables vs n) e)) embed
+    → substitutes (substitutes ts (boundBy vs (names e))) (onNames (freshRenaming vs n)) ≡ substitutes (substitutes ts (freshEnvironment vs n e)) embed
 renaming-head ts vs n e =
-    substitutes-substitutes ts (boundBy vs (names e)) (onNames (renaming vs (numbers vs n) (λ v. leaf (name v))))
-    ∙ ap (substitutes ts) (renaming-names vs n e)
-    ∙ sym (substitutes-substitutes ts (assign vs (freshVariables vs n) e) embed)
+    substitutes-substitutes ts (boundBy vs (names e)) (onNames (freshRenaming vs n)) ∙ ap (substitutes ts) (renaming-names vs n e) ∙ sym (substitutes-substitutes ts (freshEnvironment vs n e) embed)
 
+-- Below a prefix each name stands for itself or for a term of the search.
 tidy-boundBy : (vs : List ℕ) (ρ : Names) → Tidy ρ → Tidy (boundBy vs ρ)
 unfolding boundBy
 tidy-boundBy [] ρ h = h
 tidy-boundBy (v ∷ vs) ρ h = tidy-boundBy vs (bound ρ v) (tidy-bound ρ v h)
 
--- The body, bindings applied.
-pub renaming-body : (o : Option Goal) (vs : List ℕ) (n : ℕ) (e : Environment Leaf) (P : Program Leaf) (i : ℕ) (θ : ℕ → Term Leaf) → ((x : ℕ) → n ≤ x → θ x ≡ leaf (var x))
-    → paperBody (formulaB o (boundBy vs (names (putEnvironment (at θ) e)))) (renaming vs (numbers vs n) (λ v. leaf (name v))) (map (λ d. applyD d θ) (formulasOf P)) i
-    ≡ map (applySequent θ) (map paperOf (bodySequent o (assign vs (freshVariables vs n) e) P i))
+-- The body, the bindings θ applied.
+pub renaming-body : (o : Option Goal) (vs : List ℕ) (n : ℕ) (e : Environment Leaf) (P : Program Leaf) (i : ℕ) (θ : ℕ → Term Leaf) → Older θ n
+    → paperBody (formulaB o (boundBy vs (names (putEnvironment (at θ) e)))) (freshRenaming vs n) (formulasAt θ P) i ≡ map (applySequent θ) (map paperOf (bodySequent o (freshEnvironment vs n e) P i))
 unfolding paperBody bodySequent paperOf
 renaming-body none vs n e P i θ h = refl
-renaming-body (some g) vs n e P i θ h = ap (λ f. paperSequent f (map (λ d. applyD d θ) (formulasOf P)) i ∷ []) (
-    formulaG-onNames g (boundBy vs (names (putEnvironment (at θ) e))) (renaming vs (numbers vs n) (λ v. leaf (name v))) (tidy-boundBy vs (names (putEnvironment (at θ) e)) (tidy-names (putEnvironment (at θ) e)))
-    ∙ ap (formulaG g) (renaming-names vs n (putEnvironment (at θ) e) ∙ ap names (sym (assign-apply θ vs n e h)))
-    ∙ sym (formulaG-apply g (assign vs (freshVariables vs n) e) θ))
+renaming-body (some g) vs n e P i θ h = ap (λ k. paperSequent k (formulasAt θ P) i ∷ []) (
+    formulaG-put g (boundBy vs (names f)) (freshRenaming vs n) (tidy-boundBy vs (names f) (tidy-names f))
+    ∙ ap (formulaG g) (renaming-names vs n f ∙ ap names (sym (fresh-apply θ vs n e h)))
+    ∙ sym (formulaG-apply g (freshEnvironment vs n e) θ))
+  where
+    f : Environment Leaf
+    f = putEnvironment (at θ) e

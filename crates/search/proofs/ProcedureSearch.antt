@@ -14,10 +14,12 @@ use Rattle.search.proofs.After.{after-all, comes-stands}
 use Rattle.search.proofs.Invariant.{Invariant, step-keeps, start-invariant, after-formed}
 use Rattle.search.proofs.ProcedureSteps.{Known, known-follows, known-more, step-known, start-known}
 
+-- Two properties of all elements at once.
 all-both : {A : Type 0} (P Q : A → Type 0) (l : List A) → All P l → All Q l → All (λ a. P a × Q a) l
 all-both P Q [] h k = tt
 all-both P Q (a ∷ l) h k = ((h .0, k .0), all-both P Q l (h .1) (k .1))
 
+-- What is known of all configurations, by induction over the acts.
 follows : (cs : List Clause) (g : Goal) (n : ℕ) → All (FollowsSteps cs g) (after cs g n)
 follows cs g n =
     all-weaken (Both n) (FollowsSteps cs g) (λ c h. known-follows cs g n c (h .1)) (after cs g n)
@@ -27,6 +29,7 @@ follows cs g n =
     Both : ℕ → Configuration → Type 0
     Both u c = Invariant c × Known cs g u c
 
+-- T4
 pub allSteps : AllSteps
 unfolding FollowsSteps
 allSteps cs g = record {

@@ -25,12 +25,22 @@ use Rattle.search.specs.Search.{startStore, startGoal, start}
 use Rattle.search.specs.Paper.{g-atom, embed, applyG, formulaG}
 use Rattle.search.specs.Procedure.{paperSequent, identity, By, DerivationSequence, composition, formulasOf, paperOf, initial}
 use Rattle.search.specs.Promises.{FollowsSteps}
-use Rattle.search.proofs.PaperFormulas.{sequent-identity}
+use Rattle.search.proofs.PaperApply.{sequent-identity}
 use Rattle.search.proofs.Invariant.{TryBelow, Invariant}
 use Rattle.search.proofs.ProcedurePlaces.{StandsAt, Placed, placed-all}
 use Rattle.search.proofs.ProcedureReached.{Reached, reached-more, reached-goals}
 use Rattle.search.proofs.ProcedureResolved.{atomSequent, triedEnvironment, triedBranch, compared-below, Resolving, resolved}
 use Rattle.search.proofs.ProcedureQuantifiers.{exists-reached, forall-reached}
+
+-- Of n names from v on, those that are free are below n + v.
+freeFrom-below : (n v k : ℕ) (g : Goal) → n + v ≤ k → All (λ x. x < k) (freeFrom n v g)
+unfolding freeFrom
+freeFrom-below zero v k g l = tt
+freeFrom-below (suc n) v k g l = go (freeG g v) (freeFrom-below n (suc v) k g (omega arith))
+  where
+    go : (b : Bool) → All (λ x. x < k) (freeFrom n (suc v) g) → All (λ x. x < k) (elim b [ true ↦ v ∷ freeFrom n (suc v) g | false ↦ freeFrom n (suc v) g ])
+    go true h = (omega arith, h)
+    go false h = h
 
 module _ (cs : List Clause) (g₀ : Goal) where
   -- What is known of a configuration after u acts: where it stands in the procedure.
@@ -40,6 +50,7 @@ module _ (cs : List Clause) (g₀ : Goal) where
   Known u (match m b) = Resolving cs g₀ u m b
   Known u (done s ls) = Reached cs g₀ u s [] ls
 
+  -- It follows the steps.
   pub known-follows : (u : ℕ) (c : Configuration) → Known u c → FollowsSteps cs g₀ c
   unfolding Known FollowsSteps
   known-follows u (take s q b) h = h .follows
@@ -57,17 +68,20 @@ module _ (cs : List Clause) (g₀ : Goal) where
 
   -- Taking a goal: the cases of definition 6 but (vi) and (vii)
 
+  -- The goals that wait come next.
   proceed-known : (u : ℕ) (s : Store) (gs : List (Sequent Leaf)) (ls : List (Line Leaf)) → Reached cs g₀ u s (map paperOf gs) ls → All (Known u) (proceed s gs ls)
   unfolding proceed Known
   proceed-known u s [] ls r = (r, tt)
   proceed-known u s (q ∷ gs) ls r = (r, tt)
 
+  -- The members that are left come next, at their places.
   tryFrom-known : (u : ℕ) (s : Store) (a : Atom) (ms : List (Entry Leaf)) (k : ℕ) (b : Branch) → Reached cs g₀ u s (atomSequent a ∷ map paperOf (b .goals)) (b .path)
       → Placed 1 (entries (a .program)) k ms → All (Known u) (tryFrom s a ms k b)
   unfolding tryFrom Known
   tryFrom-known u s a [] k b r p = tt
   tryFrom-known u s a (m ∷ ms) k b r p = ((r, p), tt)
 
+  -- Each goal by its case; an atom waits for (vi) and (vii).
   takeGoal-known : (u : ℕ) (s : Store) (g : Goal) (e : Environment Leaf) (P : Program Leaf) (i : ℕ) (b : Branch) → Formed s
       → Reached cs g₀ u s (map paperOf (sequent g e P i ∷ b .goals)) (b .path) → All (Known (suc u)) (takeGoal u s g e P i b)
   unfolding takeGoal Known paperOf formulasOf formulaG applyG By
@@ -83,6 +97,7 @@ module _ (cs : List Clause) (g₀ : Goal) where
 
   -- Trying a member, and matching
 
+  -- Where all pairs are matched, the case has been applied.
   settle-known : (u : ℕ) (m : Matching) (b : Branch) → Resolving cs g₀ u m b → All (Known u) (settle m b)
   unfolding settle Known
   settle-known u (pairs s []) b h = proceed-known u s (b .goals) (b .path) (resolved h)
@@ -90,6 +105,7 @@ module _ (cs : List Clause) (g₀ : Goal) where
   settle-known u (check s y t n ns ps) b h = (h, tt)
   settle-known u fail b h = tt
 
+  -- A match begins.
   tryMember-known : (u : ℕ) (s : Store) (a : Atom) (m : Entry Leaf) (ms : List (Entry Leaf)) (k : ℕ) (b : Branch) → Good (TryBelow a (m ∷ ms) (b .goals)) s
       → Reached cs g₀ u s (atomSequent a ∷ map paperOf (b .goals)) (b .path) → StandsAt 1 (entries (a .program)) k m → a .predicate ≡ m .member .predicate → All (Known u) (tryMember s a m k b)
   unfolding tryMember comparing settle matchSteps
@@ -111,7 +127,7 @@ module _ (cs : List Clause) (g₀ : Goal) where
           predicate = q;
           pairs = qs;
           compared = e;
-          below = compared-below s a m qs (o .extra .arguments) (o .extra .members .0) e;
+          below = compared-below s a m qs (o .formed) (o .extra .arguments) (o .extra .members .0) e;
         };
         reached = r;
         acts = 0;
@@ -132,17 +148,7 @@ module _ (cs : List Clause) (g₀ : Goal) where
   step-known u (match m b) o h = settle-known (suc u) (matchStep m) b (record { tried = h .tried; reached = reached-more (h .reached); acts = suc (h .acts); comes = ap matchStep (h .comes) })
   step-known u (done s ls) o h = (reached-more h, tt)
 
-  -- The start is definition 8's first state
-
-  freeFrom-below : (n v k : ℕ) (g : Goal) → n + v ≤ k → All (λ x. x < k) (freeFrom n v g)
-  unfolding freeFrom
-  freeFrom-below zero v k g l = tt
-  freeFrom-below (suc n) v k g l = go (freeG g v) (freeFrom-below n (suc v) k g (omega arith))
-    where
-      go : (b : Bool) → All (λ x. x < k) (freeFrom n (suc v) g) → All (λ x. x < k) (elim b [ true ↦ v ∷ freeFrom n (suc v) g | false ↦ freeFrom n (suc v) g ])
-      go true h = (omega arith, h)
-      go false h = h
-
+  -- The start is definition 8's first state.
   pub start-known : All (Known 0) (start cs g₀)
   unfolding start startStore startGoal instanceOf Known initial identity composition solution solved boundTo freeVariables paperOf
   start-known = (

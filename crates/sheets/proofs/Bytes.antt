@@ -1,16 +1,15 @@
 -- Laws of bytes: equal bytes, bytes that are absent, names.
-use Prim.Native.Nat.{ℕ, suc, _≤_, _<_}
-use Prim.Native.Char.{code}
-use mathlib.Core.Path.{_≡_, refl, sym, ap₂}
+use Prim.Native.Nat.{ℕ, _≤_, _<_}
+use mathlib.Core.Path.{_≡_, refl, sym, _∙_, ap, ap₂}
 use mathlib.Core.Bool.{Bool, true, false, _&&_, _||_, true≢false}
-use mathlib.Core.List.{List, [], _∷_, _++_}
+use mathlib.Core.List.{List, [], _∷_}
 use lib.Dec.{eqb, leb}
 use lib.ListN.{length}
 use borrow.Author.Tests.{eqb-true, eq-eqb, ne-eqb, leb-true}
 use native.Mathlib.Omega.{arith}
 use Rattle.terms.specs.Lists.{All}
 use Rattle.terms.proofs.Lists.{all-weaken}
-use Rattle.formulas.proofs.Free.{and-parts, or-left, or-right}
+use Rattle.formulas.proofs.Free.{and-parts, or-left}
 use Rattle.sheets.specs.Limits.{maxName}
 use Rattle.sheets.specs.Bytes.{isDigit, isLetter, isNameByte, nameBytes, isName, sameBytes}
 
@@ -53,6 +52,11 @@ Graphic b = All (λ d. 32 < d) b
 -- neither tab nor LF nor space is graphic
 pub graphic-without : (c : ℕ) → c ≤ 32 → (b : List ℕ) → Graphic b → Without c b
 graphic-without c h b g = all-weaken (λ d. 32 < d) (λ d. eqb d c ≡ false) (λ d l. ne-eqb d c (λ e. omega arith)) b g
+
+-- a byte of another kind is absent: so a number has no tab, LF, `@`, bracket or comma
+pub every-without : (k : ℕ → Bool) (c : ℕ) → k c ≡ false → (b : List ℕ) → Every k b → Without c b
+every-without k c h b g =
+    all-weaken (λ d. k d ≡ true) (λ d. eqb d c ≡ false) (λ d l. ne-eqb d c (λ e. true≢false (sym l ∙ ap k e ∙ h))) b g
 
 -- kinds of bytes
 

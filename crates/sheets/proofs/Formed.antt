@@ -1,8 +1,8 @@
 -- Well-formed terms, goals and clauses over declared symbols: each symbol is declared, of its kind, and has its arity of terms;
 -- the names of variables are below 8. Formedness is kept when declarations are added; a name that stands free is below 8.
-use Prim.Native.Nat.{ℕ, suc, _≤_, _<_}
+use Prim.Native.Nat.{ℕ, _<_}
 use mathlib.Core.Path.{_≡_, refl, sym, subst}
-use mathlib.Core.Bool.{Bool, true, false, not, _&&_, _||_, true≢false}
+use mathlib.Core.Bool.{Bool, true, false, not, _||_, true≢false}
 use mathlib.Core.List.{List, _++_}
 use mathlib.Core.Option.{some}
 use mathlib.Core.Logic.{_⊎_, inl, inr}

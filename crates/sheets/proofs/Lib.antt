@@ -6,3 +6,6 @@ pub mod Bytes
 pub mod Numbers
 pub mod Formed
 pub mod Names
+pub mod SheetLines
+pub mod Nodes
+pub mod Good

@@ -1,19 +1,18 @@
 -- Laws of numbers in base ten: `number` reads back what `decimal` writes, and only that.
 use Prim.Native.Nat.{ℕ, zero, suc, _+_, _-_, _*_, _/_, _%_, _≤_, _<_}
-use Prim.Native.Char.{code}
 use mathlib.Core.Path.{_≡_, refl, sym, _∙_, ap, ap₂}
-use mathlib.Core.Bool.{Bool, true, false, _&&_, cond}
+use mathlib.Core.Bool.{Bool, true, false}
 use mathlib.Core.List.{List, [], _∷_}
 use mathlib.Core.Option.{Option, none, some}
 use lib.Dec.{eqb, leb, ltb}
-use borrow.Author.Tests.{eqb-true, eqb-false, ne-eqb, le-leb, leb-true, lt-ltb, le-ltb, ltb-true, ltb-false}
+use borrow.Author.Tests.{eqb-false, ne-eqb, le-leb, leb-true, lt-ltb, le-ltb, ltb-true, ltb-false}
 use native.Mathlib.Omega.{arith}
 use Rattle.terms.specs.Lists.{All}
 use Rattle.terms.proofs.Lists.{all-weaken}
 use Rattle.sheets.specs.Limits.{maxNumber}
 use Rattle.sheets.specs.Bytes.{isDigit, digitsFrom, atMost, number, digits, decimal}
 use Rattle.sheets.proofs.Options.{OnSome, cond-some, some-is}
-use Rattle.sheets.proofs.Bytes.{Every, Graphic, digit-bounds}
+use Rattle.sheets.proofs.Bytes.{Without, Every, every-without, Graphic, digit-bounds}
 
 -- a digit of that value
 pub digit-of : (n : ℕ) → n < 10 → isDigit (48 + n) ≡ true
@@ -62,6 +61,10 @@ decimal-digits n = digits-all (λ c. isDigit c ≡ true) digit-of (suc n) n [] t
 pub decimal-graphic : (n : ℕ) → Graphic (decimal n)
 decimal-graphic n = all-weaken (λ c. isDigit c ≡ true) (λ c. 32 < c) (λ c h. let r = digit-bounds c h in omega arith) (decimal n) (decimal-digits n)
 
+-- so that it has no byte that is no digit
+pub decimal-without : (n c : ℕ) → isDigit c ≡ false → Without c (decimal n)
+decimal-without n c h = every-without isDigit c h (decimal n) (decimal-digits n)
+
 -- a number is not empty; unless it is 0, no zero comes first
 digits-first : (f n : ℕ) (ds : List ℕ) → n < f → (c : ℕ) × (cs : List ℕ) × (digits f n ds ≡ c ∷ cs) × (1 ≤ n → eqb c 48 ≡ false)
 digits-first zero n ds h = absurd (omega arith)
@@ -76,6 +79,7 @@ digits-first (suc f) n ds h = go (ltb n 10) refl (digits-first f (n / 10) ((48 +
         let r = ih (omega arith) in
         (r .0, r .1, digits-more f n ds l ∙ r .2, λ k. r .3 (omega arith))
 
+-- the same of a number in base ten
 pub decimal-first : (n : ℕ) → (c : ℕ) × (cs : List ℕ) × (decimal n ≡ c ∷ cs) × (1 ≤ n → eqb c 48 ≡ false)
 unfolding decimal
 decimal-first n = digits-first (suc n) n [] (omega arith)

@@ -26,3 +26,8 @@ some-weaken P Q h (some a) k = h a k
 -- the value that there is
 pub some-is : {A : Type 0} (P : A → Type 0) (o : Option A) (a : A) → OnSome P o → o ≡ some a → P a
 some-is P o a h e = subst (OnSome P) e h
+
+-- of any value
+pub any-some : {A : Type 0} (o : Option A) → OnSome (λ a. Unit {0}) o
+any-some none = tt
+any-some (some a) = tt

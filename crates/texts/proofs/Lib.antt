@@ -1,2 +1,12 @@
 pub mod Computing
 pub mod Cases
+pub mod Splitting
+pub mod Spans
+pub mod Symbols
+pub mod ReadTerms
+pub mod Reading
+pub mod Infer
+pub mod Numbering
+pub mod Stages
+pub mod Judge
+pub mod Exact

@@ -1,0 +1,1 @@
+// The lent table, see specs/ and proofs/.
