@@ -3,3 +3,4 @@ pub mod Cases
 pub mod Answered
 pub mod Demand3
 pub mod Buffers
+pub mod Promises

@@ -54,10 +54,14 @@ unfoldable pub freeB : Option Goal → ℕ → Bool
 freeB none v = false
 freeB (some g) v = freeG g v
 
--- "Free variables of the goal are the ones reported": of n names from v on, ascending; the names are 0 to 7.
+-- "variable v, 0 to 7": the names of a sheet.
+abbrev pub variableNames : ℕ
+variableNames = 8
+
+-- "Free variables of the goal are the ones reported": of n names from v on, ascending.
 unfoldable pub freeFrom : ℕ → ℕ → Goal → List ℕ
 freeFrom zero v g = []
 freeFrom (suc n) v g = elim (freeG g v) [ true ↦ v ∷ freeFrom n (suc v) g | false ↦ freeFrom n (suc v) g ]
 
 unfoldable pub freeVariables : Goal → List ℕ
-freeVariables g = freeFrom 8 0 g
+freeVariables g = freeFrom variableNames 0 g

@@ -7,6 +7,9 @@ pub mod Values
 pub mod Answers
 pub mod Sound
 pub mod Complete
+pub mod Formed
+pub mod FormedStores
+pub mod Bounds
 pub mod PaperApply
 pub mod PaperReplace
 pub mod PaperNames
@@ -17,6 +20,7 @@ pub mod ProcedurePairs
 pub mod ProcedurePlaces
 pub mod ProcedureReached
 pub mod ProcedureQuantifiers
+pub mod ProcedureTried
 pub mod ProcedureResolved
 pub mod ProcedureSteps
 pub mod ProcedureSearch

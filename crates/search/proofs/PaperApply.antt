@@ -65,7 +65,8 @@ formulaD-apply : (d : Clause) (e : Environment Leaf) (θ : ℕ → Term Leaf) �
 formulaD-apply d e θ = formulaD-onFree d (names e) θ ∙ ap (formulaD d) (names-apply e θ)
 
 -- A goal under a quantifier.
-pub formulaG-bound : (g : Goal) (e : Environment Leaf) (v : ℕ) (θ : ℕ → Term Leaf) → applyG (formulaG g (bound (names e) v)) θ ≡ formulaG g (bound (names (putEnvironment (at θ) e)) v)
+pub formulaG-bound : (g : Goal) (e : Environment Leaf) (v : ℕ) (θ : ℕ → Term Leaf)
+    → applyG (formulaG g (bound (names e) v)) θ ≡ formulaG g (bound (names (putEnvironment (at θ) e)) v)
 formulaG-bound g e v θ = formulaG-onFree g (bound (names e) v) θ ∙ ap (formulaG g) (bound-apply (names e) θ v ∙ ap (λ ρ. bound ρ v) (names-apply e θ))
 
 -- Programs and sequents
@@ -97,7 +98,9 @@ sequent-identity q = sequent-apply (λ x. leaf (var x)) q ∙ ap paperOf (ap₂ 
     same e = fun-ext (λ v. apply-identity (e v))
 
     program : putProgram (at (λ x. leaf (var x))) (q .program) ≡ q .program
-    program = map-agree (putHypothesis (at (λ x. leaf (var x)))) (λ h. h) (λ h. ap (hypothesis (h .clause)) (same (h .environment))) (q .program) ∙ map-id (q .program)
+    program =
+        map-agree (putHypothesis (at (λ x. leaf (var x)))) (λ h. h) (λ h. ap (hypothesis (h .clause)) (same (h .environment))) (q .program)
+        ∙ map-id (q .program)
 
 -- S, and then σ, is S′ where it is so on terms.
 module _ (S σ S′ : ℕ → Term Leaf) (composed : (t : Term Leaf) → apply t S′ ≡ apply (apply t S) σ) where
@@ -115,7 +118,8 @@ module _ (S σ S′ : ℕ → Term Leaf) (composed : (t : Term Leaf) → apply t
       program : putProgram (at σ) (putProgram (at S) (q .program)) ≡ putProgram (at S′) (q .program)
       program =
           map-map (putHypothesis (at S)) (putHypothesis (at σ)) (q .program)
-          ∙ map-agree (λ h. putHypothesis (at σ) (putHypothesis (at S) h)) (putHypothesis (at S′)) (λ h. ap (hypothesis (h .clause)) (same (h .environment))) (q .program)
+          ∙ map-agree (λ h. putHypothesis (at σ) (putHypothesis (at S) h)) (putHypothesis (at S′)) (λ h. ap (hypothesis (h .clause)) (same (h .environment)))
+          (q .program)
 
   -- A list of them.
   pub sequents-composed : (qs : List (Sequent Leaf)) → map (applySequent σ) (map (applySequent S) (map paperOf qs)) ≡ map (applySequent S′) (map paperOf qs)

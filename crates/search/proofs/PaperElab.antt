@@ -67,7 +67,8 @@ formulaM-skip m ρ v h =
     shadowed true b e k = refl
     shadowed false b e k = absurd (true≢false (sym k ∙ e))
 
-    same : (u : ℕ) (b : Bool) → eqb u v ≡ b → freeTs (m .arguments) u || freeB (m .body) u ≡ true → (cond b (leaf (name v)) (ρ u) ≡ ρ u) ⊎ (elem u (m .prefix) ≡ true)
+    same : (u : ℕ) (b : Bool) → eqb u v ≡ b → freeTs (m .arguments) u || freeB (m .body) u ≡ true
+        → (cond b (leaf (name v)) (ρ u) ≡ ρ u) ⊎ (elem u (m .prefix) ≡ true)
     same u true e k = inr (shadowed (elem u (m .prefix)) (freeTs (m .arguments) u || freeB (m .body) u) (ap (λ x. standsFree x m) (eqb-true u v e) ∙ h) k)
     same u false e k = inl refl
 
@@ -114,9 +115,13 @@ elabs-entries : (P : Program Leaf) → elabs (formulasOf P) ≡ map formulaE (en
 unfolding elabs formulasOf entries
 elabs-entries [] = refl
 elabs-entries (h ∷ P) =
-    ap₂ _++_ (elab-members (h .clause) (names (h .environment)) (tidy-names (h .environment)) ∙ sym (map-map (entry (h .environment)) formulaE (members (h .clause)))) (elabs-entries P)
+    ap₂ _++_
+    (elab-members (h .clause) (names (h .environment)) (tidy-names (h .environment)) ∙ sym (map-map (entry (h .environment)) formulaE (members (h .clause))))
+    (elabs-entries P)
     ∙ sym (map-append formulaE (map (entry (h .environment)) (members (h .clause))) (entries P))
 
 -- elab(θ(𝒫))
 pub elabs-apply : (P : Program Leaf) (θ : ℕ → Term Leaf) → elabs (formulasAt θ P) ≡ map (λ m. formulaE (putEntry (at θ) m)) (entries P)
-elabs-apply P θ = ap elabs (formulas-apply P θ) ∙ elabs-entries (putProgram (at θ) P) ∙ ap (map formulaE) (entries-put (at θ) P) ∙ map-map (putEntry (at θ)) formulaE (entries P)
+elabs-apply P θ =
+    ap elabs (formulas-apply P θ) ∙ elabs-entries (putProgram (at θ) P) ∙ ap (map formulaE) (entries-put (at θ) P)
+    ∙ map-map (putEntry (at θ)) formulaE (entries P)

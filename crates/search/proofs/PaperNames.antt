@@ -121,13 +121,15 @@ mutual
   formulaG-agree truth ρ π h = refl
   formulaG-agree (and a b) ρ π h = ap₂ g-and (formulaG-agree a ρ π (agree-left (freeG a) (freeG b) h)) (formulaG-agree b ρ π (agree-right (freeG a) (freeG b) h))
   formulaG-agree (or a b) ρ π h = ap₂ g-or (formulaG-agree a ρ π (agree-left (freeG a) (freeG b) h)) (formulaG-agree b ρ π (agree-right (freeG a) (freeG b) h))
-  formulaG-agree (implies d g) ρ π h = ap₂ g-implies (formulaD-agree d ρ π (agree-left (freeC d) (freeG g) h)) (formulaG-agree g ρ π (agree-right (freeC d) (freeG g) h))
+  formulaG-agree (implies d g) ρ π h =
+      ap₂ g-implies (formulaD-agree d ρ π (agree-left (freeC d) (freeG g) h)) (formulaG-agree g ρ π (agree-right (freeC d) (freeG g) h))
   formulaG-agree (exists w g) ρ π h = ap (g-exists w) (formulaG-agree g (bound ρ w) (bound π w) (agree-bound (freeG g) ρ π w h))
   formulaG-agree (forall w g) ρ π h = ap (g-forall w) (formulaG-agree g (bound ρ w) (bound π w) (agree-bound (freeG g) ρ π w h))
 
   formulaD-agree : (d : Clause) (ρ π : Names) → AgreeOn (freeC d) ρ π → formulaD d ρ ≡ formulaD d π
   formulaD-agree (fact p ts) ρ π h = ap (d-atom p) (substitutes-free ts ρ π h)
-  formulaD-agree (rule g p ts) ρ π h = ap₂ (λ k us. d-implies k p us) (formulaG-agree g ρ π (agree-left (freeG g) (freeTs ts) h)) (substitutes-free ts ρ π (agree-right (freeG g) (freeTs ts) h))
+  formulaD-agree (rule g p ts) ρ π h =
+      ap₂ (λ k us. d-implies k p us) (formulaG-agree g ρ π (agree-left (freeG g) (freeTs ts) h)) (substitutes-free ts ρ π (agree-right (freeG g) (freeTs ts) h))
   formulaD-agree (both a b) ρ π h = ap₂ d-and (formulaD-agree a ρ π (agree-left (freeC a) (freeC b) h)) (formulaD-agree b ρ π (agree-right (freeC a) (freeC b) h))
   formulaD-agree (each w d) ρ π h = ap (d-forall w) (formulaD-agree d (bound ρ w) (bound π w) (agree-bound (freeC d) ρ π w h))
 

@@ -48,7 +48,8 @@ bound-put : (ρ π : Names) (v : ℕ) → Tidy ρ → _≡_ {A = Names} (λ w. s
 unfolding update substitute onNames
 bound-put ρ π v h = fun-ext (λ w. go w (eqb w v) refl (h w))
   where
-    go : (w : ℕ) (b : Bool) → eqb w v ≡ b → OwnOrTerm ρ w → substitute (cond b (leaf (name v)) (ρ w)) (onNames (bound π v)) ≡ cond b (leaf (name v)) (substitute (ρ w) (onNames π))
+    go : (w : ℕ) (b : Bool) → eqb w v ≡ b → OwnOrTerm ρ w
+        → substitute (cond b (leaf (name v)) (ρ w)) (onNames (bound π v)) ≡ cond b (leaf (name v)) (substitute (ρ w) (onNames π))
     go w true e k = update-same π v (leaf (name v))
     go w false e (inl q) = rw q (update-other π v (leaf (name v)) w (eqb-false w v e))
     go w false e (inr q) = rw (q .1) (embed-put (q .0) (bound π v) ∙ sym (embed-put (q .0) π))
@@ -73,7 +74,8 @@ mutual
   formulaD-put (each v d) ρ π h = ap (d-forall v) (formulaD-put d (bound ρ v) (bound π v) (tidy-bound ρ v h) ∙ ap (formulaD d) (bound-put ρ π v h))
 
 -- The formula under a quantifier with t for its name: the formula in the environment with t for it.
-replace-bound : (g : Goal) (e : Environment Leaf) (v : ℕ) (t : Term Leaf) → replace (formulaG g (bound (names e) v)) v (substitute t embed) ≡ formulaG g (names (update e v t))
+replace-bound : (g : Goal) (e : Environment Leaf) (v : ℕ) (t : Term Leaf)
+    → replace (formulaG g (bound (names e) v)) v (substitute t embed) ≡ formulaG g (names (update e v t))
 unfolding replace update substitute onNames
 replace-bound g e v t = formulaG-put g (bound (names e) v) new (tidy-bound (names e) v (tidy-names e)) ∙ ap (formulaG g) (fun-ext (λ w. go w (eqb w v)))
   where

@@ -58,7 +58,10 @@ numbers-new vs n X h = all-weaken (λ w. n ≤ w) (λ w. Mem w X → ⊥) (not-b
 pub numbers-distinct : (vs : List ℕ) (n : ℕ) → Distinct (numbers vs n)
 unfolding numbers Distinct
 numbers-distinct [] n = tt
-numbers-distinct (v ∷ vs) n = ((λ m. let q = all-mem (λ w. suc n ≤ w) (numbers vs (suc n)) n (numbers-from vs (suc n)) m in omega arith), numbers-distinct vs (suc n))
+numbers-distinct (v ∷ vs) n = (not-from, numbers-distinct vs (suc n))
+  where
+    not-from : Mem n (numbers vs (suc n)) → ⊥
+    not-from m = let q = all-mem (λ w. suc n ≤ w) (numbers vs (suc n)) n (numbers-from vs (suc n)) m in omega arith
 
 -- Their levels are the labels that definition 6 gives them, other levels stay.
 relabel-fresh : (vs : List ℕ) (n i : ℕ) (L l : ℕ → ℕ) (x : ℕ) → L x ≡ l x → relabel (numbers vs n) i L x ≡ freshLevels vs n i l x

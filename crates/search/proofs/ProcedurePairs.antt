@@ -27,7 +27,8 @@ pushPairs-unifies S φ nil (cons u us) qs e = absurd (true≢false (cc))
 pushPairs-unifies S φ (cons t ts) nil qs e = absurd (true≢false (cc))
 pushPairs-unifies S φ (cons t ts) (cons u us) qs e = go (pushPairs ts us []) e (pushPairs-unifies S φ ts us)
   where
-    go : (o : Option (List Pair)) → Option·map (λ l. record { goal = t; clause = u } ∷ l) o ≡ some qs → ((l : List Pair) → o ≡ some l → Unifies S φ ts us l) → Unifies S φ (cons t ts) (cons u us) qs
+    go : (o : Option (List Pair)) → Option·map (λ l. record { goal = t; clause = u } ∷ l) o ≡ some qs
+        → ((l : List Pair) → o ≡ some l → Unifies S φ ts us l) → Unifies S φ (cons t ts) (cons u us) qs
     go none e ih = absurd (true≢false (cc))
     go (some l) e ih =
         let q : record { goal = t; clause = u } ∷ l ≡ qs = cc in

@@ -21,7 +21,8 @@ use Rattle.search.proofs.ProcedureReached.{Reached, constants-more, rea
 abbrev infront : Store → Program Leaf → List PaperSequent → G → ℕ → List PaperSequent
 infront s P gs k j = paperSequent k (formulasAt (solution s) P) j ∷ map (applySequent (solution s)) gs
 
-module _ {cs : List Clause} {g₀ : Goal} {u : ℕ} {s : Store} {gs : List PaperSequent} {path : List (Line Leaf)} (v : ℕ) (g : Goal) (e : Environment Leaf) (P : Program Leaf) (i : ℕ) where
+module _ {cs : List Clause} {g₀ : Goal} {u : ℕ} {s : Store} {gs : List PaperSequent} {path : List (Line Leaf)}
+    (v : ℕ) (g : Goal) (e : Environment Leaf) (P : Program Leaf) (i : ℕ) where
   -- (iii): the variable is the store's next one.
   pub exists-reached : Formed s → Reached cs g₀ u s (paperOf (sequent (exists v g) e P i) ∷ gs) path
       → Reached cs g₀ (suc u) (fresh (v ∷ []) i s) (paperOf (sequent g (update e v (leaf (var (s .next)))) P i) ∷ gs) (Dsome (leaf (var (s .next))) ∷ path)

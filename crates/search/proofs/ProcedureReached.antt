@@ -67,7 +67,8 @@ module _ {cs : List Clause} {g : Goal} {u : ℕ} {s : Store} {path : List (Line 
 
   -- The cases in which only the goals change.
   pub reached-goals : {q : PaperSequent} {gs : List PaperSequent} {x : Line Leaf} {gs′ : List PaperSequent}
-      → (r : Reached cs g u s (q ∷ gs) path) → Takes s q gs x (r .follows .state) (onlyGoals (r .follows .state) (map (applySequent (solution s)) gs′)) → Reached cs g (suc u) s gs′ (x ∷ path)
+      → (r : Reached cs g u s (q ∷ gs) path) → Takes s q gs x (r .follows .state) (onlyGoals (r .follows .state) (map (applySequent (solution s)) gs′))
+      → Reached cs g (suc u) s gs′ (x ∷ path)
   unfolding identity
   reached-goals {gs′} r t = reached-by r (record {
     state = onlyGoals (r .follows .state) (map (applySequent (solution s)) gs′);

@@ -45,7 +45,8 @@ freshVariables-apply θ [] n h = refl
 freshVariables-apply θ (v ∷ vs) n h = ap₂ _∷_ (h n (omega arith)) (freshVariables-apply θ vs (suc n) (λ x l. h x (omega arith)))
 
 -- and go to the rest of the environment.
-pub fresh-apply : (θ : ℕ → Term Leaf) (vs : List ℕ) (n : ℕ) (e : Environment Leaf) → Older θ n → putEnvironment (at θ) (freshEnvironment vs n e) ≡ freshEnvironment vs n (putEnvironment (at θ) e)
+pub fresh-apply : (θ : ℕ → Term Leaf) (vs : List ℕ) (n : ℕ) (e : Environment Leaf) → Older θ n
+    → putEnvironment (at θ) (freshEnvironment vs n e) ≡ freshEnvironment vs n (putEnvironment (at θ) e)
 fresh-apply θ vs n e h = assign-put (at θ) vs (freshVariables vs n) e ∙ ap (λ ts. assign vs ts (putEnvironment (at θ) e)) (freshVariables-apply θ vs n h)
 
 -- Renaming
@@ -69,17 +70,21 @@ renaming-ready : (vs : List ℕ) (n : ℕ) (ρ π : Names) (e : Environment Leaf
 unfolding boundBy numbers renaming assign freshVariables substitute onNames
 renaming-ready [] n ρ π e u (inl q) = rw q (embed-put (e u) π)
 renaming-ready [] n ρ π e u (inr q) = rw (q .0) (q .1)
-renaming-ready (v ∷ vs) n ρ π e u h = renaming-ready vs (suc n) (bound ρ v) (update π v (leaf (free (var n)))) (update e v (leaf (var n))) u (ready-bound ρ π e v n u h)
+renaming-ready (v ∷ vs) n ρ π e u h =
+    renaming-ready vs (suc n) (bound ρ v) (update π v (leaf (free (var n)))) (update e v (leaf (var n))) u (ready-bound ρ π e v n u h)
 
 -- What the names below a prefix stand for, once renamed.
-renaming-names : (vs : List ℕ) (n : ℕ) (e : Environment Leaf) → _≡_ {A = Names} (λ u. substitute (boundBy vs (names e) u) (onNames (freshRenaming vs n))) (names (freshEnvironment vs n e))
+renaming-names : (vs : List ℕ) (n : ℕ) (e : Environment Leaf)
+    → _≡_ {A = Names} (λ u. substitute (boundBy vs (names e) u) (onNames (freshRenaming vs n))) (names (freshEnvironment vs n e))
 renaming-names vs n e = fun-ext (λ u. renaming-ready vs n (names e) (λ v. leaf (name v)) e u (inl refl))
 
 -- The arguments of the head.
 pub renaming-head : (ts : Terms ℕ) (vs : List ℕ) (n : ℕ) (e : Environment Leaf)
     → substitutes (substitutes ts (boundBy vs (names e))) (onNames (freshRenaming vs n)) ≡ substitutes (substitutes ts (freshEnvironment vs n e)) embed
 renaming-head ts vs n e =
-    substitutes-substitutes ts (boundBy vs (names e)) (onNames (freshRenaming vs n)) ∙ ap (substitutes ts) (renaming-names vs n e) ∙ sym (substitutes-substitutes ts (freshEnvironment vs n e) embed)
+    substitutes-substitutes ts (boundBy vs (names e)) (onNames (freshRenaming vs n))
+    ∙ ap (substitutes ts) (renaming-names vs n e)
+    ∙ sym (substitutes-substitutes ts (freshEnvironment vs n e) embed)
 
 -- Below a prefix each name stands for itself or for a term of the search.
 tidy-boundBy : (vs : List ℕ) (ρ : Names) → Tidy ρ → Tidy (boundBy vs ρ)
@@ -89,7 +94,8 @@ tidy-boundBy (v ∷ vs) ρ h = tidy-boundBy vs (bound ρ v) (tidy-bound ρ v h)
 
 -- The body, the bindings θ applied.
 pub renaming-body : (o : Option Goal) (vs : List ℕ) (n : ℕ) (e : Environment Leaf) (P : Program Leaf) (i : ℕ) (θ : ℕ → Term Leaf) → Older θ n
-    → paperBody (formulaB o (boundBy vs (names (putEnvironment (at θ) e)))) (freshRenaming vs n) (formulasAt θ P) i ≡ map (applySequent θ) (map paperOf (bodySequent o (freshEnvironment vs n e) P i))
+    → paperBody (formulaB o (boundBy vs (names (putEnvironment (at θ) e)))) (freshRenaming vs n) (formulasAt θ P) i
+    ≡ map (applySequent θ) (map paperOf (bodySequent o (freshEnvironment vs n e) P i))
 unfolding paperBody bodySequent paperOf
 renaming-body none vs n e P i θ h = refl
 renaming-body (some g) vs n e P i θ h = ap (λ k. paperSequent k (formulasAt θ P) i ∷ []) (

@@ -1,26 +1,23 @@
--- Definition 6 (vi), (vii): a member whose head is being matched with an atom, and the state derived when they match.
+-- Definition 6 (vi), (vii): the state derived when the head of a member matches an atom.
 use Prim.Native.Nat.{ℕ, _<_}
 use mathlib.Core.Path.{_≡_, refl, sym, _∙_, ap, ap₂, subst}
-use mathlib.Core.List.{List, [], _∷_, _++_, map}
-use mathlib.Core.Option.{some}
+use mathlib.Core.List.{List, [], _++_, map}
 use native.Mathlib.Omega.{arith}
 use Rattle.terms.specs.Lists.{All}
-use Rattle.terms.specs.Terms.{Term, leaf, app, Terms, substitute, substitutes, Leaves, LeavesAll}
+use Rattle.terms.specs.Terms.{Term, leaf, Terms, substitute, substitutes}
 use Rattle.terms.proofs.Lists.{all-append, all-weaken, map-append}
 use Rattle.terms.proofs.Terms.{substitutes-substitutes}
 use Rattle.formulas.specs.Formulas.{Goal, Clause}
-use Rattle.sequents.specs.Sequents.{Environment, putEnvironment, Entry, putEntry, entries, Sequent, bodySequent, Dclause}
+use Rattle.sequents.specs.Sequents.{putEnvironment, Entry, putEntry, entries, Sequent, bodySequent, Dclause}
 use Rattle.unification.specs.Store.{Leaf, var, Store, past, fresh, freshVariables, at, solution}
-use Rattle.unification.specs.Matching.{Pair, Matching, pairs, pushPairs, comparing, matchSteps}
+use Rattle.unification.specs.Matching.{pairs}
 use Rattle.unification.specs.Labelled.{Labelling}
-use Rattle.unification.specs.Promises.{Below, BelowPair, Formed, Solved}
-use Rattle.unification.proofs.Stores.{below-more, past-le, fresh-formed}
-use Rattle.unification.proofs.Invariant.{Running, comparing-running}
+use Rattle.unification.specs.Promises.{Solved}
+use Rattle.unification.proofs.Stores.{past-le, fresh-formed}
 use Rattle.unification.proofs.Promises.{unification}
 use Rattle.search.specs.Configurations.{Branch, branch, Atom}
-use Rattle.search.specs.Paper.{g-atom, onNames, embed, applyG, Elaborated, elabs}
-use Rattle.search.specs.Procedure.{PaperSequent, paperSequent, applySequent, State, relabel, paperBody, By, formulasOf, paperOf}
-use Rattle.search.proofs.Invariant.{EnvironmentBelow, substitutes-below, prefix-below}
+use Rattle.search.specs.Paper.{onNames, embed, applyG, Elaborated, elabs}
+use Rattle.search.specs.Procedure.{PaperSequent, applySequent, State, relabel, paperBody, By, paperOf}
 use Rattle.search.proofs.PaperApply.{embeds-apply, formulasAt, sequents-composed}
 use Rattle.search.proofs.PaperElab.{formulaM, formulaE, elabs-apply}
 use Rattle.search.proofs.ProcedureFresh.{numbers, numbers-length, numbers-variables, numbers-below, numbers-new, numbers-distinct, fresh-labels, solution-new}
@@ -28,60 +25,11 @@ use Rattle.search.proofs.ProcedureRenaming.{freshEnvironment, freshRena
 use Rattle.search.proofs.ProcedurePairs.{pushPairs-general}
 use Rattle.search.proofs.ProcedurePlaces.{StandsAt, stands-map}
 use Rattle.search.proofs.ProcedureReached.{Reached, Takes, reached-by}
+use Rattle.search.proofs.ProcedureTried.{atomSequent, triedEnvironment, Resolving}
 
--- The sequent of an atom that was taken.
-abbrev pub atomSequent : Atom → PaperSequent
-atomSequent a = paperSequent (g-atom (a .predicate) (substitutes (a .arguments) embed)) (formulasOf (a .program)) (a .level)
-
--- The environment of a member that is tried, with fresh variables for its prefix.
-abbrev pub triedEnvironment : Store → Entry Leaf → Environment Leaf
-triedEnvironment s m = freshEnvironment (m .member .prefix) (s .next) (m .environment)
-
--- The pairs that are compared with those of the atom.
-abbrev pub Compared : Store → Atom → Entry Leaf → List Pair → Type 0
-Compared s a m qs = pushPairs (a .arguments) (substitutes (m .member .arguments) (triedEnvironment s m)) [] ≡ some qs
-
--- The branch if they match.
-abbrev pub triedBranch : Store → Atom → Entry Leaf → ℕ → Branch → Branch
-triedBranch s a m k b =
-    branch (bodySequent (m .member .body) (triedEnvironment s m) (a .program) (a .level) ++ b .goals) (Dclause k (freshVariables (m .member .prefix) (s .next)) ∷ b .path)
-
--- The pairs have only variables that have been made.
-pub compared-below : (s : Store) (a : Atom) (m : Entry Leaf) (qs : List Pair) → Formed s → LeavesAll (a .arguments) (Below (s .next)) → EnvironmentBelow (s .next) (m .environment) → Compared s a m qs
-    → All (BelowPair (past (m .member .prefix) (s .next))) qs
-unfolding Leaves comparing Running fresh
-compared-below s a m qs f h k e =
-    let vs = m .member .prefix in
-    let n = past vs (s .next) in
-    let us = substitutes (m .member .arguments) (triedEnvironment s m) in
-    subst (λ o. Running (λ n. Unit {0}) (comparing (fresh vs (a .level) s) o)) e
-    (comparing-running (λ n. Unit {0}) (fresh vs (a .level) s) (a .arguments) us [] (record { formed = fresh-formed vs (a .level) s f; extra = tt })
-    (below-more (app 0 (a .arguments)) (s .next) n (past-le vs (s .next)) h) (substitutes-below (m .member .arguments) (triedEnvironment s m) n (prefix-below vs (s .next) (m .environment) k)) tt) .1
-
--- The branch b is that of a member tried, which stands at place k among the members at the atom.
-pub record Tried (b : Branch) : Type 0 where
-  pub store : Store
-  pub atom : Atom
-  pub entry : Entry Leaf
-  pub k : ℕ
-  pub before : Branch
-  pub branch : b ≡ triedBranch store atom entry k before
-  pub formed : Formed store
-  pub placed : StandsAt 1 (entries (atom .program)) k entry
-  pub predicate : atom .predicate ≡ entry .member .predicate
-  pub pairs : List Pair
-  pub compared : Compared store atom entry pairs
-  pub below : All (BelowPair (past (entry .member .prefix) (store .next))) pairs
-
--- The matching of its pairs, the search having reached the atom before.
-pub record Resolving (cs : List Clause) (g : Goal) (u : ℕ) (m : Matching) (b : Branch) : Type 0 where
-  pub tried : Tried b
-  pub reached : Reached cs g u (tried .store) (atomSequent (tried .atom) ∷ map paperOf (tried .before .goals)) (tried .before .path)
-  pub acts : ℕ
-  pub comes : matchSteps acts (pairs (fresh (tried .entry .member .prefix) (tried .atom .level) (tried .store)) (tried .pairs)) ≡ m
-
--- When it succeeds, T3 gives the most general unifier and the labelling of the next state.
-pub resolved : {cs : List Clause} {g : Goal} {u : ℕ} {s′ : Store} {b : Branch} → Resolving cs g u (pairs s′ []) b → Reached cs g u s′ (map paperOf (b .goals)) (b .path)
+-- T3 gives the most general unifier and the labelling of the next state.
+pub resolved : {cs : List Clause} {g : Goal} {u : ℕ} {s′ : Store} {b : Branch}
+    → Resolving cs g u (pairs s′ []) b → Reached cs g u s′ (map paperOf (b .goals)) (b .path)
 unfolding By applyG fresh solution formulaM substitute at
 resolved {cs} {g} {u} {s′} {b} r = subst (λ b. Reached cs g u s′ (map paperOf (b .goals)) (b .path)) (sym (r .tried .branch)) (reached-by (r .reached) (record {
   state = S₂;
@@ -159,16 +107,19 @@ resolved {cs} {g} {u} {s′} {b} r = subst (λ b. Reached cs g u s′ (map paper
     member = formulaE (putEntry (at S) m)
 
     stands : StandsAt 1 (elabs (formulasAt S (a .program))) k member
-    stands = subst (λ l. StandsAt 1 l k member) (sym (elabs-apply (a .program) S)) (stands-map (λ e. formulaE (putEntry (at S) e)) 1 (entries (a .program)) k m (r .tried .placed))
+    stands =
+        subst (λ l. StandsAt 1 l k member) (sym (elabs-apply (a .program) S))
+        (stands-map (λ e. formulaE (putEntry (at S) e)) 1 (entries (a .program)) k m (r .tried .placed))
 
     -- its head, renamed
     arguments : Terms Leaf
     arguments = substitutes (m .member .arguments) (triedEnvironment s m)
 
+    applied : substitutes arguments (at S) ≡ substitutes (m .member .arguments) (freshEnvironment vs n (putEnvironment (at S) (m .environment)))
+    applied = substitutes-substitutes (m .member .arguments) (triedEnvironment s m) (at S) ∙ ap (substitutes (m .member .arguments)) (fresh-apply S vs n (m .environment) unbound)
+
     head : substitutes (member .arguments) (onNames (freshRenaming vs n)) ≡ substitutes (substitutes arguments (at S)) embed
-    head =
-        renaming-head (m .member .arguments) vs n (putEnvironment (at S) (m .environment))
-        ∙ ap (λ ts. substitutes ts embed) (sym (substitutes-substitutes (m .member .arguments) (triedEnvironment s m) (at S) ∙ ap (substitutes (m .member .arguments)) (fresh-apply S vs n (m .environment) unbound)))
+    head = renaming-head (m .member .arguments) vs n (putEnvironment (at S) (m .environment)) ∙ ap (λ ts. substitutes ts embed) (sym applied)
 
     -- its body, renamed, in front of the other goals
     rest : List PaperSequent
@@ -197,7 +148,8 @@ resolved {cs} {g} {u} {s′} {b} r = subst (λ b. Reached cs g u s′ (map paper
       is-left = embeds-apply (a .arguments) S;
       is-right = head;
       σ = solved .mgu;
-      general = pushPairs-general L S (a .predicate) (m .member .predicate) (a .arguments) arguments (r .tried .pairs) (solved .mgu) (r .tried .predicate) (r .tried .compared) (solved .general);
+      general = pushPairs-general L S (a .predicate) (m .member .predicate) (a .arguments) arguments (r .tried .pairs) (solved .mgu)
+          (r .tried .predicate) (r .tried .compared) (solved .general);
       goals = sym goals;
       constants = refl;
       variables = refl;

@@ -24,7 +24,8 @@ follows : (cs : List Clause) (g : Goal) (n : ℕ) → All (FollowsSteps cs g) (a
 follows cs g n =
     all-weaken (Both n) (FollowsSteps cs g) (λ c h. known-follows cs g n c (h .1)) (after cs g n)
     (after-all cs g Both (all-both Invariant (Known cs g 0) (start cs g) (start-invariant cs g) (start-known cs g))
-    (λ u c h. all-both Invariant (Known cs g (suc u)) (step u c) (step-keeps u c (h .0)) (step-known cs g u c (h .0) (h .1))) (λ u c h. (h .0, known-more cs g u c (h .1))) n)
+    (λ u c h. all-both Invariant (Known cs g (suc u)) (step u c) (step-keeps u c (h .0)) (step-known cs g u c (h .0) (h .1)))
+    (λ u c h. (h .0, known-more cs g u c (h .1))) n)
   where
     Both : ℕ → Configuration → Type 0
     Both u c = Invariant c × Known cs g u c

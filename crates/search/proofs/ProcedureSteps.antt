@@ -29,7 +29,8 @@ use Rattle.search.proofs.PaperApply.{sequent-identity}
 use Rattle.search.proofs.Invariant.{TryBelow, Invariant}
 use Rattle.search.proofs.ProcedurePlaces.{StandsAt, Placed, placed-all}
 use Rattle.search.proofs.ProcedureReached.{Reached, reached-more, reached-goals}
-use Rattle.search.proofs.ProcedureResolved.{atomSequent, triedEnvironment, triedBranch, compared-below, Resolving, resolved}
+use Rattle.search.proofs.ProcedureTried.{atomSequent, triedEnvironment, triedBranch, compared-below, Resolving}
+use Rattle.search.proofs.ProcedureResolved.{resolved}
 use Rattle.search.proofs.ProcedureQuantifiers.{exists-reached, forall-reached}
 
 -- Of n names from v on, those that are free are below n + v.
@@ -87,7 +88,8 @@ module _ (cs : List Clause) (g₀ : Goal) where
   unfolding takeGoal Known paperOf formulasOf formulaG applyG By
   takeGoal-known u s (atom p ts) e P i b f r =
       tryFrom-known (suc u) s (record { predicate = p; arguments = substitutes ts e; program = P; level = i }) (entries P) 1 b
-      (subst (λ us. Reached cs g₀ (suc u) s (paperSequent (g-atom p us) (formulasOf P) i ∷ map paperOf (b .goals)) (b .path)) (sym (substitutes-substitutes ts e embed)) (reached-more r)) (placed-all 1 (entries P))
+      (subst (λ us. Reached cs g₀ (suc u) s (paperSequent (g-atom p us) (formulasOf P) i ∷ map paperOf (b .goals)) (b .path))
+      (sym (substitutes-substitutes ts e embed)) (reached-more r)) (placed-all 1 (entries P))
   takeGoal-known u s truth e P i b f r = proceed-known (suc u) s (b .goals) (plain Dtrue ∷ b .path) (reached-goals r (refl, refl))
   takeGoal-known u s (and g h) e P i b f r = (reached-goals r (refl, refl), tt)
   takeGoal-known u s (or g h) e P i b f r = (reached-goals r (inl (refl, refl)), (reached-goals r (inr (refl, refl)), tt))
@@ -107,7 +109,8 @@ module _ (cs : List Clause) (g₀ : Goal) where
 
   -- A match begins.
   tryMember-known : (u : ℕ) (s : Store) (a : Atom) (m : Entry Leaf) (ms : List (Entry Leaf)) (k : ℕ) (b : Branch) → Good (TryBelow a (m ∷ ms) (b .goals)) s
-      → Reached cs g₀ u s (atomSequent a ∷ map paperOf (b .goals)) (b .path) → StandsAt 1 (entries (a .program)) k m → a .predicate ≡ m .member .predicate → All (Known u) (tryMember s a m k b)
+      → Reached cs g₀ u s (atomSequent a ∷ map paperOf (b .goals)) (b .path) → StandsAt 1 (entries (a .program)) k m
+      → a .predicate ≡ m .member .predicate → All (Known u) (tryMember s a m k b)
   unfolding tryMember comparing settle matchSteps
   tryMember-known u s a m ms k b o r p q = go (pushPairs (a .arguments) (substitutes (m .member .arguments) (triedEnvironment s m)) []) refl
     where
@@ -145,7 +148,8 @@ module _ (cs : List Clause) (g₀ : Goal) where
       go : (same : Bool) → eqb (a .predicate) (m .member .predicate) ≡ same → All (Known (suc u)) (cond same (tryMember s a m k b) [])
       go true e = tryMember-known (suc u) s a m ms k b o (reached-more (h .0)) (h .1 .0) (eqb-true (a .predicate) (m .member .predicate) e)
       go false e = tt
-  step-known u (match m b) o h = settle-known (suc u) (matchStep m) b (record { tried = h .tried; reached = reached-more (h .reached); acts = suc (h .acts); comes = ap matchStep (h .comes) })
+  step-known u (match m b) o h =
+      settle-known (suc u) (matchStep m) b (record { tried = h .tried; reached = reached-more (h .reached); acts = suc (h .acts); comes = ap matchStep (h .comes) })
   step-known u (done s ls) o h = (reached-more h, tt)
 
   -- The start is definition 8's first state.

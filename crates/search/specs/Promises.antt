@@ -6,7 +6,7 @@ use mathlib.Core.List.{List, [], _∷_, map}
 use mathlib.Core.Logic.{_↔_}
 use Rattle.terms.specs.Lists.{All}
 use Rattle.terms.specs.Terms.{Term, leaf, substitutes}
-use Rattle.formulas.specs.Formulas.{Goal, Clause, freeG}
+use Rattle.formulas.specs.Formulas.{Goal, Clause, freeG, variableNames}
 use Rattle.sequents.specs.Symbols.{Symbol, level}
 use Rattle.sequents.specs.Sequents.{Environment, Sequent, Line}
 use Rattle.sequents.specs.Derivations.{instanceOf, InstanceDerivation}
@@ -77,7 +77,7 @@ Soundness = (cs : List Clause) (g : Goal) (budget n : ℕ) (s : Store) (path : L
 
 -- The goal's free variables are names of a sheet, 0 to 7: the names to which the start gives a variable.
 abbrev pub SheetNames : Goal → Type 0
-SheetNames g = (v : ℕ) → freeG g v ≡ true → v < 8
+SheetNames g = (v : ℕ) → freeG g v ≡ true → v < variableNames
 
 -- T7, demand 3: "whoever holds a sequent derivation of some instance of the goal, its free variables replaced by terms of level
 -- 0, is never told no".

@@ -5,7 +5,7 @@ use mathlib.Core.Bool.{Bool, true, false, cond}
 use mathlib.Core.List.{List, [], _∷_, _++_}
 use lib.Dec.{ltb}
 use Rattle.terms.specs.Terms.{Term, leaf, app, nil}
-use Rattle.formulas.specs.Formulas.{Goal, Clause}
+use Rattle.formulas.specs.Formulas.{Goal, Clause, variableNames}
 use Rattle.sequents.specs.Sequents.{Environment, Sequent, Line}
 use Rattle.sequents.specs.Derivations.{instanceOf}
 use Rattle.unification.specs.Store.{Leaf, var, Store}
@@ -29,10 +29,10 @@ status u (done s ls ∷ cs) = isProved s ls
 -- "The first has the sheet's clauses, I = 0, and a fresh variable of level 0 for each free variable." Name v is variable v. The
 -- names that are not free have one too, which shows nowhere.
 unfoldable pub startEnvironment : Environment Leaf
-startEnvironment v = cond (ltb v 8) (leaf (var v)) (app 0 nil)
+startEnvironment v = cond (ltb v variableNames) (leaf (var v)) (app 0 nil)
 
 unfoldable pub startStore : Store
-startStore = record { bindings = []; level = λ x. 0; next = 8 }
+startStore = record { bindings = []; level = λ x. 0; next = variableNames }
 
 unfoldable pub startGoal : List Clause → Goal → Sequent Leaf
 startGoal cs g = instanceOf cs g startEnvironment

@@ -12,7 +12,7 @@ use Rattle.sequents.specs.Lines.{Infers, Leads, Derives}
 use Rattle.sequents.specs.Promises.{TreesAreLines}
 
 -- a line that is a step is one, also if less is asked of its premises
-infers-weaken : (x : Line Symbol) (g : Goal) (e : Environment Symbol) (P : Program Symbol) (i : ℕ) (K L : List (Sequent Symbol) → Type 0)
+pub infers-weaken : (x : Line Symbol) (g : Goal) (e : Environment Symbol) (P : Program Symbol) (i : ℕ) (K L : List (Sequent Symbol) → Type 0)
     → ((new : List (Sequent Symbol)) → K new → L new) → Infers x g e P i K → Infers x g e P i L
 unfolding Infers
 infers-weaken x (atom p us) e P i K L f u = record {

@@ -68,7 +68,7 @@ number [] = none
 number (c ∷ []) = digitsFrom 0 (c ∷ [])
 number (c ∷ d ∷ cs) = elim (eqb c (code "0")) [ true ↦ none | false ↦ atMost maxNumber (digitsFrom 0 (c ∷ d ∷ cs)) ]
 
--- A number in base ten. Five digits are enough for the numbers of document 01; more fuel gives more.
+-- A number in base ten: at most as many digits as the first argument says, put in front of ds.
 unfoldable pub digits : ℕ → ℕ → List ℕ → List ℕ
 digits zero n ds = ds
 digits (suc f) n ds = elim (ltb n 10) [ true ↦ (code "0" + n) ∷ ds | false ↦ digits f (n / 10) ((code "0" + n % 10) ∷ ds) ]

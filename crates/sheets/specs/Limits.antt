@@ -1,5 +1,6 @@
 -- The numbers that document 01 fixes, each once.
 use Prim.Native.Nat.{ℕ}
+pub use Rattle.formulas.specs.Formulas.{variableNames}
 
 -- "Numbers are in base ten, without sign or leading zeros, up to 65,535."
 abbrev pub maxNumber : ℕ
@@ -9,12 +10,9 @@ maxNumber = 65535
 abbrev pub maxName : ℕ
 maxName = 16
 
--- "arity 0 to 4"; "variable v, 0 to 7", so that there are eight names
+-- "arity 0 to 4"; the eight names of variables are in `formulas`
 abbrev pub maxArity : ℕ
 maxArity = 4
-
-abbrev pub variableNames : ℕ
-variableNames = 8
 
 -- "Terms on a sheet are V and F applications of at most 1,024 variables and symbols"
 abbrev pub maxTermSize : ℕ

@@ -49,8 +49,7 @@ module _ (s : Sheet) (names : Names (s .symbols)) (closed : All Closed (s .claus
       let r = judges-valid s names (linesOf text .whole) (linesOf text .rest) 1 start h in
       let xs = r .1 .textLines in
       let i = proceeds-instance s closed small xs (subst (Proceeds s xs opening) (r .2) (r .1 .proceeds)) in
-      let e : xs ≡ numbered (answerLines (i .units) (freeVariables (s .goal)) (i .environment) (lines (i .proof .derivation))) =
-      sym (shows-numbered xs (r .0 .seen) (r .1 .shows)) ∙ ap numbered (i .textLines) in
+      let e = sym (shows-numbered xs (r .0 .seen) (r .1 .shows)) ∙ ap numbered (i .textLines) in
       record {
         units = i .units;
         least = i .least;
@@ -116,13 +115,20 @@ module _ (s : Sheet) (names : Names (s .symbols)) (closed : All Closed (s .claus
   -- and a line that breaks is named
   breaks-named : (text : List ℕ) (n : ℕ) → BreaksAfter s text n × (SpellsDerivation s text → ⊥) → judge s text ≡ invalid (suc n)
   unfolding firstLines
-  breaks-named text n h =
-      let ls = linesOf text .whole in
-      let r = first-judged text n (h .0 .there) (h .0 .before) in
-      r .2 ∙ judges-stop s names (drop n ls) (linesOf text .rest) (suc n) (r .0)
-      (λ l ms q e p. let d = next-taken n ls l ms e in
-      h .0 .breaks (d .0) (passed-beginning s names (take (suc n) ls) q (subst (λ (ks : List (List ℕ)). Passed s ks start q) (sym (d .1)) (passed-append s (take n ls) (l ∷ []) start (r .0) q (r .1) p))))
-      (λ v. h .1 (valid-spells text (r .2 ∙ v)))
+  breaks-named text n h = r .2 ∙ judges-stop s names (drop n ls) (linesOf text .rest) (suc n) (r .0) next (λ v. h .1 (valid-spells text (r .2 ∙ v)))
+    where
+      ls : List (List ℕ)
+      ls = linesOf text .whole
+
+      r : (q : Progress) × Passed s (take n ls) start q × (judge s text ≡ judgeFrom s (drop n ls) (linesOf text .rest) (suc n) q)
+      r = first-judged text n (h .0 .there) (h .0 .before)
+
+      -- no next line passes
+      next : (l : List ℕ) (ms : List (List ℕ)) (q : Progress) → drop n ls ≡ l ∷ ms → Passed s (l ∷ []) (r .0) q → ⊥
+      next l ms q e p =
+          let d = next-taken n ls l ms e in
+          let passed = passed-append s (take n ls) (l ∷ []) start (r .0) q (r .1) p in
+          h .0 .breaks (d .0) (passed-beginning s names (take (suc n) ls) q (subst (λ (ks : List (List ℕ)). Passed s ks start q) (sym (d .1)) passed))
 
   -- so it is exact
   pub exact : (text : List ℕ) → Exact s text

@@ -15,6 +15,7 @@ use Rattle.formulas.specs.Formulas.{Goal, atom, truth, and, or, implies, exists
 use Rattle.formulas.proofs.Free.{and-parts}
 use Rattle.sequents.specs.Symbols.{Symbol, made, leftover, Ground, level}
 use Rattle.sequents.specs.Sequents.{Environment, Program, hypothesis, Entry, entries, Sequent, sequent, assign, bodySequent, Word, Dtrue, Dand, Dleft, Dright, Dassume, Line, plain, Dsome, Dall, Dclause}
+use Rattle.sequents.specs.Derivations.{Instantiates}
 use Rattle.sequents.specs.Lines.{Uses, Infers}
 use Rattle.texts.specs.Numbering.{sameSymbol}
 use Rattle.texts.specs.Judging.{sameTerm, sameTerms, wordNumber, sameWord, isPlain, inferSome, inferConstant, inferAll, allLow, inferEntry, entryAt, inferClause, infer}
@@ -241,27 +242,26 @@ infer-sound x (exists v g) e P i new K h c = some-sound x i (λ t. sequent g (up
 infer-sound x (forall v g) e P i new K h c = all-sound x i (λ t. sequent g (update e v t) P (suc i) ∷ []) new K h c
 
 -- and a step passes, leaving what K holds of
+
+-- with the entry that the line names
+entry-complete : (m : Entry Symbol) (ts : List Ground) (p : ℕ) (us : Terms Symbol) (P : Program Symbol) (i : ℕ) → Instantiates (m .member .prefix) ts i → p ≡ m .member .predicate
+    → us ≡ substitutes (m .member .arguments) (assign (m .member .prefix) ts (m .environment))
+    → inferEntry (some m) ts p us P i ≡ some (bodySequent (m .member .body) (assign (m .member .prefix) ts (m .environment)) P i)
+unfolding inferEntry
+entry-complete m ts p us P i n h a =
+    rw (eq-eqb (length ts) (length (m .member .prefix)) (n .many), low-allLow i ts (n .low), eq-eqb p (m .member .predicate) h, ← a, sameTerms-refl us)
+
+-- for each goal
 pub infer-complete : (x : Line Symbol) (g : Goal) (e : Environment Symbol) (P : Program Symbol) (i : ℕ) (K : List (Sequent Symbol) → Type 0)
     → Infers x g e P i K → (new : List (Sequent Symbol)) × (infer x g e P i ≡ some new) × K new
-unfolding infer Infers isPlain sameWord wordNumber inferSome inferAll inferConstant inferClause inferEntry
+unfolding infer Infers isPlain sameWord wordNumber inferSome inferAll inferConstant inferClause
 infer-complete x (atom p us) e P i K u =
     let m = u .used in
-    let ts = u .terms in
-    let f = assign (m .member .prefix) ts (m .environment) in
-    let vs = substitutes us e in
-    let many = eqb (length ts) (length (m .member .prefix)) in
-    let head = eqb p (m .member .predicate) in
-    let same = sameTerms vs (substitutes (m .member .arguments) f) in
-    let test : (many && allLow i ts && head && same) ≡ true =
-    and-both (many && allLow i ts && head) same
-    (and-both (many && allLow i ts) head
-    (and-both many (allLow i ts) (eq-eqb (length ts) (length (m .member .prefix)) (u .instantiates .many)) (low-allLow i ts (u .instantiates .low)))
-    (eq-eqb p (m .member .predicate) (u .predicate)))
-    (ap (sameTerms vs) (sym (u .arguments)) ∙ sameTerms-refl vs) in (
-      bodySequent (m .member .body) f P i,
-      ap (λ (y : Line Symbol). inferClause y p vs P i) (u .line)
-          ∙ ap (λ (o : Option (Entry Symbol)). inferEntry o ts p vs P i) (mem-entryAt (entries P) m (u .at))
-          ∙ ap (λ (b : Bool). cond b (some (bodySequent (m .member .body) f P i)) none) test,
+    let e′ = assign (m .member .prefix) (u .terms) (m .environment) in (
+      bodySequent (m .member .body) e′ P i,
+      ap (λ (y : Line Symbol). inferClause y p (substitutes us e) P i) (u .line)
+          ∙ ap (λ (o : Option (Entry Symbol)). inferEntry o (u .terms) p (substitutes us e) P i) (mem-entryAt (entries P) m (u .at))
+          ∙ entry-complete m (u .terms) p (substitutes us e) P i (u .instantiates) (u .predicate) (u .arguments),
       u .premises,
     )
 infer-complete x truth e P i K u = ([], ap (λ (y : Line Symbol). infer y truth e P i) (u .0), u .1)
@@ -282,8 +282,3 @@ infer-complete x (forall v g) e P i K u =
           ∙ ap (λ (b : Bool). cond b (some (sequent g (update e v c) P (suc i) ∷ [])) none) (eq-eqb (suc i) (suc i) refl),
       u .2,
     )
-
--- so a step of which less is asked is a step
-pub infers-weaken : (x : Line Symbol) (g : Goal) (e : Environment Symbol) (P : Program Symbol) (i : ℕ) (K L : List (Sequent Symbol) → Type 0)
-    → ((new : List (Sequent Symbol)) → K new → L new) → Infers x g e P i K → Infers x g e P i L
-infers-weaken x g e P i K L f u = let r = infer-complete x g e P i K u in infer-sound x g e P i (r .0) L (r .1) (f (r .0) (r .2))

@@ -21,7 +21,8 @@ use Rattle.texts.specs.Judging.{Seen, showSymbols, allow, Progress, prog
 use Rattle.texts.proofs.Splitting.{join-fields}
 use Rattle.texts.proofs.Reading.{read-spell, spell-read, lineBytes, fields-spell, spell-unlines, spell-lines}
 use Rattle.texts.proofs.Infer.{nothing}
-use Rattle.texts.proofs.Numbering.{unseen, shows-append, shows-split, shows-numbered, numbered-shows}
+use Rattle.texts.proofs.Showings.{unseen, shows-append, shows-split}
+use Rattle.texts.proofs.Numbering.{shows-numbered, numbered-shows}
 use Rattle.texts.proofs.Stages.{allow-sound, allow-complete}
 
 -- Before the first line.

@@ -6,7 +6,12 @@ pub mod Symbols
 pub mod ReadTerms
 pub mod Reading
 pub mod Infer
+pub mod Showings
 pub mod Numbering
 pub mod Stages
 pub mod Judge
 pub mod Exact
+pub mod SoundNumbers
+pub mod SoundWritable
+pub mod TextSound
+pub mod Promises

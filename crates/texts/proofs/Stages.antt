@@ -19,12 +19,13 @@ use Rattle.sequents.specs.Renamings.{Renaming, renamed, renameLine}
 use Rattle.sequents.specs.Promises.{Closed}
 use Rattle.sequents.proofs.Renamings.{rename-level}
 use Rattle.sequents.proofs.Promises.{trees, renamable, locality}
+use Rattle.sequents.proofs.Lines.{infers-weaken}
 use Rattle.sheets.specs.Limits.{variableNames, maxBudget}
 use Rattle.sheets.specs.Sheets.{Sheet}
 use Rattle.texts.specs.TextLines.{TextLine, resultLine, bindingLine, derivationLine, answerLines, renameTextLine}
 use Rattle.texts.specs.Spelled.{Stage, opening, bindings, sequents, boundStage, blank, Allowed, Proceeds}
 use Rattle.texts.specs.Judging.{infer, allow}
-use Rattle.texts.proofs.Infer.{and-both, guarded, nothing, mapped, infer-sound, infer-complete, infers-weaken}
+use Rattle.texts.proofs.Infer.{and-both, guarded, nothing, mapped, infer-sound, infer-complete}
 
 -- one line
 
@@ -235,11 +236,11 @@ pub record InstanceLines (s : Sheet) (xs : List TextLine) : Type 0 where
   pub proof : InstanceDerivation (s .clauses) (s .goal) environment
   pub textLines : xs ≡ answerLines units (freeVariables (s .goal)) environment (lines (proof .derivation))
 
-module _ (s : Sheet) (closed : All Closed (s .clauses)) (names : (v : ℕ) → freeG (s .goal) v ≡ true → v < variableNames) where
-  -- the names asked for
-  free-is : (v : ℕ) → freeG (s .goal) v ≡ true → Mem v (freeVariables (s .goal))
+module _ (s : Sheet) (closed : All Closed (s .clauses)) (small : (v : ℕ) → freeG (s .goal) v ≡ true → v < variableNames) where
+  -- each name that stands free has a B line
+  free-due : (v : ℕ) → freeG (s .goal) v ≡ true → Mem v (freeVariables (s .goal))
   unfolding freeVariables
-  free-is v f = free-mem 8 0 (s .goal) v f (omega arith) (let l = names v f in omega arith)
+  free-due v f = free-mem 8 0 (s .goal) v f (omega arith) (let l = small v f in omega arith)
 
   -- what proceeds to no sequent left are the lines of a derivation of an instance
   pub proceeds-instance : (xs : List TextLine) → Proceeds s xs opening (sequents []) → InstanceLines s xs
@@ -254,27 +255,39 @@ module _ (s : Sheet) (closed : All Closed (s .clauses)) (names : (v : ℕ) → f
         least = h .0;
         most = h .1;
         environment = b .environment;
-        proof = record { level0 = λ v f. all-mem (λ w. level (b .environment w) ≤ 0) vs v (b .low) (free-is v f); derivation = d .0 };
+        proof = record { level0 = λ v f. all-mem (λ w. level (b .environment w) ≤ 0) vs v (b .low) (free-due v f); derivation = d .0 };
         textLines = ap (resultLine n ∷_) (b .textLines
             ∙ ap (λ (ls : List (Line Symbol)). map (λ v. bindingLine v (b .environment v)) vs ++ map derivationLine ls) (sym (d .1)));
       }
   proceeds-instance (bindingLine v t ∷ xs) h = absurd h
   proceeds-instance (derivationLine x ∷ xs) h = absurd h
 
-  -- and those, renamed, proceed to no sequent left
+  -- the renamed lines of a derivation derive the instance that the renamed B lines name
+  renamed-derives : (r : Renaming) (e : Environment Symbol) (d : Derivable (instanceOf (s .clauses) (s .goal) e))
+      → Derives (map (renameLine r) (lines d)) (instanceOf (s .clauses) (s .goal) (bound (freeVariables (s .goal)) (putEnvironment (renamed r) e) blank) ∷ [])
+  renamed-derives r e d =
+      let vs = freeVariables (s .goal) in
+      let e′ = putEnvironment (renamed r) e in
+      let g = instanceOf (s .clauses) (s .goal) (bound vs e′ blank) in
+      let a = instance-rename (s .clauses) (s .goal) r e d in
+      let b = locality (s .clauses) (s .goal) closed .tree e′ (bound vs e′ blank) (λ v f. sym (bound-agree vs e′ blank v (free-due v f))) (a .0) in
+      subst (λ (ls : List (Line Symbol)). Derives ls (g ∷ [])) (b .1 ∙ a .1) (trees g .tree-lines (b .0))
+
+  -- whose terms have level 0
+  renamed-low : (r : Renaming) (e : Environment Symbol) → InstanceDerivation (s .clauses) (s .goal) e → All (λ v. level (putEnvironment (renamed r) e v) ≤ 0) (freeVariables (s .goal))
+  unfolding freeVariables
+  renamed-low r e d =
+      all-weaken (λ v. freeG (s .goal) v ≡ true) (λ v. level (putEnvironment (renamed r) e v) ≤ 0) (λ v f. rename-level r 0 (e v) (d .level0 v f))
+      (freeVariables (s .goal)) (free-all 8 0 (s .goal))
+
+  -- so they, renamed, proceed to no sequent left
   pub instance-proceeds : (r : Renaming) (xs : List TextLine) → InstanceLines s xs → Proceeds s (map (renameTextLine r) xs) opening (sequents [])
-  unfolding Proceeds Allowed answerLines boundStage freeVariables
+  unfolding Proceeds Allowed answerLines boundStage
   instance-proceeds r xs h =
       let vs = freeVariables (s .goal) in
       let e = putEnvironment (renamed r) (h .environment) in
-      let f = bound vs e blank in
       let ls = map (renameLine r) (lines (h .proof .derivation)) in
-      let d = instance-rename (s .clauses) (s .goal) r (h .environment) (h .proof .derivation) in
-      let c = locality (s .clauses) (s .goal) closed .tree e f (λ v k. sym (bound-agree vs e blank v (free-is v k))) (d .0) in
-      let derives : Derives ls (instanceOf (s .clauses) (s .goal) f ∷ []) =
-      subst (λ (ks : List (Line Symbol)). Derives ks (instanceOf (s .clauses) (s .goal) f ∷ [])) (c .1 ∙ d .1) (trees (instanceOf (s .clauses) (s .goal) f) .tree-lines (c .0)) in
-      let low : All (λ v. level (e v) ≤ 0) vs =
-      all-weaken (λ v. freeG (s .goal) v ≡ true) (λ v. level (e v) ≤ 0) (λ v k. rename-level r 0 (h .environment v) (h .proof .level0 v k)) vs (free-all 8 0 (s .goal)) in
+      let derives = leads-proceeds s ls (instanceOf (s .clauses) (s .goal) (bound vs e blank) ∷ []) [] (renamed-derives r (h .environment) (h .proof .derivation)) in
       subst (λ (ys : List TextLine). Proceeds s ys opening (sequents []))
       (sym (ap (map (renameTextLine r)) (h .textLines) ∙ answer-rename r (h .units) vs (h .environment) (lines (h .proof .derivation))))
-      (h .least, h .most, bindings-proceed s vs e blank (map derivationLine ls) (sequents []) low (leads-proceeds s ls (instanceOf (s .clauses) (s .goal) f ∷ []) [] derives))
+      (h .least, h .most, bindings-proceed s vs e blank (map derivationLine ls) (sequents []) (renamed-low r (h .environment) (h .proof)) derives)

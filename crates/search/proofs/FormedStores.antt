@@ -1,0 +1,202 @@
+-- Stores whose terms are well-formed and whose levels are at most n: matching keeps them so, and so are their final values.
+use Prim.Native.Nat.{ℕ, suc, _≤_}
+use mathlib.Core.Bool.{Bool, true, false, _&&_, cond}
+use mathlib.Core.List.{List, [], _∷_, map}
+use mathlib.Core.Option.{Option, none, some, Option·map}
+use native.Mathlib.Omega.{arith}
+use lib.Dec.{eqb, leb}
+use Rattle.terms.specs.Lists.{All, update}
+use Rattle.terms.specs.Terms.{Term, leaf, app, Terms, nil, cons, substitute}
+use Rattle.terms.proofs.Lists.{all-append, all-map, update-all}
+use Rattle.sequents.specs.Symbols.{Symbol, symbolLevel}
+use Rattle.unification.specs.Store.{Leaf, var, con, Binding, Store, look1, look, lower, bind, freshLevels, fresh, freshVariables, boundTo, at, onlyAt, solve1, solved, solution}
+use Rattle.unification.specs.Matching.{Pair, Matching, pairs, check, fail, pushTerms, pushPairs, comparing, onNode, visit, compareTerms, matchStep}
+use Rattle.unification.proofs.Stores.{lower-le}
+use Rattle.search.specs.Answers.{symbolOf, final}
+use Rattle.search.proofs.Formed.{Arities, FormedTerm, FormedTerms, formed-substitute}
+
+-- The level of a made constant is at most n.
+unfoldable pub UpTo : ℕ → Leaf → Type 0
+UpTo n (var x) = Unit {0}
+UpTo n (con c k) = k ≤ n
+
+-- The level of a symbol is at most n.
+abbrev pub SymbolUpTo : ℕ → Symbol → Type 0
+SymbolUpTo n a = symbolLevel a ≤ n
+
+module _ (ok : Arities) (n : ℕ) where
+  -- A well-formed term of the search.
+  abbrev pub TermUpTo : Term Leaf → Type 0
+  TermUpTo t = FormedTerm t ok (UpTo n)
+
+  -- A pair to be compared.
+  abbrev pub PairUpTo : Pair → Type 0
+  PairUpTo p = TermUpTo (p .goal) × TermUpTo (p .clause)
+
+  -- A store, as to all its levels and what is bound.
+  pub record StoreUpTo (s : Store) : Type 0 where
+    pub levels : (x : ℕ) → s .level x ≤ n
+    pub values : All (λ b. TermUpTo (b .value)) (s .bindings)
+
+  -- A matching under way.
+  unfoldable pub MatchingUpTo : Matching → Type 0
+  MatchingUpTo (pairs s ps) = StoreUpTo s × All PairUpTo ps
+  MatchingUpTo (check s y t u us ps) = StoreUpTo s × TermUpTo t × All TermUpTo (u ∷ us) × All PairUpTo ps
+  MatchingUpTo fail = Unit {0}
+
+  -- looking through bindings
+  look-formed : (bs : List Binding) (t : Term Leaf) → All (λ b. TermUpTo (b .value)) bs → TermUpTo t → TermUpTo (look bs t)
+  unfolding look look1
+  look-formed [] t h k = k
+  look-formed (b ∷ bs) t h k = once (look bs t) (look-formed bs t (h .1) k)
+    where
+      once : (u : Term Leaf) → TermUpTo u → TermUpTo (look1 u b)
+      once (leaf (var x)) i = go (eqb x (b .name))
+        where
+          go : (c : Bool) → TermUpTo (cond c (b .value) (leaf (var x)))
+          go true = h .0
+          go false = i
+      once (leaf (con c k)) i = i
+      once (app f ts) i = i
+
+  -- a level lowered
+  lower-formed : (s : Store) (z k : ℕ) → StoreUpTo s → StoreUpTo (lower s z k)
+  unfolding lower
+  lower-formed s z k h = record { levels = λ x. (let p = lower-le s z k x in let q = h .levels x in omega arith); values = h .values }
+
+  -- fresh variables
+  pub fresh-formed : (vs : List ℕ) (i : ℕ) (s : Store) → i ≤ n → StoreUpTo s → StoreUpTo (fresh vs i s)
+  unfolding fresh freshLevels
+  fresh-formed vs i s l h = record { levels = levels vs (s .next) (s .level) (h .levels); values = h .values }
+    where
+      levels : (vs : List ℕ) (m : ℕ) (f : ℕ → ℕ) → ((x : ℕ) → f x ≤ n) → (x : ℕ) → freshLevels vs m i f x ≤ n
+      levels [] m f k = k
+      levels (v ∷ vs) m f k = levels vs (suc m) (update f m i) (update-all (λ j. j ≤ n) f m i k l)
+
+  -- they are terms
+  pub freshVariables-formed : (vs : List ℕ) (m : ℕ) → All TermUpTo (freshVariables vs m)
+  unfolding freshVariables FormedTerm UpTo
+  freshVariables-formed [] m = tt
+  freshVariables-formed (v ∷ vs) m = (tt, freshVariables-formed vs (suc m))
+
+  -- matching
+
+  -- after a node
+  onNode-formed : (s : Store) (y : ℕ) (t : Term Leaf) (us : List (Term Leaf)) (ps : List Pair) → StoreUpTo s → TermUpTo t → All TermUpTo us → All PairUpTo ps
+      → MatchingUpTo (onNode s y t us ps)
+  unfolding onNode MatchingUpTo bind
+  onNode-formed s y t [] ps h k i j = (record { levels = h .levels; values = (k, h .values) }, j)
+  onNode-formed s y t (u ∷ us) ps h k i j = (h, k, i, j)
+
+  -- arguments as nodes
+  pushTerms-formed : (ts : Terms Leaf) (us : List (Term Leaf)) → FormedTerms ts ok (UpTo n) → All TermUpTo us → All TermUpTo (pushTerms ts us)
+  unfolding pushTerms FormedTerm
+  pushTerms-formed nil us h k = k
+  pushTerms-formed (cons t ts) us h k = (h .0, pushTerms-formed ts us (h .1) k)
+
+  -- a test that fails the matching
+  if-formed : (b : Bool) (m : Matching) → MatchingUpTo m → MatchingUpTo (cond b m fail)
+  unfolding MatchingUpTo
+  if-formed true m h = h
+  if-formed false m h = tt
+
+  -- a node that is looked at
+  visit-formed : (s : Store) (y : ℕ) (t u : Term Leaf) (us : List (Term Leaf)) (ps : List Pair) → StoreUpTo s → TermUpTo t → TermUpTo u → All TermUpTo us → All PairUpTo ps
+      → MatchingUpTo (visit s y t u us ps)
+  unfolding visit MatchingUpTo FormedTerm
+  visit-formed s y t (leaf (var z)) us ps h k i j p = go (eqb z y)
+    where
+      go : (b : Bool) → MatchingUpTo (cond b fail (onNode (lower s z (s .level y)) y t us ps))
+      go true = tt
+      go false = onNode-formed (lower s z (s .level y)) y t us ps (lower-formed s z (s .level y) h) k j p
+  visit-formed s y t (leaf (con c l)) us ps h k i j p = if-formed (leb l (s .level y)) (onNode s y t us ps) (onNode-formed s y t us ps h k j p)
+  visit-formed s y t (app f ts) us ps h k i j p = onNode-formed s y t (pushTerms ts us) ps h k (pushTerms-formed ts us (i .1) j) p
+
+  -- the argument pairs of two lists of terms
+  pub comparing-formed : (s : Store) (ts us : Terms Leaf) (ps : List Pair) → StoreUpTo s → FormedTerms ts ok (UpTo n) → FormedTerms us ok (UpTo n) → All PairUpTo ps
+      → MatchingUpTo (comparing s (pushPairs ts us ps))
+  unfolding pushPairs comparing MatchingUpTo FormedTerm
+  comparing-formed s nil nil ps h k i p = (h, p)
+  comparing-formed s nil (cons u us) ps h k i p = tt
+  comparing-formed s (cons t ts) nil ps h k i p = tt
+  comparing-formed s (cons t ts) (cons u us) ps h k i p = go (pushPairs ts us ps) (comparing-formed s ts us ps h (k .1) (i .1) p)
+    where
+      go : (q : Option (List Pair)) → MatchingUpTo (comparing s q) → MatchingUpTo (comparing s (Option·map (λ qs. record { goal = t; clause = u } ∷ qs) q))
+      go none j = tt
+      go (some qs) j = (h, ((k .0, i .0), j .1))
+
+  -- a pair that is compared
+  compareTerms-formed : (s : Store) (t u : Term Leaf) (ps : List Pair) → StoreUpTo s → TermUpTo t → TermUpTo u → All PairUpTo ps → MatchingUpTo (compareTerms s t u ps)
+  unfolding compareTerms MatchingUpTo FormedTerm
+  compareTerms-formed s (leaf (var x)) (leaf (var y)) ps h k i p = go (eqb x y)
+    where
+      go : (b : Bool) → MatchingUpTo (cond b (pairs s ps) (check s x (leaf (var y)) (leaf (var y)) [] ps))
+      go true = (h, p)
+      go false = (h, i, (i, tt), p)
+  compareTerms-formed s (leaf (var x)) (leaf (con d j)) ps h k i p = (h, i, (i, tt), p)
+  compareTerms-formed s (leaf (var x)) (app g us) ps h k i p = (h, i, (i, tt), p)
+  compareTerms-formed s (leaf (con c l)) (leaf (var y)) ps h k i p = (h, k, (k, tt), p)
+  compareTerms-formed s (leaf (con c l)) (leaf (con d j)) ps h k i p = if-formed (eqb c d && eqb l j) (pairs s ps) (h, p)
+  compareTerms-formed s (leaf (con c l)) (app g us) ps h k i p = tt
+  compareTerms-formed s (app f ts) (leaf (var y)) ps h k i p = (h, k, (k, tt), p)
+  compareTerms-formed s (app f ts) (leaf (con d j)) ps h k i p = tt
+  compareTerms-formed s (app f ts) (app g us) ps h k i p = if-formed (eqb f g) (comparing s (pushPairs ts us ps)) (comparing-formed s ts us ps h (k .1) (i .1) p)
+
+  -- one act
+  pub matchStep-formed : (m : Matching) → MatchingUpTo m → MatchingUpTo (matchStep m)
+  unfolding matchStep MatchingUpTo
+  matchStep-formed (pairs s []) h = h
+  matchStep-formed (pairs s (p ∷ ps)) h =
+      let bs = s .bindings in
+      compareTerms-formed s (look bs (p .goal)) (look bs (p .clause)) ps (h .0) (look-formed bs (p .goal) (h .0 .values) (h .1 .0 .0))
+      (look-formed bs (p .clause) (h .0 .values) (h .1 .0 .1)) (h .1 .1)
+  matchStep-formed (check s y t u us ps) h =
+      visit-formed s y t (look (s .bindings) u) us ps (h .0) (h .1) (look-formed (s .bindings) u (h .0 .values) (h .2 .0)) (h .2 .1) (h .3)
+  matchStep-formed fail h = tt
+
+  -- final values
+
+  -- what is bound to a variable, or the variable
+  boundTo-formed : (bs : List Binding) (x : ℕ) → All (λ b. TermUpTo (b .value)) bs → TermUpTo (boundTo bs x)
+  unfolding boundTo FormedTerm UpTo
+  boundTo-formed [] x h = tt
+  boundTo-formed (b ∷ bs) x h = go (eqb x (b .name)) (boundTo-formed bs x (h .1))
+    where
+      go : (c : Bool) → TermUpTo (boundTo bs x) → TermUpTo (cond c (b .value) (boundTo bs x))
+      go true i = h .0
+      go false i = i
+
+  -- formed terms for the variables of a formed term
+  apply-formed : (t : Term Leaf) (θ : ℕ → Term Leaf) → ((x : ℕ) → TermUpTo (θ x)) → TermUpTo t → TermUpTo (substitute t (at θ))
+  unfolding at FormedTerm UpTo
+  apply-formed t θ h k = formed-substitute t (at θ) ok (UpTo n) (UpTo n) leaves k
+    where
+      leaves : (a : Leaf) → UpTo n a → FormedTerm (at θ a) ok (UpTo n)
+      leaves (var x) i = h x
+      leaves (con c l) i = i
+
+  -- the bindings put to use in one another
+  solved-formed : (bs : List Binding) → All (λ b. TermUpTo (b .value)) bs → All (λ b. TermUpTo (b .value)) (solved bs)
+  unfolding solved solve1 onlyAt FormedTerm UpTo
+  solved-formed [] h = tt
+  solved-formed (b ∷ bs) h =
+      let earlier = solved-formed bs (h .1) in
+      let value : TermUpTo (substitute (b .value) (at (boundTo (solved bs)))) = apply-formed (b .value) (boundTo (solved bs)) (λ x. boundTo-formed (solved bs) x earlier) (h .0) in
+      let new : Binding = record { name = b .name; value = substitute (b .value) (at (boundTo (solved bs))) } in
+      all-append (λ c. TermUpTo (c .value)) (map (solve1 new) (solved bs)) (new ∷ [])
+      (all-map (solve1 new) (λ c. TermUpTo (c .value)) (λ c. TermUpTo (c .value))
+      (λ c k. apply-formed (c .value) (onlyAt (new .name) (new .value)) (update-all TermUpTo (λ x. leaf (var x)) (new .name) (new .value) (λ x. tt) value) k) (solved bs) earlier)
+      (value, tt)
+
+  -- the final value of a leaf
+  pub final-formed : (s : Store) (a : Leaf) → StoreUpTo s → UpTo n a → FormedTerm (final s a) ok (SymbolUpTo n)
+  unfolding final solution at symbolOf symbolLevel FormedTerm UpTo
+  final-formed s a h k = formed-substitute (at (solution s) a) (symbolOf s) ok (UpTo n) (SymbolUpTo n) symbol (value a k)
+    where
+      symbol : (b : Leaf) → UpTo n b → FormedTerm (symbolOf s b) ok (SymbolUpTo n)
+      symbol (var x) i = h .levels x
+      symbol (con c l) i = i
+
+      value : (b : Leaf) → UpTo n b → TermUpTo (at (solution s) b)
+      value (var x) i = boundTo-formed (solved (s .bindings)) x (solved-formed (s .bindings) (h .values))
+      value (con c l) i = i
