@@ -1,1 +1,120 @@
-// The lent table, see specs/ and proofs/.
+// The lent table of 8,192 numbers: symbols, nodes and clauses, read field by field. A read past the end gives 0.
+use memory::get;
+use memory::wide;
+ghost use mathlib.Core.Path.{_≡_};
+ghost use Prim.Native.Nat.{_+_, _*_, _<_, _≤_};
+ghost use lib.Dec.{eqb};
+ghost use lib.ListN.{length, getD};
+ghost use Rattle.tables.specs.Layout.{symbolAt, nodeAt, kindOf, childCount, labelOf, childOf, infoOf, maskOf, goalBit, membersOf, sizeOf, nameStart, nameLength, isFunctionBit, arityOf, clauseNode};
+
+// Field f of node n.
+fn node_field(t: &[u32], n: u32, f: usize) -> u32
+    requires { ⌜ f < 8589934592 ⌝ }
+    ensures { λ r. ⌜ r ≡ getD (now (t .entry)) (nodeAt n f) 0 ⌝ }
+{
+    let w = wide(n);
+    get(t, 768 + (7 * w + f))
+}
+
+// Field f of symbol i.
+fn symbol_field(t: &[u32], i: u32, f: usize) -> u32
+    requires { ⌜ f < 8589934592 ⌝ }
+    ensures { λ r. ⌜ r ≡ getD (now (t .entry)) (symbolAt i f) 0 ⌝ }
+{
+    let w = wide(i);
+    get(t, 3 * w + f)
+}
+
+// 0 V, 1 F applied, 2 P applied, 3 Y, 4 &, 5 |, 6 >, 7 E, 8 U.
+pub fn kind(t: &[u32], n: u32) -> u32
+    ensures { λ r. ⌜ r ≡ kindOf (now (t .entry)) n ⌝ }
+{
+    node_field(t, n, 0) % 16
+}
+
+pub fn child_count(t: &[u32], n: u32) -> u32
+    ensures { λ r. ⌜ r ≡ childCount (now (t .entry)) n ⌝ }
+{
+    node_field(t, n, 0) / 16
+}
+
+// The symbol of an application or an atom, the variable of V, E and U.
+pub fn label(t: &[u32], n: u32) -> u32
+    ensures { λ r. ⌜ r ≡ labelOf (now (t .entry)) n ⌝ }
+{
+    node_field(t, n, 1)
+}
+
+pub fn child(t: &[u32], n: u32, j: u32) -> u32
+    ensures { λ r. ⌜ r ≡ childOf (now (t .entry)) n j ⌝ }
+{
+    let w = wide(j);
+    node_field(t, n, 2 + w)
+}
+
+// What the node is: mask, goal bit, members and size in one number.
+pub fn info(t: &[u32], n: u32) -> u32
+    ensures { λ r. ⌜ r ≡ infoOf (now (t .entry)) n ⌝ }
+{
+    node_field(t, n, 6)
+}
+
+// The free variables: variable v is bit v.
+pub fn mask(t: &[u32], n: u32) -> u32
+    ensures { λ r. ⌜ (r ≡ maskOf (now (t .entry)) n) × (r < 256) ⌝ }
+{
+    info(t, n) % 256
+}
+
+pub fn is_goal(t: &[u32], n: u32) -> bool
+    ensures { λ r. ⌜ r ≡ eqb (goalBit (now (t .entry)) n) 1 ⌝ }
+{
+    let bit = info(t, n) / 256 % 2;
+    bit == 1
+}
+
+// How many members the clause has; 0 if it is none.
+pub fn members(t: &[u32], n: u32) -> u32
+    ensures { λ r. ⌜ (r ≡ membersOf (now (t .entry)) n) × (r < 128) ⌝ }
+{
+    info(t, n) / 512 % 128
+}
+
+// How many variables and symbols the term has; 0 if it is none.
+pub fn size(t: &[u32], n: u32) -> u32
+    ensures { λ r. ⌜ (r ≡ sizeOf (now (t .entry)) n) × (r < 65536) ⌝ }
+{
+    info(t, n) / 65536
+}
+
+pub fn name_start(t: &[u32], i: u32) -> u32
+    ensures { λ r. ⌜ r ≡ nameStart (now (t .entry)) i ⌝ }
+{
+    symbol_field(t, i, 0)
+}
+
+pub fn name_length(t: &[u32], i: u32) -> u32
+    ensures { λ r. ⌜ r ≡ nameLength (now (t .entry)) i ⌝ }
+{
+    symbol_field(t, i, 1)
+}
+
+pub fn is_function(t: &[u32], i: u32) -> bool
+    ensures { λ r. ⌜ r ≡ eqb (isFunctionBit (now (t .entry)) i) 1 ⌝ }
+{
+    let bit = symbol_field(t, i, 2) % 2;
+    bit == 1
+}
+
+pub fn arity(t: &[u32], i: u32) -> u32
+    ensures { λ r. ⌜ r ≡ arityOf (now (t .entry)) i ⌝ }
+{
+    symbol_field(t, i, 2) / 2
+}
+
+pub fn clause_node(t: &[u32], i: u32) -> u32
+    ensures { λ r. ⌜ r ≡ clauseNode (now (t .entry)) i ⌝ }
+{
+    let w = wide(i);
+    get(t, 7936 + w)
+}

@@ -1,0 +1,4 @@
+-- Laws of the table's definitions.
+pub mod Same
+pub mod Decoding
+pub mod Nodes
