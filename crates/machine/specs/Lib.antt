@@ -1,0 +1,14 @@
+-- The machine in flat memory ("level 2"): the search on the numbers of the lent table and work buffer, shaped as the code is.
+pub mod Records
+pub mod Changes
+pub mod Words
+pub mod Trail
+pub mod Frames
+pub mod Members
+pub mod Choices
+pub mod Goals
+pub mod Matching
+pub mod Trying
+pub mod Machine
+pub mod Reading
+pub mod Simulation

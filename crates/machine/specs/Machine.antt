@@ -1,0 +1,62 @@
+-- One act of the machine, and at most so many acts from any registers.
+use Prim.Native.Nat.{ℕ, zero, suc}
+use mathlib.Core.Bool.{Bool, true, false, cond}
+use mathlib.Core.List.{List, [], _∷_}
+use lib.Dec.{eqb, ltb}
+use Rattle.machine.specs.declared.Registers.{Registers}
+use Rattle.machine.specs.Records.{Made, made}
+use Rattle.machine.specs.Changes.{onActs}
+use Rattle.machine.specs.Words.{up}
+use Rattle.machine.specs.Frames.{putVariables}
+use Rattle.machine.specs.Goals.{takeGoal}
+use Rattle.machine.specs.Matching.{comparePair, checkNode}
+use Rattle.machine.specs.Trying.{tryNext}
+
+-- The act that is due: t is the table, c the number of the sheet's clauses.
+unfoldable pub dueAct : List ℕ → ℕ → List ℕ → Registers → Made
+dueAct t c w r =
+    cond (eqb (r .mode) 0) (takeGoal t c w r)
+    (cond (eqb (r .mode) 1) (tryNext t c w r) (cond (eqb (r .mode) 2) (comparePair t w r) (checkNode t w r)))
+
+-- "Each of these four acts takes one unit".
+unfoldable pub act : List ℕ → ℕ → List ℕ → Registers → Made
+act t c w r =
+    let m = dueAct t c w r in
+    made (m .memory) (onActs (m .registers) (up (r .acts)))
+
+-- At most n acts: while one is due.
+unfoldable pub run : ℕ → List ℕ → ℕ → List ℕ → Registers → Made
+run zero t c w r = made w r
+run (suc n) t c w r = elim (ltb (r .mode) 4) [ true ↦ run n t c (act t c w r .memory) (act t c w r .registers) | false ↦ made w r ]
+
+-- The start: the eight variables of the goal's names are made, the goal is due.
+unfoldable pub startMemory : List ℕ → List ℕ
+startMemory w = putVariables 8 w 0
+
+unfoldable pub startRegisters : ℕ → Registers
+startRegisters goal = record {
+  acts = 0;
+  mode = 0;
+  next = 8;
+  trail = 0;
+  choice = 0;
+  goals = 0;
+  path = 0;
+  line = 0;
+  node = goal;
+  frame = 0;
+  program = 0;
+  level = 0;
+  hypothesis = 0;
+  clause = 0;
+  member = 0;
+  place = 0;
+  pairs = 0;
+  variable = 0;
+  value = 0;
+  nodes = 0;
+}
+
+-- From the start, within a budget.
+unfoldable pub runMachine : ℕ → List ℕ → ℕ → ℕ → List ℕ → Made
+runMachine budget t c goal w = run budget t c (startMemory w) (startRegisters goal)

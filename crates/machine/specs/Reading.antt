@@ -1,0 +1,43 @@
+-- How the work buffer is read back as level 1's data: the store, the path. (Words has leaves, environments and terms.)
+use Prim.Native.Nat.{ℕ, zero, suc, _-_, _<_}
+use mathlib.Core.Path.{_≡_}
+use mathlib.Core.Bool.{Bool, true, false, cond}
+use mathlib.Core.List.{List, [], _∷_}
+use lib.Dec.{eqb}
+use Rattle.terms.specs.Terms.{Term, leaf}
+use Rattle.sequents.specs.Sequents.{Word, Dtrue, Dand, Dleft, Dright, Dassume, Line, plain, Dsome, Dall, Dclause}
+use Rattle.unification.specs.Store.{Leaf, var, con, Store, boundTo}
+use Rattle.machine.specs.declared.Registers.{Registers}
+use Rattle.machine.specs.Records.{field, cellOf, levelOf}
+use Rattle.machine.specs.Words.{termOf}
+
+-- What a variable is bound to; itself, if to nothing.
+unfoldable pub variableOf : List ℕ → List ℕ → ℕ → Term Leaf
+variableOf t w x = cond (eqb (cellOf w x) 0) (leaf (var x)) (termOf t w (cellOf w x))
+
+-- The variables made read as the store's.
+pub record Holds (t w : List ℕ) (r : Registers) (s : Store) : Type 0 where
+  pub next : r .next ≡ s .next
+  pub bindings : (x : ℕ) → x < s .next → variableOf t w x ≡ boundTo (s .bindings) x
+  pub levels : (x : ℕ) → x < s .next → levelOf w x ≡ s .level x
+
+-- The fresh variables of a prefix: n of them, from x on.
+unfoldable pub variablesFrom : ℕ → ℕ → List (Term Leaf)
+variablesFrom zero x = []
+variablesFrom (suc n) x = leaf (var x) ∷ variablesFrom n (suc x)
+
+-- The line of the path in record q; which of the eight it is stands with the pointer to it (Records).
+unfoldable pub lineAt : List ℕ → ℕ → ℕ → Line Leaf
+lineAt w q k =
+    cond (eqb k 0) (plain Dtrue)
+    (cond (eqb k 1) (plain Dand)
+    (cond (eqb k 2) (plain Dleft)
+    (cond (eqb k 3) (plain Dright)
+    (cond (eqb k 4) (plain Dassume)
+    (cond (eqb k 5) (Dsome (leaf (var (field w q 43))))
+    (cond (eqb k 6) (Dall (leaf (con q (field w q 22)))) (Dclause (field w q 41) (variablesFrom (field w q 42) (field w q 43)))))))))
+
+-- The path from pointer p on, latest line first, at most n lines.
+unfoldable pub pathFrom : ℕ → List ℕ → ℕ → ℕ → List (Line Leaf)
+pathFrom zero w p k = []
+pathFrom (suc n) w p k = elim (eqb p 0) [ true ↦ [] | false ↦ lineAt w (p - 1) k ∷ pathFrom n w (field w (p - 1) 39) (field w (p - 1) 40) ]
