@@ -1,0 +1,2 @@
+-- What the reader of a line answers, by the definitions of `sheets`.
+pub mod Lines

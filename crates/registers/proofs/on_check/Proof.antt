@@ -1,0 +1,13 @@
+use Rattle.machine.specs.Changes.{onCheck}
+use mathlib.Core.Path.{refl}
+use Rattle.registers.proofs.on_check.Statement.{statement}
+use Rattle.registers.proofs.on_check.Tie as tie
+use Rattle.registers.proofs.on_check.Reads as reads
+use Rattle.registers.proofs.on_check.Lts as lts
+
+returns : tie.Need-returns
+unfolding onCheck
+returns c = refl
+
+pub on-check-spec : {M : Type 1} → statement M
+on-check-spec = tie.close (tie.spec returns)

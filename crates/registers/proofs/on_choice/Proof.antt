@@ -1,0 +1,13 @@
+use Rattle.machine.specs.Changes.{onChoice}
+use mathlib.Core.Path.{refl}
+use Rattle.registers.proofs.on_choice.Statement.{statement}
+use Rattle.registers.proofs.on_choice.Tie as tie
+use Rattle.registers.proofs.on_choice.Reads as reads
+use Rattle.registers.proofs.on_choice.Lts as lts
+
+returns : tie.Need-returns
+unfolding onChoice
+returns c = refl
+
+pub on-choice-spec : {M : Type 1} → statement M
+on-choice-spec = tie.close (tie.spec returns)

@@ -1,0 +1,13 @@
+use Rattle.machine.specs.Changes.{onGoals}
+use mathlib.Core.Path.{refl}
+use Rattle.registers.proofs.on_goals.Statement.{statement}
+use Rattle.registers.proofs.on_goals.Tie as tie
+use Rattle.registers.proofs.on_goals.Reads as reads
+use Rattle.registers.proofs.on_goals.Lts as lts
+
+returns : tie.Need-returns
+unfolding onGoals
+returns c = refl
+
+pub on-goals-spec : {M : Type 1} → statement M
+on-goals-spec = tie.close (tie.spec returns)

@@ -1,0 +1,13 @@
+use Rattle.machine.specs.Changes.{onNodes}
+use mathlib.Core.Path.{refl}
+use Rattle.registers.proofs.on_nodes.Statement.{statement}
+use Rattle.registers.proofs.on_nodes.Tie as tie
+use Rattle.registers.proofs.on_nodes.Reads as reads
+use Rattle.registers.proofs.on_nodes.Lts as lts
+
+returns : tie.Need-returns
+unfolding onNodes
+returns c = refl
+
+pub on-nodes-spec : {M : Type 1} → statement M
+on-nodes-spec = tie.close (tie.spec returns)

@@ -1,0 +1,13 @@
+use Rattle.machine.specs.Changes.{onPath}
+use mathlib.Core.Path.{refl}
+use Rattle.registers.proofs.on_path.Statement.{statement}
+use Rattle.registers.proofs.on_path.Tie as tie
+use Rattle.registers.proofs.on_path.Reads as reads
+use Rattle.registers.proofs.on_path.Lts as lts
+
+returns : tie.Need-returns
+unfolding onPath
+returns c = refl
+
+pub on-path-spec : {M : Type 1} → statement M
+on-path-spec = tie.close (tie.spec returns)

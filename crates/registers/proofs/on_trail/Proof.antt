@@ -1,0 +1,13 @@
+use Rattle.machine.specs.Changes.{onTrail}
+use mathlib.Core.Path.{refl}
+use Rattle.registers.proofs.on_trail.Statement.{statement}
+use Rattle.registers.proofs.on_trail.Tie as tie
+use Rattle.registers.proofs.on_trail.Reads as reads
+use Rattle.registers.proofs.on_trail.Lts as lts
+
+returns : tie.Need-returns
+unfolding onTrail
+returns c = refl
+
+pub on-trail-spec : {M : Type 1} → statement M
+on-trail-spec = tie.close (tie.spec returns)

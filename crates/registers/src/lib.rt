@@ -1,0 +1,205 @@
+// The registers of the engine's machine: their changes, and choice points, on the lent work buffer. Each function is a definition of
+// the crate machine, and its contract says so.
+use machine::Registers;
+use cells::field;
+use cells::put_choice;
+use cells::put_chosen;
+use cells::put_field;
+use cells::put_position;
+use cells::undo;
+ghost use mathlib.Core.Path.{_≡_};
+ghost use Rattle.machine.specs.Records.{made};
+ghost use Rattle.machine.specs.Changes.{onActs, onMode, onNext, onTrail, onChoice, onGoals, onPath, onGoal, onMember, onPairs, onCheck, onNodes};
+ghost use Rattle.machine.specs.Choices.{saveChoice, resumeGoal, resumeMember, resumeBranch, resume, takeUp, failed};
+
+// One more act is done.
+pub fn on_acts(r: Registers, a: u32) -> Registers
+    ensures { λ s. ⌜ s ≡ onActs r a ⌝ }
+{
+    let mut s = r;
+    s.acts = a;
+    s
+}
+
+// The act that is due, or the verdict.
+pub fn on_mode(r: Registers, m: u32) -> Registers
+    ensures { λ s. ⌜ s ≡ onMode r m ⌝ }
+{
+    let mut s = r;
+    s.mode = m;
+    s
+}
+
+// Variables have been made.
+pub fn on_next(r: Registers, n: u32) -> Registers
+    ensures { λ s. ⌜ s ≡ onNext r n ⌝ }
+{
+    let mut s = r;
+    s.next = n;
+    s
+}
+
+// The latest trail entry.
+pub fn on_trail(r: Registers, h: u32) -> Registers
+    ensures { λ s. ⌜ s ≡ onTrail r h ⌝ }
+{
+    let mut s = r;
+    s.trail = h;
+    s
+}
+
+// The latest choice point.
+pub fn on_choice(r: Registers, q: u32) -> Registers
+    ensures { λ s. ⌜ s ≡ onChoice r q ⌝ }
+{
+    let mut s = r;
+    s.choice = q;
+    s
+}
+
+// The goals that wait.
+pub fn on_goals(r: Registers, q: u32) -> Registers
+    ensures { λ s. ⌜ s ≡ onGoals r q ⌝ }
+{
+    let mut s = r;
+    s.goals = q;
+    s
+}
+
+// The latest line of the path.
+pub fn on_path(r: Registers, p: u32, l: u32) -> Registers
+    ensures { λ s. ⌜ s ≡ onPath r p l ⌝ }
+{
+    let mut s = r;
+    s.path = p;
+    s.line = l;
+    s
+}
+
+// A goal is due.
+pub fn on_goal(r: Registers, n: u32, f: u32, h: u32, i: u32) -> Registers
+    ensures { λ s. ⌜ s ≡ onGoal r n f h i ⌝ }
+{
+    let mut s = r;
+    s.mode = 0;
+    s.node = n;
+    s.frame = f;
+    s.program = h;
+    s.level = i;
+    s
+}
+
+// The member to try.
+pub fn on_member(r: Registers, h: u32, c: u32, k: u32, p: u32) -> Registers
+    ensures { λ s. ⌜ s ≡ onMember r h c k p ⌝ }
+{
+    let mut s = r;
+    s.hypothesis = h;
+    s.clause = c;
+    s.member = k;
+    s.place = p;
+    s
+}
+
+// A pair is due.
+pub fn on_pairs(r: Registers, a: u32) -> Registers
+    ensures { λ s. ⌜ s ≡ onPairs r a ⌝ }
+{
+    let mut s = r;
+    s.mode = 2;
+    s.pairs = a;
+    s
+}
+
+// A range check is due, of the value v for the variable x; then the pairs a.
+pub fn on_check(r: Registers, a: u32, x: u32, v: u32) -> Registers
+    ensures { λ s. ⌜ s ≡ onCheck r a x v ⌝ }
+{
+    let mut s = r;
+    s.mode = 3;
+    s.pairs = a;
+    s.variable = x;
+    s.value = v;
+    s.nodes = 0;
+    s
+}
+
+// The nodes of a range check that wait.
+pub fn on_nodes(r: Registers, a: u32) -> Registers
+    ensures { λ s. ⌜ s ≡ onNodes r a ⌝ }
+{
+    let mut s = r;
+    s.nodes = a;
+    s
+}
+
+// A choice point in record u: what the registers go on with later.
+pub fn save_choice(w: &mut [u32], u: u32, r: Registers)
+    ensures { λ _. ⌜ now (w .exit) ≡ saveChoice (now (w .entry)) u r ⌝ }
+{
+    put_field(w, u, 43, r.next);
+    put_choice(w, u, r.trail, r.choice, r.goals, r.path, r.line);
+    put_chosen(w, u, r.node, r.frame, r.program, r.level);
+    put_position(w, u, r.hypothesis, r.clause, r.member, r.place);
+}
+
+// The registers of the choice point in record q: its goal or atom,
+pub fn resume_goal(w: &[u32], r: Registers, q: u32) -> Registers
+    ensures { λ s. ⌜ s ≡ resumeGoal (now (w .entry)) r q ⌝ }
+{
+    on_goal(r, field(w, q, 49), field(w, q, 50), field(w, q, 51), field(w, q, 52))
+}
+
+// its member, where there is one to try,
+pub fn resume_member(w: &[u32], r: Registers, q: u32) -> Registers
+    ensures { λ s. ⌜ s ≡ resumeMember (now (w .entry)) r q ⌝ }
+{
+    let place = field(w, q, 56);
+    let s = on_member(r, field(w, q, 53), field(w, q, 54), field(w, q, 55), place);
+    if place == 0 {
+        return on_mode(s, 0);
+    }
+    on_mode(s, 1)
+}
+
+// its branch, and what was open before it.
+pub fn resume_branch(w: &[u32], r: Registers, q: u32) -> Registers
+    ensures { λ s. ⌜ s ≡ resumeBranch (now (w .entry)) r q ⌝ }
+{
+    let mut s = r;
+    s.next = field(w, q, 43);
+    s.trail = field(w, q, 44);
+    s.choice = field(w, q, 45);
+    s.goals = field(w, q, 46);
+    s.path = field(w, q, 47);
+    s.line = field(w, q, 48);
+    s
+}
+
+pub fn resume(w: &[u32], r: Registers, q: u32) -> Registers
+    ensures { λ s. ⌜ s ≡ resume (now (w .entry)) r q ⌝ }
+{
+    resume_member(w, resume_goal(w, resume_branch(w, r, q), q), q)
+}
+
+// The choice point in record q is taken up, with all bindings and levels as they were.
+pub fn take_up(w: &mut [u32], r: Registers, q: u32) -> Registers
+    ensures { λ s. ⌜ made (now (w .exit)) s ≡ takeUp (now (w .entry)) r q ⌝ }
+{
+    let s = resume(w, r, q);
+    let mark = field(w, q, 44);
+    let trail = r.trail;
+    undo(trail, w, trail, mark);
+    s
+}
+
+// Failure: the latest choice point, or no.
+pub fn failed(w: &mut [u32], r: Registers) -> Registers
+    ensures { λ s. ⌜ made (now (w .exit)) s ≡ failed (now (w .entry)) r ⌝ }
+{
+    let choice = r.choice;
+    if choice == 0 {
+        return on_mode(r, 5);
+    }
+    take_up(w, r, choice - 1)
+}
