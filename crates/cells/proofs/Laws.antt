@@ -2,17 +2,15 @@
 use Prim.Native.Nat.{ℕ, zero, suc, _+_, _-_, _*_, _/_, _%_, _≤_, _<_}
 use native.Mathlib.Numerals.{add-one, sub-one}
 use native.Mathlib.Omega.{arith}
-use mathlib.Core.Path.{_≡_, refl, sym, ap, _∙_}
+use mathlib.Core.Path.{_≡_, refl, ap, _∙_}
 use mathlib.Core.Bool.{Bool, true, false}
 use mathlib.Core.List.{List}
-use lib.Dec.{eqb, ltb}
 use borrow.Author.Tests.{lt-ltb, le-ltb, eq-eqb, ne-eqb}
 use Rattle.tables.specs.Layout.{kindOf, labelOf, childOf, maskOf, bitOf, membersOf}
 use Rattle.machine.specs.declared.Found.{Found}
-use Rattle.machine.specs.Records.{field, put, cellOf}
+use Rattle.machine.specs.Records.{field, put, cellOf, putEntry}
 use Rattle.machine.specs.Words.{narrow, up, variableWord, tagOf, nameOf, slotOf, lookWord}
 use Rattle.machine.specs.Trail.{lowerTo, bindTo, oldLevel, effect, undoEntry, undo}
-use Rattle.machine.specs.Records.{putEntry}
 use Rattle.machine.specs.Frames.{copyFrame, putVariable, putFresh, putVariables}
 use Rattle.machine.specs.Members.{found, hasName, addName, findMember}
 

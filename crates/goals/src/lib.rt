@@ -1,9 +1,5 @@
 // Taking goals on the lent work buffer and the registers. Each function is a definition of the crate machine, and its contract
 // says so.
-use tables::child;
-use tables::kind;
-use tables::label;
-use machine::Registers;
 use cells::constant_word;
 use cells::copy_frame;
 use cells::field;
@@ -14,6 +10,7 @@ use cells::put_goal;
 use cells::put_path;
 use cells::put_slot;
 use cells::up;
+use machine::Registers;
 use registers::failed;
 use registers::on_choice;
 use registers::on_goal;
@@ -23,6 +20,9 @@ use registers::on_mode;
 use registers::on_next;
 use registers::on_path;
 use registers::save_choice;
+use tables::child;
+use tables::kind;
+use tables::label;
 ghost use mathlib.Core.Path.{_≡_};
 ghost use Rattle.machine.specs.Records.{made};
 ghost use Rattle.machine.specs.Goals.{dueGoal, proceed, membersLeft, tryFrom, takeAtom, takeTrue, takeAnd, rightBranch, takeOr, takeImplies, takeExists, putConstant, takeForall, takeGoal};
@@ -32,7 +32,11 @@ pub fn due_goal(w: &[u32], r: Registers, q: u32) -> Registers
     ensures { λ s. ⌜ s ≡ dueGoal (now (w .entry)) r q ⌝ }
 {
     let s = on_goals(r, field(w, q, 35));
-    on_goal(s, field(w, q, 31), field(w, q, 32), field(w, q, 33), field(w, q, 34))
+    let node = field(w, q, 31);
+    let frame = field(w, q, 32);
+    let program = field(w, q, 33);
+    let level = field(w, q, 34);
+    on_goal(s, node, frame, program, level)
 }
 
 // The front goal is due; where none waits, all is proved.
@@ -102,21 +106,20 @@ pub fn take_and(t: &[u32], w: &mut [u32], r: Registers) -> Registers
 pub fn right_branch(t: &[u32], r: Registers) -> Registers
     ensures { λ s. ⌜ s ≡ rightBranch (now (t .entry)) r ⌝ }
 {
-    let right = child(t, r.node, 1);
     let s = on_path(r, up(r.acts), 3);
-    on_member(on_goal(s, right, r.frame, r.program, r.level), 0, 0, 0, 0)
+    let goal = on_goal(s, child(t, r.node, 1), r.frame, r.program, r.level);
+    on_member(goal, 0, 0, 0, 0)
 }
 
 pub fn take_or(t: &[u32], w: &mut [u32], r: Registers) -> Registers
     ensures { λ s. ⌜ made (now (w .exit)) s ≡ takeOr (now (t .entry)) (now (w .entry)) r ⌝ }
 {
     let act = r.acts;
-    let left = child(t, r.node, 0);
     put_path(w, act, r.path, r.line);
     save_choice(w, act, right_branch(t, r));
     let next = up(act);
     let s = on_choice(on_path(r, next, 2), next);
-    on_goal(s, left, r.frame, r.program, r.level)
+    on_goal(s, child(t, r.node, 0), r.frame, r.program, r.level)
 }
 
 // >: the clause is assumed, in the goal's frame, in front of that goal's program.
@@ -129,7 +132,8 @@ pub fn take_implies(t: &[u32], w: &mut [u32], r: Registers) -> Registers
     put_path(w, act, r.path, r.line);
     put_assumption(w, act, clause, r.frame, r.program);
     let next = up(act);
-    on_goal(on_path(r, next, 4), goal, r.frame, next, r.level)
+    let s = on_path(r, next, 4);
+    on_goal(s, goal, r.frame, next, r.level)
 }
 
 // E: a fresh variable of the goal's level.
@@ -166,7 +170,8 @@ pub fn take_forall(t: &[u32], w: &mut [u32], r: Registers) -> Registers
     put_constant(w, act, name, level);
     put_path(w, act, r.path, r.line);
     let next = up(act);
-    on_goal(on_path(r, next, 6), child(t, r.node, 0), next, r.program, level)
+    let s = on_path(r, next, 6);
+    on_goal(s, child(t, r.node, 0), next, r.program, level)
 }
 
 // By the kind of the goal's node.

@@ -1,12 +1,12 @@
 // The registers of the engine's machine: their changes, and choice points, on the lent work buffer. Each function is a definition of
 // the crate machine, and its contract says so.
-use machine::Registers;
 use cells::field;
 use cells::put_choice;
 use cells::put_chosen;
 use cells::put_field;
 use cells::put_position;
 use cells::undo;
+use machine::Registers;
 ghost use mathlib.Core.Path.{_≡_};
 ghost use Rattle.machine.specs.Records.{made};
 ghost use Rattle.machine.specs.Changes.{onActs, onMode, onNext, onTrail, onChoice, onGoals, onPath, onGoal, onMember, onPairs, onCheck, onNodes};
@@ -147,7 +147,11 @@ pub fn save_choice(w: &mut [u32], u: u32, r: Registers)
 pub fn resume_goal(w: &[u32], r: Registers, q: u32) -> Registers
     ensures { λ s. ⌜ s ≡ resumeGoal (now (w .entry)) r q ⌝ }
 {
-    on_goal(r, field(w, q, 49), field(w, q, 50), field(w, q, 51), field(w, q, 52))
+    let node = field(w, q, 49);
+    let frame = field(w, q, 50);
+    let program = field(w, q, 51);
+    let level = field(w, q, 52);
+    on_goal(r, node, frame, program, level)
 }
 
 // its member, where there is one to try,

@@ -62,10 +62,10 @@ module _ (t u : List ℕ) (symbols nodes : ℕ) (s : Same t u symbols nodes) whe
           terms = λ j k. term-child j (omega arith) (a .terms j (omega arith));
         }
 
-  module _ (made : Nodes t nodes) (named : (n : ℕ) → n < nodes → Arguments t n → labelOf t n < symbols) where
+  module _ (made : Nodes t nodes) (named : (n : ℕ) → n < nodes → 1 ≤ kindOf t n → kindOf t n ≤ 2 → labelOf t n < symbols) where
     -- the arguments of an older node
-    older : (n : ℕ) → n < nodes → Arguments t n → Arguments u n
-    older n h a = arguments-same n h (named n h a) a
+    older : (n : ℕ) → n < nodes → (k : ℕ) → kindOf t n ≡ k → 1 ≤ k → k ≤ 2 → Arguments t n → Arguments u n
+    older n h k e l m a = arguments-same n h (named n h (omega arith) (omega arith)) a
 
     free-same : (n : ℕ) → n < nodes → (f f′ : ℕ → Bool) → ((v : ℕ) → v < 8 → eqb (bitOf (maskOf t n) v) 1 ≡ f v) → ((v : ℕ) → f v ≡ f′ v)
         → (v : ℕ) → v < 8 → eqb (bitOf (maskOf u n) v) 1 ≡ f′ v
@@ -81,7 +81,7 @@ module _ (t u : List ℕ) (symbols nodes : ℕ) (s : Same t u symbols nodes) whe
         record {
           kind = omega arith;
           variable = λ k. subst (λ (x : ℕ). x < 8) (sym l) (m .variable (sym e ∙ k));
-          application = λ k. older n h (m .application (sym e ∙ k));
+          application = λ k. older n h 1 (sym e ∙ k) (omega arith) (omega arith) (m .application (sym e ∙ k));
           size = same-size t u symbols nodes s n h ∙ m .size ∙ ap size tree;
           free = free-same n h (freeT (termAt t n)) (freeT (termAt u n)) (m .free) (λ v. ap (λ (x : Term ℕ). freeT x v) tree);
         }
@@ -97,7 +97,7 @@ module _ (t u : List ℕ) (symbols nodes : ℕ) (s : Same t u symbols nodes) whe
         record {
           least = omega arith;
           most = omega arith;
-          atom = λ k. older n h (m .atom (sym e ∙ k));
+          atom = λ k. older n h 2 (sym e ∙ k) (omega arith) (omega arith) (m .atom (sym e ∙ k));
           and = λ k. let a = m .and (sym e ∙ k) in
               let x = goal-child n h 0 (omega arith) (a .0) (a .1) in let y = goal-child n h 1 (omega arith) (a .2) (a .3) in (x .0, x .1, y .0, y .1);
           or = λ k. let a = m .or (sym e ∙ k) in
@@ -122,7 +122,7 @@ module _ (t u : List ℕ) (symbols nodes : ℕ) (s : Same t u symbols nodes) whe
         let few = m .few in
         record {
           kind = λ p q r. e ∙ m .kind (λ k. p (e ∙ k)) (λ k. q (e ∙ k)) (λ k. r (e ∙ k));
-          atom = λ k. older n h (m .atom (sym e ∙ k));
+          atom = λ k. older n h 2 (sym e ∙ k) (omega arith) (omega arith) (m .atom (sym e ∙ k));
           and = λ k. let a = m .and (sym e ∙ k) in
               let x = clause-child n h 0 (omega arith) (a .0) (a .1) in let y = clause-child n h 1 (omega arith) (a .2) (a .3) in
               (x .0, x .1, y .0, y .1, c ∙ a .4 ∙ sym (ap₂ _+_ (members-child n h 0 (omega arith) (a .0)) (members-child n h 1 (omega arith) (a .2))));
@@ -131,7 +131,7 @@ module _ (t u : List ℕ) (symbols nodes : ℕ) (s : Same t u symbols nodes) whe
               let d = same-child t u symbols nodes s n h 1 (omega arith) in
               let b = a .2 in
               let f : kindOf u (childOf t n 1) ≡ 2 = same-kind t u symbols nodes s (childOf t n 1) (omega arith) ∙ a .3 in
-              let g : Arguments u (childOf t n 1) = older (childOf t n 1) (omega arith) (a .4) in
+              let g : Arguments u (childOf t n 1) = older (childOf t n 1) (omega arith) 2 (a .3) (omega arith) (omega arith) (a .4) in
               (x .0, x .1, subst (λ (i : ℕ). i < n) (sym d) b, subst (λ (i : ℕ). kindOf u i ≡ 2) (sym d) f, subst (λ (i : ℕ). Arguments u i) (sym d) g);
           each = λ k. let a = m .each (sym e ∙ k) in
               let x = clause-child n h 0 (omega arith) (a .1) (a .2) in

@@ -66,11 +66,17 @@ pub fn mask(t: &[u32], n: u32) -> u32
     info(t, n) % 256
 }
 
+// 1 if it is a goal.
+pub fn goal_bit(t: &[u32], n: u32) -> u32
+    ensures { λ r. ⌜ (r ≡ goalBit (now (t .entry)) n) × (r ≤ 1) ⌝ }
+{
+    info(t, n) / 256 % 2
+}
+
 pub fn is_goal(t: &[u32], n: u32) -> bool
     ensures { λ r. ⌜ r ≡ eqb (goalBit (now (t .entry)) n) 1 ⌝ }
 {
-    let bit = info(t, n) / 256 % 2;
-    bit == 1
+    goal_bit(t, n) == 1
 }
 
 // How many members the clause has; 0 if it is none.

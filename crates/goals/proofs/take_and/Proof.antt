@@ -1,3 +1,4 @@
+use mathlib.Core.Path.{_∙_}
 use Rattle.goals.proofs.Laws.{and-taken}
 use borrow.Author.Needs.{needs}
 use Rattle.goals.proofs.take_and.Statement.{statement}
@@ -37,7 +38,7 @@ on-goal-requires : tie.Need-on-goal-requires
 on-goal-requires c κs = search needs
 
 same-length : tie.Need-same-length
-same-length c = search needs
+same-length c = c .before .before .before .before .before .before .put-goal .kept .0 ∙ c .before .before .before .before .before .before .before .before .before .before .put-path .kept .0
 
 returns : tie.Need-returns
 returns c =

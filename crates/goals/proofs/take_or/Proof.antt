@@ -1,3 +1,4 @@
+use mathlib.Core.Path.{_∙_}
 use Rattle.goals.proofs.Laws.{or-taken}
 use borrow.Author.Needs.{needs}
 use Rattle.goals.proofs.take_or.Statement.{statement}
@@ -12,9 +13,6 @@ use Rattle.registers.proofs.on_path.Reads as on-path-reads
 use Rattle.goals.proofs.right_branch.Reads as right-branch-reads
 use Rattle.registers.proofs.save_choice.Reads as save-choice-reads
 use Rattle.tables.proofs.child.Reads as child-reads
-
-child-requires : tie.Need-child-requires
-child-requires c κs = search needs
 
 put-path-requires : tie.Need-put-path-requires
 put-path-requires c κs = search needs
@@ -34,27 +32,30 @@ on-path-requires c κs = search needs
 on-choice-requires : tie.Need-on-choice-requires
 on-choice-requires c κs = search needs
 
+child-requires : tie.Need-child-requires
+child-requires c κs = search needs
+
 on-goal-requires : tie.Need-on-goal-requires
 on-goal-requires c κs = search needs
 
 same-length : tie.Need-same-length
-same-length c = search needs
+same-length c = c .before .before .before .before .before .before .before .save-choice .kept .0 ∙ c .before .before .before .before .before .before .before .before .before .before .before .before .put-path .kept .0
 
 returns : tie.Need-returns
 returns c =
-    or-taken _ _ _ _ _ _ _ _ _ _ _ (c .before .before .before .before .before .before .before .before .before .before .before .before .before .child .ensures) (c .before .before .before .before .before .before .before .before .before .before .before .put-path .ensures) (c .before .before .before .before .before .before .before .right-branch .ensures) (c .before .before .before .before .before .before .save-choice .ensures) (c .before .before .before .up .ensures) (c .before .before .on-path .ensures) (c .before .on-choice .ensures) (c .on-goal .ensures)
+    or-taken _ _ _ _ _ _ _ _ _ _ _ (c .before .child .ensures) (c .before .before .before .before .before .before .before .before .before .before .before .before .put-path .ensures) (c .before .before .before .before .before .before .before .before .right-branch .ensures) (c .before .before .before .before .before .before .before .save-choice .ensures) (c .before .before .before .before .up .ensures) (c .before .before .before .on-path .ensures) (c .before .before .on-choice .ensures) (c .on-goal .ensures)
 
 pub take-or-spec : {M : Type 1} → statement M
 take-or-spec =
     tie.close
     (tie.spec
-    child-requires
     put-path-requires
     right-branch-requires
     save-choice-requires
     up-requires
     on-path-requires
     on-choice-requires
+    child-requires
     on-goal-requires
     same-length
     returns)

@@ -1,18 +1,17 @@
-use Rattle.tables.specs.Layout.{goalBit}
 use borrow.Author.Needs.{needs}
 use Rattle.tables.proofs.is_goal.Statement.{statement}
 use Rattle.tables.proofs.is_goal.Tie as tie
 use Rattle.tables.proofs.is_goal.Reads as reads
 use Rattle.tables.proofs.is_goal.Lts as lts
-use Rattle.tables.proofs.info.Reads as info-reads
+use Rattle.tables.proofs.goal_bit.Reads as goal-bit-reads
 
-info-requires : tie.Need-info-requires
-info-requires c κs = search needs
+-- src/lib.rt:79:5
+goal-bit-requires : tie.Need-goal-bit-requires
+goal-bit-requires c κs = search needs
 
+-- src/lib.rt:76:1
 returns : tie.Need-returns
-unfolding goalBit
-returns c =
-    simp (goalBit, ← c .info .ensures)
+returns c = simp (← c .goal-bit .ensures .0)
 
 pub is-goal-spec : {M : Type 1} → statement M
-is-goal-spec = tie.close (tie.spec info-requires returns)
+is-goal-spec = tie.close (tie.spec goal-bit-requires returns)

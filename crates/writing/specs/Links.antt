@@ -1,0 +1,40 @@
+-- Before the passes: the path, which is linked latest line first, gets links in the order taken, and the numbers of constants are
+-- cleared. After them: the numbers of variables are cleared, so that the search may go on. All in fields that the search leaves
+-- free (62, 63) and in bindings that it left at 0.
+use Prim.Native.Nat.{ℕ, zero, suc, _+_, _-_, _*_}
+use mathlib.Core.Bool.{Bool, true, false, cond}
+use mathlib.Core.List.{List}
+use lib.Dec.{eqb}
+use Rattle.machine.specs.Records.{field, put, cellOf, putCell}
+use Rattle.machine.specs.Words.{narrow, tagOf}
+
+-- A link: a pointer to the record of a line, and which line it is; 0 for none.
+unfoldable pub linkWord : ℕ → ℕ → ℕ
+linkWord p k = narrow (8 * p + k)
+
+-- The work buffer, and the link to the first line.
+pub record Linked : Type 0 where
+  pub memory : List ℕ
+  pub first : ℕ
+
+abbrev pub linked : List ℕ → ℕ → Linked
+linked w e = record { memory = w; first = e }
+
+-- Field 62 of a line's record: the link to the line after it. From pointer p on, at most n lines; e is the link to those done.
+unfoldable pub linkPath : ℕ → List ℕ → ℕ → ℕ → ℕ → Linked
+linkPath zero w p k e = linked w e
+linkPath (suc n) w p k e =
+    elim (eqb p 0) [
+      | true ↦ linked w e
+      | false ↦ linkPath n (put w (p - 1) 62 e) (field w (p - 1) 39) (field w (p - 1) 40) (linkWord p k)
+    ]
+
+-- Field 63 of the first n records: no constant has shown.
+unfoldable pub clearConstants : ℕ → List ℕ → List ℕ
+clearConstants zero w = w
+clearConstants (suc n) w = clearConstants n (put w n 63 0)
+
+-- The first n variables: none has shown.
+unfoldable pub clearVariables : ℕ → List ℕ → List ℕ
+clearVariables zero w = w
+clearVariables (suc n) w = clearVariables n (cond (eqb (tagOf (cellOf w n)) 0) (putCell w n 0) w)

@@ -1,0 +1,99 @@
+-- What is proved of the writer: it writes the answer text of document 01 if it fits, and otherwise no byte.
+use Prim.Native.Nat.{ℕ, zero, suc, _+_, _-_, _*_, _≤_, _<_}
+use mathlib.Core.Path.{_≡_}
+use mathlib.Core.Bool.{Bool, true, false, cond}
+use mathlib.Core.List.{List, [], _∷_, _++_}
+use mathlib.Core.Logic.{_⊎_}
+use lib.Dec.{leb}
+use lib.ListN.{length, drop}
+use Rattle.sequents.specs.Sequents.{Line}
+use Rattle.unification.specs.Store.{Leaf, Store}
+use Rattle.unification.specs.Promises.{Unbound, Formed}
+use Rattle.tables.specs.Layout.{kindOf, labelOf}
+use Rattle.tables.specs.Decoding.{decodeSheet}
+use Rattle.tables.specs.WellMade.{IsTerm, WellMade}
+use Rattle.machine.specs.Records.{field, cellOf, levelOf, Made}
+use Rattle.machine.specs.Words.{tagOf, nameOf, nodeOf, frameOf, slotOf}
+use Rattle.machine.specs.Simulation.{StandsAt}
+use Rattle.texts.specs.Spelling.{noText, spentText}
+use Rattle.texts.specs.Promises.{searchText}
+use Rattle.writing.specs.Output.{Written, written}
+use Rattle.writing.specs.Links.{clearVariables}
+use Rattle.writing.specs.Writer.{textLimit, noRoom, Answered, writeProof, writeNo, writeSpent}
+
+-- What holds of the machine's memory after a proved search, beside `StandsAt`. All of it is part of the simulation's invariant.
+
+-- A word of a leaf: a variable that was made, or the constant of an act done.
+pub data LeafWord (next acts a : ℕ) : Type 0 where
+  variable : tagOf a ≡ 1 → nameOf a < next → LeafWord next acts a
+  constant : tagOf a ≡ 2 → nameOf a < acts → LeafWord next acts a
+
+-- A closure's: an application's node, and a frame that was made, in which every name stands for a leaf.
+pub record Closure (t w : List ℕ) (nodes next acts a : ℕ) : Type 0 where
+  pub tag : tagOf a ≡ 3
+  pub there : nodeOf a < nodes
+  pub term : IsTerm t (nodeOf a)
+  pub application : kindOf t (nodeOf a) ≡ 1
+  pub frame : frameOf a ≤ acts
+  pub slots : (v : ℕ) → v < 8 → LeafWord next acts (slotOf w (frameOf a) v)
+
+pub data TermWord (t w : List ℕ) (nodes next acts a : ℕ) : Type 0 where
+  ofLeaf : LeafWord next acts a → TermWord t w nodes next acts a
+  ofClosure : Closure t w nodes next acts a → TermWord t w nodes next acts a
+
+-- The line of kind k in record q: its variables were made.
+pub record LineMade (w : List ℕ) (next q k : ℕ) : Type 0 where
+  pub kind : k ≤ 7
+  pub some : k ≡ 5 → field w q 43 < next
+  pub clause : k ≡ 7 → field w q 42 + field w q 43 ≤ next
+
+-- From pointer p on, at most n lines, each made before the one after it.
+unfoldable pub PathMade : ℕ → List ℕ → ℕ → ℕ → ℕ → Type 0
+PathMade zero w next p k = p ≡ 0
+PathMade (suc n) w next p k = (p ≡ 0) ⊎ ((1 ≤ p) × LineMade w next (p - 1) k × (field w (p - 1) 39 < p) × PathMade n w next (field w (p - 1) 39) (field w (p - 1) 40))
+
+pub record Orderly (t : List ℕ) (nodes : ℕ) (m : Made) (s : Store) : Type 0 where
+  -- the demanded part of the work buffer, and in it the variables made
+  pub few : m .registers .acts ≤ 50000
+  pub room : 64 * m .registers .acts ≤ length (m .memory)
+  pub goals : 8 ≤ s .next
+  pub variables : s .next ≤ 9 * m .registers .acts
+  -- each act binds at most once, and an unbound variable has no word
+  pub formed : Formed s
+  pub bindings : length (s .bindings) ≤ m .registers .acts
+  pub unbound : (x : ℕ) → x < s .next → Unbound (s .bindings) x → cellOf (m .memory) x ≡ 0
+  pub words : (x : ℕ) → x < s .next → (cellOf (m .memory) x ≡ 0) ⊎ TermWord t (m .memory) nodes (s .next) (m .registers .acts) (cellOf (m .memory) x)
+  pub pointer : m .registers .path ≤ m .registers .acts
+  pub path : PathMade (m .registers .acts) (m .memory) (s .next) (m .registers .path) (m .registers .line)
+
+-- The applications of a table name symbols that are declared.
+abbrev pub Named : List ℕ → ℕ → ℕ → Type 0
+Named t nodes symbols = (n : ℕ) → n < nodes → IsTerm t n → kindOf t n ≡ 1 → labelOf t n < symbols
+
+-- What becomes of the answer buffer, and the text's length: "an answer changes only its own bytes".
+unfoldable pub told : List ℕ → List ℕ → Written
+told text out = cond (leb (length text) (textLimit out)) (written (text ++ drop (length text) out) (length text)) (written out noRoom)
+
+abbrev pub WritesProof : Type 0
+WritesProof = (sheet t : List ℕ) (symbols nodes clauses goal : ℕ) → WellMade t nodes clauses goal → Named t nodes symbols
+    → (m : Made) (s : Store) (path : List (Line Leaf)) → StandsAt t m 4 s path → Orderly t nodes m s → (units : ℕ) (out : List ℕ)
+    → written (writeProof sheet t goal m units out .buffer) (writeProof sheet t goal m units out .length)
+    ≡ told (searchText (decodeSheet sheet t symbols clauses goal) s path units) out
+
+abbrev pub WritesNo : Type 0
+WritesNo = (units : ℕ) (out : List ℕ) → writeNo units out ≡ told (noText units) out
+
+abbrev pub WritesSpent : Type 0
+WritesSpent = (budget : ℕ) (out : List ℕ) → writeSpent budget out ≡ told (spentText budget) out
+
+-- With the numbers cleared, all that the search reads is as it was.
+pub record Restored (w w′ : List ℕ) (next : ℕ) : Type 0 where
+  pub long : length w′ ≡ length w
+  pub fields : (u f : ℕ) → 18 ≤ f → f < 62 → field w′ u f ≡ field w u f
+  pub levels : (x : ℕ) → levelOf w′ x ≡ levelOf w x
+  pub cells : (x : ℕ) → x < next → cellOf w′ x ≡ cellOf w x
+
+abbrev pub Restores : Type 0
+Restores = (sheet t : List ℕ) (symbols nodes clauses goal : ℕ) → WellMade t nodes clauses goal → Named t nodes symbols
+    → (m : Made) (s : Store) (path : List (Line Leaf)) → StandsAt t m 4 s path → Orderly t nodes m s → (units : ℕ) (out : List ℕ)
+    → Restored (m .memory) (clearVariables (s .next) (writeProof sheet t goal m units out .memory)) (s .next)
