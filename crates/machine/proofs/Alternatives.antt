@@ -1,0 +1,195 @@
+-- The open alternatives: choice points in memory, each read after undoing the trail down to its mark. Taking one up is by
+-- definition going on with the rest.
+use Prim.Native.Nat.{ℕ, zero, suc, _+_, _-_, _*_, _≤_, _<_}
+use native.Mathlib.Omega.{arith}
+use mathlib.Core.Bool.{Bool, true, false, cond}
+use mathlib.Core.Path.{_≡_, refl, sym, ap, ap₂, _∙_, subst}
+use mathlib.Core.List.{List, [], _∷_, _++_, map}
+use lib.Dec.{eqb}
+use lib.ListN.{length}
+use borrow.Author.Tests.{eq-eqb, ne-eqb}
+use Rattle.terms.specs.Lists.{All}
+use Rattle.terms.proofs.Lists.{all-weaken}
+use Rattle.unification.specs.Store.{Store}
+use Rattle.search.specs.Configurations.{Configuration}
+use Rattle.machine.specs.declared.Registers.{Registers}
+use Rattle.machine.specs.Records.{field, Made, made}
+use Rattle.machine.specs.Changes.{onMode, onNext, onTrail, onChoice, onGoals, onPath, onGoal, onMember}
+use Rattle.machine.specs.Trail.{undo, undoEntry}
+use Rattle.machine.specs.Choices.{resumeGoal, resumeMember, resumeBranch, resume, takeUp, failed}
+use Rattle.machine.proofs.Heap.{Heap, Grow, heap-22, grow-less}
+use Rattle.machine.proofs.Trail.{undoAll, heap-undoAll, grow-undoAll, Chain, chain-heap, chain-le, undo-chain}
+use Rattle.machine.proofs.Tables.{Table}
+use Rattle.machine.proofs.Stores.{StoreAt, store-grow, store-up}
+use Rattle.machine.proofs.Configurations.{storeOf, ConfigurationAt, configuration-heap, configuration-up}
+
+-- What n acts can have made: each binds at most one variable; the first makes at most one, every other at most eight.
+pub record Bounded (n : ℕ) (s : Store) : Type 0 where
+  pub bindings : length (s .bindings) ≤ n
+  pub variables : s .next ≤ 8 * n + 8
+  pub later : 1 ≤ n → s .next ≤ 8 * n + 1
+
+pub bounded-up : (n : ℕ) (s : Store) → Bounded n s → Bounded (suc n) s
+bounded-up n s b = let x = b .bindings in let y = b .variables in record { bindings = omega arith; variables = omega arith; later = λ h. go n b }
+  where
+    go : (n : ℕ) → Bounded n s → s .next ≤ 8 * suc n + 1
+    go zero b = let y = b .variables in omega arith
+    go (suc m) b = let y = b .later (omega arith) in omega arith
+
+-- Resuming reads the fields of one record.
+resume-heap : (n : ℕ) (w w′ : List ℕ) (r : Registers) (q : ℕ) → Heap 22 n w w′ → q < n → resume w′ r q ≡ resume w r q
+unfolding resume resumeMember resumeGoal resumeBranch
+resume-heap n w w′ r q h l = rw (
+  h .old q 43 l (omega arith) (omega arith),
+  h .old q 44 l (omega arith) (omega arith),
+  h .old q 45 l (omega arith) (omega arith),
+  h .old q 46 l (omega arith) (omega arith),
+  h .old q 47 l (omega arith) (omega arith),
+  h .old q 48 l (omega arith) (omega arith),
+  h .old q 49 l (omega arith) (omega arith),
+  h .old q 50 l (omega arith) (omega arith),
+  h .old q 51 l (omega arith) (omega arith),
+  h .old q 52 l (omega arith) (omega arith),
+  h .old q 53 l (omega arith) (omega arith),
+  h .old q 54 l (omega arith) (omega arith),
+  h .old q 55 l (omega arith) (omega arith),
+  h .old q 56 l (omega arith) (omega arith),
+)
+
+module _ (T : Table) where
+  -- The choice point in record q: whatever the registers are, resuming it gives the configuration. k bounds its variables.
+  pub record ChoiceAt (n : ℕ) (w : List ℕ) (q : ℕ) (c : Configuration) (k : ℕ) : Type 0 where
+    pub low : q < n
+    pub resumes : (r : Registers) → ConfigurationAt T n w (resume w r q) c
+    pub variables : field w q 43 ≡ storeOf c .next
+    pub fewer : storeOf c .next ≤ k
+    pub bounded : Bounded n (storeOf c)
+
+  -- From the latest choice point (a pointer) and the trail's head.
+  pub data AlternativesAt (n : ℕ) : ℕ → List ℕ → ℕ → ℕ → List Configuration → Type 0 where
+    alternatives-none : {k : ℕ} {w : List ℕ} {h : ℕ} → AlternativesAt n k w zero h []
+    alternatives-more : {k : ℕ} {w : List ℕ} {h : ℕ} {c : Configuration} {ds : List Configuration} (q : ℕ) (rs : List ℕ) → ChoiceAt n w q c k → All (λ r. r < n) rs → Chain rs w h (field w q 44)
+        → StoreAt T n (undoAll rs w) (storeOf c) → AlternativesAt n (storeOf c .next) (undoAll rs w) (field w q 45) (field w q 44) ds → AlternativesAt n k w (suc q) h (c ∷ ds)
+
+  choice-heap : (n : ℕ) (w w′ : List ℕ) (q : ℕ) (c : Configuration) (k : ℕ) → Heap 22 n w w′ → ChoiceAt n w q c k → ChoiceAt n w′ q c k
+  choice-heap n w w′ q c k e h = record {
+    low = h .low;
+    resumes = λ r. subst (λ (x : Registers). ConfigurationAt T n w′ x c) (sym (resume-heap n w w′ r q e (h .low))) (configuration-heap T n w w′ (resume w r q) c e (h .resumes r));
+    variables = e .old q 43 (h .low) (omega arith) (omega arith) ∙ h .variables;
+    fewer = h .fewer;
+    bounded = h .bounded;
+  }
+
+  choice-up : (n : ℕ) (w : List ℕ) (q : ℕ) (c : Configuration) (k : ℕ) → ChoiceAt n w q c k → ChoiceAt (suc n) w q c k
+  choice-up n w q c k h = record {
+    low = let l = h .low in omega arith;
+    resumes = λ r. configuration-up T n w (resume w r q) c (h .resumes r);
+    variables = h .variables;
+    fewer = h .fewer;
+    bounded = bounded-up n (storeOf c) (h .bounded);
+  }
+
+  pub all-up : (n : ℕ) (rs : List ℕ) → All (λ r. r < n) rs → All (λ r. r < suc n) rs
+  all-up n rs h = all-weaken (λ r. r < n) (λ r. r < suc n) (λ r l. omega arith) rs h
+
+  -- They stay when memory grows,
+  pub alternatives-grow : (n : ℕ) {k : ℕ} {w : List ℕ} {cp h : ℕ} {ds : List Configuration} (w′ : List ℕ) → Grow n k w w′ → AlternativesAt n k w cp h ds → AlternativesAt n k w′ cp h ds
+  alternatives-grow n w′ g alternatives-none = alternatives-none
+  alternatives-grow n w′ g (alternatives-more {k = k} {w = w} {h = h} {c = c} {ds = ds} q rs a l e s d) =
+      let g′ = grow-undoAll n k rs w w′ l g in
+      let b = a .low in
+      let e₄ = g .heap .old q 44 b (omega arith) (omega arith) in
+      let e₅ = g .heap .old q 45 b (omega arith) (omega arith) in
+      alternatives-more {k = k} {w = w′} {h = h} {c = c} {ds = ds} q rs (choice-heap n w w′ q c k (heap-22 n w w′ (g .heap)) a) l (rw e₄ (chain-heap n rs w w′ h (field w q 44) l (g .heap) e))
+      (store-grow T n k (undoAll rs w) (undoAll rs w′) (storeOf c) g′ (a .fewer) s)
+      (rw (e₄, e₅) (alternatives-grow n (undoAll rs w′) (grow-less n (storeOf c .next) k (undoAll rs w) (undoAll rs w′) (a .fewer) g′) d))
+
+  -- one act later,
+  pub alternatives-up : (n : ℕ) {k : ℕ} {w : List ℕ} {cp h : ℕ} {ds : List Configuration} → AlternativesAt n k w cp h ds → AlternativesAt (suc n) k w cp h ds
+  alternatives-up n alternatives-none = alternatives-none
+  alternatives-up n (alternatives-more {k = k} {w = w} {c = c} q rs a l e s d) =
+      alternatives-more q rs (choice-up n w q c k a) (all-up n rs l) e (store-up T n (undoAll rs w) (storeOf c) s) (alternatives-up n d)
+
+  -- when more variables are made,
+  pub alternatives-wider : (n : ℕ) {j : ℕ} {w : List ℕ} {cp h : ℕ} {ds : List Configuration} (k : ℕ) → j ≤ k → AlternativesAt n j w cp h ds → AlternativesAt n k w cp h ds
+  alternatives-wider n k b alternatives-none = alternatives-none
+  alternatives-wider n k b (alternatives-more {w = w} {h = h} {c = c} {ds = ds} q rs a l e s d) =
+      alternatives-more {k = k} {w = w} {h = h} {c = c} {ds = ds} q rs (record { low = a .low; resumes = a .resumes; variables = a .variables; fewer = let m = a .fewer in omega arith; bounded = a .bounded }) l e s d
+
+  -- and when an act notes an entry that can be undone: the latest one's part of the trail is longer.
+  pub alternatives-noted : (n : ℕ) {k : ℕ} {w : List ℕ} {cp h : ℕ} {ds : List Configuration} (w′ : List ℕ) → Heap 18 n w w′ → Grow n k w (undoEntry w′ n) → field w′ n 21 ≡ h → h ≤ n
+      → AlternativesAt n k w cp h ds → AlternativesAt (suc n) k w′ cp (suc n) ds
+  unfolding Chain undoAll
+  alternatives-noted n w′ e g f b alternatives-none = alternatives-none
+  alternatives-noted n w′ e g f b (alternatives-more {k = k} {w = w} {h = h} {c = c} {ds = ds} q rs a l i s d) =
+      let g′ = grow-undoAll n k rs w (undoEntry w′ n) l g in
+      let lo = a .low in
+      let e₄ = e .old q 44 lo (omega arith) (omega arith) in
+      let e₅ = e .old q 45 lo (omega arith) (omega arith) in
+      let m = chain-le rs w h (field w q 44) i in
+      alternatives-more {k = k} {w = w′} {h = suc n} {c = c} {ds = ds} q (n ∷ rs) (choice-up n w′ q c k (choice-heap n w w′ q c k (heap-22 n w w′ e) a)) (omega arith, all-up n rs l)
+      (rw (e₄, f) (refl, omega arith, b, chain-heap n rs w w′ h (field w q 44) l e i))
+      (store-up T n (undoAll rs (undoEntry w′ n)) (storeOf c) (store-grow T n k (undoAll rs w) (undoAll rs (undoEntry w′ n)) (storeOf c) g′ (a .fewer) s))
+      (rw (e₄, e₅) (alternatives-up n (alternatives-grow n (undoAll rs (undoEntry w′ n)) (grow-less n (storeOf c .next) k (undoAll rs w) (undoAll rs (undoEntry w′ n)) (a .fewer) g′) d)))
+
+  -- What every act carries on: the store, the number of variables x, the trail's head h, the alternatives from cp on.
+  pub record SharedAt (n : ℕ) (w : List ℕ) (x h cp : ℕ) (s : Store) (ds : List Configuration) : Type 0 where
+    pub store : StoreAt T n w s
+    pub bounded : Bounded n s
+    pub next : x ≡ s .next
+    pub trail : h ≤ n
+    pub alternatives : AlternativesAt n (s .next) w cp h ds
+
+  -- More records,
+  pub shared-same : (n : ℕ) (w w′ : List ℕ) (x h cp : ℕ) (s : Store) (ds : List Configuration) → Grow n (s .next) w w′ → SharedAt n w x h cp s ds → SharedAt n w′ x h cp s ds
+  shared-same n w w′ x h cp s ds g c = record {
+    store = store-grow T n (s .next) w w′ s g (omega arith) (c .store);
+    bounded = c .bounded;
+    next = c .next;
+    trail = c .trail;
+    alternatives = alternatives-grow n w′ g (c .alternatives);
+  }
+
+  -- an act later,
+  pub shared-up : (n : ℕ) (w : List ℕ) (x h cp : ℕ) (s : Store) (ds : List Configuration) → SharedAt n w x h cp s ds → SharedAt (suc n) w x h cp s ds
+  shared-up n w x h cp s ds c = record {
+    store = store-up T n w s (c .store);
+    bounded = bounded-up n s (c .bounded);
+    next = c .next;
+    trail = let l = c .trail in omega arith;
+    alternatives = alternatives-up n (c .alternatives);
+  }
+
+  -- and both: an act that only makes records.
+  pub shared-grow : (n : ℕ) (w w′ : List ℕ) (x h cp : ℕ) (s : Store) (ds : List Configuration) → Grow n (s .next) w w′ → SharedAt n w x h cp s ds → SharedAt (suc n) w′ x h cp s ds
+  shared-grow n w w′ x h cp s ds g c = shared-up n w′ x h cp s ds (shared-same n w w′ x h cp s ds g c)
+
+  -- The state of a search after n acts: the configuration acted upon, then the alternatives.
+  pub record StateAt (n : ℕ) (w : List ℕ) (r : Registers) (c : Configuration) (ds : List Configuration) : Type 0 where
+    pub front : ConfigurationAt T n w r c
+    pub shared : SharedAt n w (r .next) (r .trail) (r .choice) (storeOf c) ds
+
+  unfoldable pub ResultAt : ℕ → Made → List Configuration → Type 0
+  ResultAt n m [] = m .registers .mode ≡ 5
+  ResultAt n m (c ∷ ds) = StateAt n (m .memory) (m .registers) c ds
+
+  -- Failure: the latest alternative is acted upon.
+  pub failed-result : (n k : ℕ) (w : List ℕ) (r : Registers) (ds : List Configuration) → r .trail ≤ n → AlternativesAt n k w (r .choice) (r .trail) ds → ResultAt n (failed w r) ds
+  unfolding failed ResultAt onMode takeUp resume resumeMember resumeGoal resumeBranch onNext onTrail onChoice onGoals onPath onGoal onMember
+  failed-result n k w r ds b a = go (r .choice) (r .trail) ds refl refl a
+    where
+      up-to : (q : ℕ) (rs : List ℕ) (h : ℕ) (c : Configuration) (ds : List Configuration) → r .trail ≡ h → ChoiceAt n w q c k → All (λ x. x < n) rs → Chain rs w h (field w q 44)
+          → StoreAt T n (undoAll rs w) (storeOf c) → AlternativesAt n (storeOf c .next) (undoAll rs w) (field w q 45) (field w q 44) ds → StateAt n (takeUp w r q .memory) (takeUp w r q .registers) c ds
+      up-to q rs h c ds e p l i s d =
+          let z = undo-chain rs n (r .trail) w (r .trail) (field w q 44) l (omega arith) (rw e i) in
+          let m = chain-le rs w h (field w q 44) i in
+          subst (λ (x : List ℕ). StateAt n x (resume w r q) c ds) (sym z) (record {
+            front = configuration-heap T n w (undoAll rs w) (resume w r q) c (heap-22 n w (undoAll rs w) (heap-undoAll n rs w)) (p .resumes r);
+            shared = record { store = s; bounded = p .bounded; next = p .variables; trail = omega arith; alternatives = d };
+          })
+
+      go : (cp h : ℕ) (ds : List Configuration) → r .choice ≡ cp → r .trail ≡ h → AlternativesAt n k w cp h ds → ResultAt n (cond (eqb (r .choice) 0) (made w (onMode r 5)) (takeUp w r (r .choice - 1))) ds
+      go cp h ds e f alternatives-none = rw (eq-eqb (r .choice) 0 e)
+      go cp h ds e f (alternatives-more {c = c} {ds = ds′} q rs p l i s d) =
+          let z : r .choice - 1 ≡ q = omega arith in
+          rw (ne-eqb (r .choice) 0 (λ x. omega arith), z) (up-to q rs h c ds′ f p l i s d)

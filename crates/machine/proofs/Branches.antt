@@ -1,0 +1,184 @@
+-- Programs, open goals and the path in memory, and that they stay.
+use Prim.Native.Nat.{ℕ, zero, suc, _+_, _-_, _*_, _≤_, _<_}
+use native.Mathlib.Omega.{arith}
+use mathlib.Core.Bool.{Bool, true, false, cond}
+use mathlib.Core.Path.{_≡_, refl, sym, ap, ap₂, _∙_, fun-ext, subst}
+use mathlib.Core.List.{List, [], _∷_, _++_, map}
+use lib.Dec.{ltb, eqb}
+use lib.ListN.{length}
+use borrow.Author.Tests.{ltb-true, ne-eqb}
+use Rattle.terms.specs.Terms.{Term, leaf, app, nil}
+use Rattle.formulas.specs.Formulas.{Goal, Clause}
+use Rattle.sequents.specs.Sequents.{Environment, Program, hypothesis, Sequent, Line, plain, Dsome, Dall, Dclause, Dtrue, Dand, Dleft, Dright, Dassume}
+use Rattle.sequents.specs.Derivations.{sheetProgram}
+use Rattle.unification.specs.Store.{Leaf, var, con}
+use Rattle.search.specs.Configurations.{Branch}
+use Rattle.search.specs.Search.{startEnvironment}
+use Rattle.tables.specs.Decoding.{goalAt, clauseAtNode, clausesFrom}
+use Rattle.tables.specs.WellMade.{IsGoal, IsClause}
+use Rattle.machine.specs.declared.Registers.{Registers}
+use Rattle.machine.specs.Records.{field}
+use Rattle.machine.specs.Words.{slotOf, leafOf, environmentAt, variableWord}
+use Rattle.machine.specs.Reading.{lineAt, pathFrom, variablesFrom}
+use Rattle.machine.proofs.Words.{variable-small}
+use Rattle.machine.proofs.Heap.{Heap}
+use Rattle.machine.proofs.Tables.{Table}
+use Rattle.machine.proofs.Terms.{FrameAt, frame-up, frame-heap, environment-heap, variable-leaf}
+
+-- Frame 0 is the first environment.
+pub first-environment : (w : List ℕ) → environmentAt w 0 ≡ startEnvironment
+unfolding environmentAt startEnvironment slotOf
+first-environment w = fun-ext (λ v. go v (ltb v 8) refl)
+  where
+    go : (v : ℕ) (b : Bool) → ltb v 8 ≡ b → cond b (leaf (leafOf w (variableWord v))) (app 0 nil) ≡ cond b (leaf (var v)) (app 0 nil)
+    go v true q = let l = ltb-true v 8 q in ap leaf (ap (leafOf w) (variable-small v (omega arith)) ∙ variable-leaf w v)
+    go v false q = refl
+
+-- fewer records
+pub heap-less : (lo n m : ℕ) (w w′ : List ℕ) → m ≤ n → Heap lo n w w′ → Heap lo m w w′
+heap-less lo n m w w′ l h = record { len = h .len; old = λ u f a b c. h .old u f (omega arith) b c }
+
+-- The path. A line is in an earlier record than the one after it.
+unfoldable pub PathAt : ℕ → List (Line Leaf) → List ℕ → ℕ → ℕ → Type 0
+PathAt n [] w zero k = Unit {0}
+PathAt n [] w (suc r) k = ⊥
+PathAt n (x ∷ ls) w zero k = ⊥
+PathAt n (x ∷ ls) w (suc r) k = (r < n) × (lineAt w r k ≡ x) × PathAt r ls w (field w r 39) (field w r 40)
+
+line-heap : (n : ℕ) (w w′ : List ℕ) (r k : ℕ) → Heap 22 n w w′ → r < n → lineAt w′ r k ≡ lineAt w r k
+unfolding lineAt
+line-heap n w w′ r k h l =
+    rw (h .old r 22 l (omega arith) (omega arith), h .old r 41 l (omega arith) (omega arith), h .old r 42 l (omega arith) (omega arith), h .old r 43 l (omega arith) (omega arith))
+
+pub path-heap : (n : ℕ) (ls : List (Line Leaf)) (w w′ : List ℕ) (p k : ℕ) → Heap 22 n w w′ → PathAt n ls w p k → PathAt n ls w′ p k
+unfolding PathAt
+path-heap n [] w w′ zero k h c = tt
+path-heap n [] w w′ (suc r) k h c = c
+path-heap n (x ∷ ls) w w′ zero k h c = c
+path-heap n (x ∷ ls) w w′ (suc r) k h c =
+    let l = c .0 in (
+      l,
+      line-heap n w w′ r k h l ∙ c .1,
+      rw (h .old r 39 l (omega arith) (omega arith), h .old r 40 l (omega arith) (omega arith))
+          (path-heap r ls w w′ (field w r 39) (field w r 40) (heap-less 22 n r w w′ (omega arith) h) (c .2)),
+    )
+
+pub path-up : (n : ℕ) (ls : List (Line Leaf)) (w : List ℕ) (p k : ℕ) → PathAt n ls w p k → PathAt (suc n) ls w p k
+unfolding PathAt
+path-up n [] w zero k c = tt
+path-up n [] w (suc r) k c = c
+path-up n (x ∷ ls) w zero k c = c
+path-up n (x ∷ ls) w (suc r) k c = (let l = c .0 in omega arith, c .1, c .2)
+
+-- it is read back
+pub path-read : (f n : ℕ) (ls : List (Line Leaf)) (w : List ℕ) (p k : ℕ) → n ≤ f → PathAt n ls w p k → pathFrom f w p k ≡ ls
+unfolding PathAt pathFrom
+path-read zero n [] w zero k h c = refl
+path-read zero n [] w (suc r) k h c = absurd c
+path-read zero n (x ∷ ls) w zero k h c = absurd c
+path-read zero n (x ∷ ls) w (suc r) k h c = absurd (let l = c .0 in omega arith)
+path-read (suc f) n [] w zero k h c = refl
+path-read (suc f) n [] w (suc r) k h c = absurd c
+path-read (suc f) n (x ∷ ls) w zero k h c = absurd c
+path-read (suc f) n (x ∷ ls) w (suc r) k h c =
+    let e : suc r - 1 ≡ r = omega arith in
+    let l = c .0 in
+    rw (pathFrom, ne-eqb (suc r) 0 (λ q. omega arith), e) (ap₂ _∷_ (c .1) (path-read f r ls w (field w r 39) (field w r 40) (omega arith) (c .2)))
+
+module _ (T : Table) where
+  abbrev pub GoalOf : ℕ → Type 0
+  GoalOf n = (n < T .nodes) × IsGoal (T .numbers) n
+
+  abbrev pub ClauseOf : ℕ → Type 0
+  ClauseOf n = (n < T .nodes) × IsClause (T .numbers) n
+
+  -- The sheet's clauses from the i-th on, c of them, as a program.
+  abbrev pub sheetFrom : ℕ → ℕ → Program Leaf
+  sheetFrom c i = sheetProgram (clausesFrom (T .numbers) c i) startEnvironment
+
+  -- A program: assumptions, then the sheet's clauses.
+  pub data ProgramAt (n : ℕ) (w : List ℕ) : ℕ → Program Leaf → Type 0 where
+    program-sheet : ProgramAt n w zero (sheetFrom (T .clauses) 0)
+    program-more : {c : Clause} {e : Environment Leaf} {P : Program Leaf} (r : ℕ) → r < n → ClauseOf (field w r 36) → FrameAt n w (field w r 37)
+        → clauseAtNode (T .numbers) (field w r 36) ≡ c → environmentAt w (field w r 37) ≡ e → ProgramAt n w (field w r 38) P → ProgramAt n w (suc r) (hypothesis c e ∷ P)
+
+  pub program-heap : (n : ℕ) (w w′ : List ℕ) {h : ℕ} {P : Program Leaf} → Heap 22 n w w′ → ProgramAt n w h P → ProgramAt n w′ h P
+  program-heap n w w′ e program-sheet = program-sheet
+  program-heap n w w′ e (program-more {P = P} r l c f i j p) =
+      let e₁ = e .old r 36 l (omega arith) (omega arith) in
+      let e₂ = e .old r 37 l (omega arith) (omega arith) in
+      let e₃ = e .old r 38 l (omega arith) (omega arith) in
+      program-more r l (rw e₁ c) (rw e₂ (frame-heap n w w′ (field w r 37) e f)) (ap (clauseAtNode (T .numbers)) e₁ ∙ i)
+      (ap (environmentAt w′) e₂ ∙ environment-heap n w w′ (field w r 37) e f ∙ j) (subst (λ (x : ℕ). ProgramAt n w′ x P) (sym e₃) (program-heap n w w′ e p))
+
+  pub program-up : (n : ℕ) (w : List ℕ) {h : ℕ} {P : Program Leaf} → ProgramAt n w h P → ProgramAt (suc n) w h P
+  program-up n w program-sheet = program-sheet
+  program-up n w (program-more r l c f i j p) = program-more r (omega arith) c (frame-up n w (field w r 37) f) i j (program-up n w p)
+
+  -- An open goal in four numbers.
+  pub record SequentAt (n : ℕ) (w : List ℕ) (a f h i : ℕ) (g : Sequent Leaf) : Type 0 where
+    pub node : GoalOf a
+    pub goal : goalAt (T .numbers) a ≡ g .goal
+    pub frame : FrameAt n w f
+    pub environment : environmentAt w f ≡ g .environment
+    pub program : ProgramAt n w h (g .program)
+    pub level : i ≡ g .level
+    pub low : i ≤ n
+
+  pub sequent-heap : (n : ℕ) (w w′ : List ℕ) (a f h i : ℕ) (g : Sequent Leaf) → Heap 22 n w w′ → SequentAt n w a f h i g → SequentAt n w′ a f h i g
+  sequent-heap n w w′ a f h i g e c = record {
+    node = c .node;
+    goal = c .goal;
+    frame = frame-heap n w w′ f e (c .frame);
+    environment = environment-heap n w w′ f e (c .frame) ∙ c .environment;
+    program = program-heap n w w′ e (c .program);
+    level = c .level;
+    low = c .low;
+  }
+
+  pub sequent-up : (n : ℕ) (w : List ℕ) (a f h i : ℕ) (g : Sequent Leaf) → SequentAt n w a f h i g → SequentAt (suc n) w a f h i g
+  sequent-up n w a f h i g c = record {
+    node = c .node;
+    goal = c .goal;
+    frame = frame-up n w f (c .frame);
+    environment = c .environment;
+    program = program-up n w (c .program);
+    level = c .level;
+    low = let l = c .low in omega arith;
+  }
+
+  -- The goals that wait.
+  unfoldable pub GoalsAt : ℕ → List (Sequent Leaf) → List ℕ → ℕ → Type 0
+  GoalsAt n [] w zero = Unit {0}
+  GoalsAt n [] w (suc r) = ⊥
+  GoalsAt n (g ∷ gs) w zero = ⊥
+  GoalsAt n (g ∷ gs) w (suc r) = (r < n) × SequentAt n w (field w r 31) (field w r 32) (field w r 33) (field w r 34) g × GoalsAt n gs w (field w r 35)
+
+  pub goals-heap : (n : ℕ) (gs : List (Sequent Leaf)) (w w′ : List ℕ) (p : ℕ) → Heap 22 n w w′ → GoalsAt n gs w p → GoalsAt n gs w′ p
+  unfolding GoalsAt
+  goals-heap n [] w w′ zero e c = tt
+  goals-heap n [] w w′ (suc r) e c = c
+  goals-heap n (g ∷ gs) w w′ zero e c = c
+  goals-heap n (g ∷ gs) w w′ (suc r) e c =
+      let l = c .0 in
+      rw (e .old r 31 l (omega arith) (omega arith), e .old r 32 l (omega arith) (omega arith), e .old r 33 l (omega arith) (omega arith), e .old r 34 l (omega arith) (omega arith), e .old r 35 l (omega arith) (omega arith))
+      (l, sequent-heap n w w′ (field w r 31) (field w r 32) (field w r 33) (field w r 34) g e (c .1), goals-heap n gs w w′ (field w r 35) e (c .2))
+
+  pub goals-up : (n : ℕ) (gs : List (Sequent Leaf)) (w : List ℕ) (p : ℕ) → GoalsAt n gs w p → GoalsAt (suc n) gs w p
+  unfolding GoalsAt
+  goals-up n [] w zero c = tt
+  goals-up n [] w (suc r) c = c
+  goals-up n (g ∷ gs) w zero c = c
+  goals-up n (g ∷ gs) w (suc r) c =
+      (let l = c .0 in omega arith, sequent-up n w (field w r 31) (field w r 32) (field w r 33) (field w r 34) g (c .1), goals-up n gs w (field w r 35) (c .2))
+
+  -- A branch: the goals that wait and the path.
+  pub record BranchAt (n : ℕ) (w : List ℕ) (goals path line : ℕ) (b : Branch) : Type 0 where
+    pub waiting : GoalsAt n (b .goals) w goals
+    pub taken : PathAt n (b .path) w path line
+
+  pub branch-heap : (n : ℕ) (w w′ : List ℕ) (q p l : ℕ) (b : Branch) → Heap 22 n w w′ → BranchAt n w q p l b → BranchAt n w′ q p l b
+  branch-heap n w w′ q p l b e c = record { waiting = goals-heap n (b .goals) w w′ q e (c .waiting); taken = path-heap n (b .path) w w′ p l e (c .taken) }
+
+  pub branch-up : (n : ℕ) (w : List ℕ) (q p l : ℕ) (b : Branch) → BranchAt n w q p l b → BranchAt (suc n) w q p l b
+  branch-up n w q p l b c = record { waiting = goals-up n (b .goals) w q (c .waiting); taken = path-up n (b .path) w p l (c .taken) }

@@ -1,0 +1,222 @@
+-- No act changes the buffer's length.
+use Prim.Native.Nat.{ℕ, zero, suc, _+_, _-_, _*_, _/_, _%_, min}
+use mathlib.Core.Bool.{Bool, true, false, cond}
+use mathlib.Core.Path.{_≡_, refl, sym, ap, _∙_}
+use mathlib.Core.List.{List, [], _∷_}
+use lib.Dec.{eqb, ltb, leb}
+use lib.ListN.{length}
+use Rattle.tables.specs.Layout.{kindOf, labelOf, childOf}
+use Rattle.machine.specs.declared.Registers.{Registers}
+use Rattle.machine.specs.declared.Found.{Found}
+use Rattle.machine.specs.Records.{field, put, levelOf, putCell, putLevel, Made, made, putEntry, putGoal, putAssumption, putPath, putUse, putChoice, putChosen, putPosition, putPairs, putNodes}
+use Rattle.machine.specs.Words.{up, tagOf, nameOf, nodeOf, frameOf, slotOf, variableWord, constantWord, lookWord}
+use Rattle.machine.specs.Trail.{lowerTo, bindTo, oldLevel, effect, undoEntry, undo}
+use Rattle.machine.specs.Frames.{copyFrame, putVariable, putFresh, putVariables}
+use Rattle.machine.specs.Members.{headOf}
+use Rattle.machine.specs.Choices.{saveChoice, takeUp, failed}
+use Rattle.machine.specs.Goals.{membersLeft, tryFrom, takeAtom, takeTrue, takeAnd, takeOr, takeImplies, takeExists, putConstant, takeForall, takeGoal}
+use Rattle.machine.specs.Matching.{compareClosures, compareLeaves, compareWords, comparePair, bindValue, passNode, visitVariable, visitConstant, visitClosure, visitWord, checkNode}
+use Rattle.machine.specs.Trying.{nextMember, putPrefix, leaveOthers, putBody, putTry, tryMember, tryFound, tryNext}
+use Rattle.machine.specs.Machine.{dueAct, act, run}
+use Rattle.machine.specs.Simulation.{KeepsLength}
+use Rattle.machine.proofs.Records.{length-put, length-cell, length-level, puts, length-puts}
+use Rattle.machine.proofs.Choosing.{saved, save-is}
+
+-- By cases of a test: of memories, of what an act leaves.
+either : (b : Bool) (x y w : List ℕ) → length x ≡ length w → length y ≡ length w → length (cond b x y) ≡ length w
+either true x y w p q = p
+either false x y w p q = q
+
+made-either : (b : Bool) (x y : Made) (w : List ℕ) → length (x .memory) ≡ length w → length (y .memory) ≡ length w → length (cond b x y .memory) ≡ length w
+made-either true x y w p q = p
+made-either false x y w p q = q
+
+-- Groups of fields
+
+length-entry : (w : List ℕ) (u z k y h : ℕ) → length (putEntry w u z k y h) ≡ length w
+unfolding putEntry puts
+length-entry w u z k y h = length-puts (z ∷ k ∷ y ∷ h ∷ []) w u 18
+
+length-goal : (w : List ℕ) (u a b c d e : ℕ) → length (putGoal w u a b c d e) ≡ length w
+unfolding putGoal puts
+length-goal w u a b c d e = length-puts (a ∷ b ∷ c ∷ d ∷ e ∷ []) w u 31
+
+length-assumption : (w : List ℕ) (u a b c : ℕ) → length (putAssumption w u a b c) ≡ length w
+unfolding putAssumption puts
+length-assumption w u a b c = length-puts (a ∷ b ∷ c ∷ []) w u 36
+
+length-path : (w : List ℕ) (u a b : ℕ) → length (putPath w u a b) ≡ length w
+unfolding putPath puts
+length-path w u a b = length-puts (a ∷ b ∷ []) w u 39
+
+length-use : (w : List ℕ) (u a b c : ℕ) → length (putUse w u a b c) ≡ length w
+unfolding putUse puts
+length-use w u a b c = length-puts (a ∷ b ∷ c ∷ []) w u 41
+
+length-choice : (w : List ℕ) (u : ℕ) (r : Registers) → length (saveChoice w u r) ≡ length w
+length-choice w u r = ap length (save-is w u r) ∙ length-puts (saved r) w u 43
+
+length-pairs : (w : List ℕ) (u a b c d e : ℕ) → length (putPairs w u a b c d e) ≡ length w
+unfolding putPairs puts
+length-pairs w u a b c d e = length-puts (a ∷ b ∷ c ∷ d ∷ e ∷ []) w u 57
+
+length-nodes : (w : List ℕ) (u a b c : ℕ) → length (putNodes w u a b c) ≡ length w
+unfolding putNodes puts
+length-nodes w u a b c = length-puts (a ∷ b ∷ c ∷ []) w u 57
+
+-- The trail
+
+length-lowerTo : (w : List ℕ) (a k : ℕ) → length (lowerTo w a k) ≡ length w
+unfolding lowerTo
+length-lowerTo w a k = either (eqb a 0) w (putLevel w (nameOf a) k) w refl (length-level w (nameOf a) k)
+
+length-bindTo : (w : List ℕ) (a v : ℕ) → length (bindTo w a v) ≡ length w
+unfolding bindTo
+length-bindTo w a v = either (eqb a 0) w (putCell w (nameOf a) v) w refl (length-cell w (nameOf a) v)
+
+length-effect : (w : List ℕ) (u z k y v h : ℕ) → length (effect w u z k y v h) ≡ length w
+unfolding effect
+length-effect w u z k y v h = length-entry (bindTo (lowerTo w z k) y v) u z (oldLevel w z) y h ∙ length-bindTo (lowerTo w z k) y v ∙ length-lowerTo w z k
+
+length-undoEntry : (w : List ℕ) (q : ℕ) → length (undoEntry w q) ≡ length w
+unfolding undoEntry
+length-undoEntry w q = length-lowerTo (bindTo w (field w q 20) 0) (field w q 18) (field w q 19) ∙ length-bindTo w (field w q 20) 0
+
+length-undo : (n : ℕ) (w : List ℕ) (h mark : ℕ) → length (undo n w h mark) ≡ length w
+unfolding undo
+length-undo zero w h mark = refl
+length-undo (suc n) w h mark = go (eqb h mark) (length-undo n (undoEntry w (h - 1)) (field w (h - 1) 21) mark ∙ length-undoEntry w (h - 1))
+  where
+    go : (b : Bool) → length (undo n (undoEntry w (h - 1)) (field w (h - 1) 21) mark) ≡ length w
+        → length {A = ℕ} (elim b [ true ↦ w | false ↦ undo n (undoEntry w (h - 1)) (field w (h - 1) 21) mark ]) ≡ length w
+    go true i = refl
+    go false i = i
+
+length-failed : (w : List ℕ) (r : Registers) → length (failed w r .memory) ≡ length w
+unfolding failed takeUp
+length-failed w r = made-either (eqb (r .choice) 0) _ (takeUp w r (r .choice - 1)) w refl (length-undo (r .trail) w (r .trail) (field w (r .choice - 1) 44))
+
+-- Frames
+
+length-copy : (n : ℕ) (w : List ℕ) (u f v : ℕ) → length (copyFrame n w u f v) ≡ length w
+unfolding copyFrame
+length-copy zero w u f v = refl
+length-copy (suc n) w u f v = length-copy n (put w u (23 + v) (slotOf w f v)) u f (suc v) ∙ length-put w u (23 + v) (slotOf w f v)
+
+length-variable : (w : List ℕ) (x i : ℕ) → length (putVariable w x i) ≡ length w
+unfolding putVariable
+length-variable w x i = length-level (putCell w x 0) x i ∙ length-cell w x 0
+
+length-fresh : (n : ℕ) (w : List ℕ) (u vs x i : ℕ) → length (putFresh n w u vs x i) ≡ length w
+unfolding putFresh
+length-fresh zero w u vs x i = refl
+length-fresh (suc n) w u vs x i =
+    length-fresh n (put (putVariable w x i) u (23 + vs % 8) (variableWord x)) u (vs / 8) (up x) i ∙ length-put (putVariable w x i) u (23 + vs % 8) (variableWord x) ∙ length-variable w x i
+
+pub length-variables : (n : ℕ) (w : List ℕ) (x : ℕ) → length (putVariables n w x) ≡ length w
+unfolding putVariables
+length-variables zero w x = refl
+length-variables (suc n) w x = length-variables n (putVariable w x 0) (suc x) ∙ length-variable w x 0
+
+-- Acts
+
+length-tryFrom : (c : ℕ) (w : List ℕ) (r : Registers) → length (tryFrom c w r .memory) ≡ length w
+unfolding tryFrom
+length-tryFrom c w r = made-either (membersLeft c r) _ (failed w r) w refl (length-failed w r)
+
+length-take : (t : List ℕ) (c : ℕ) (w : List ℕ) (r : Registers) → length (takeGoal t c w r .memory) ≡ length w
+unfolding takeGoal takeAtom takeTrue takeAnd takeOr takeImplies takeExists takeForall putConstant
+length-take t c w r =
+    made-either (eqb k 2) (takeAtom c w r) _ w (length-tryFrom c w _)
+    (made-either (eqb k 4) (takeAnd t w r) _ w (length-goal path u _ _ _ _ _ ∙ path-kept)
+    (made-either (eqb k 5) (takeOr t w r) _ w (length-choice path u _ ∙ path-kept)
+    (made-either (eqb k 6) (takeImplies t w r) _ w (length-assumption path u _ _ _ ∙ path-kept)
+    (made-either (eqb k 7) (takeExists t w r) _ w (length-put (putPath x u (r .path) (r .line)) u 43 (r .next) ∙ length-path x u (r .path) (r .line) ∙ length-fresh 1 copy u (labelOf t (r .node)) (r .next) (r .level) ∙ copied)
+    (made-either (eqb k 8) (takeForall t w r) (takeTrue w r) w (length-path y u (r .path) (r .line) ∙ length-put (put copy u 22 (up (r .level))) u (23 + labelOf t (r .node)) (constantWord u) ∙ length-put copy u 22 (up (r .level)) ∙ copied) path-kept)))))
+  where
+    k : ℕ
+    k = kindOf t (r .node)
+
+    u : ℕ
+    u = r .acts
+
+    path : List ℕ
+    path = putPath w u (r .path) (r .line)
+
+    path-kept : length path ≡ length w
+    path-kept = length-path w u (r .path) (r .line)
+
+    copy : List ℕ
+    copy = copyFrame 8 w u (r .frame) 0
+
+    copied : length copy ≡ length w
+    copied = length-copy 8 w u (r .frame) 0
+
+    x : List ℕ
+    x = putFresh 1 copy u (labelOf t (r .node)) (r .next) (r .level)
+
+    y : List ℕ
+    y = put (put copy u 22 (up (r .level))) u (23 + labelOf t (r .node)) (constantWord u)
+
+length-compareWords : (t w : List ℕ) (r : Registers) (e x y : ℕ) → length (compareWords t w r e x y .memory) ≡ length w
+unfolding compareWords compareLeaves compareClosures
+length-compareWords t w r e x y =
+    made-either (eqb (tagOf x) 1) _ _ w (made-either (eqb x y) _ _ w refl refl)
+    (made-either (eqb (tagOf y) 1) _ _ w refl
+    (made-either (eqb (tagOf x) 2) _ _ w (made-either (eqb x y) _ (failed w r) w refl (length-failed w r))
+    (made-either (eqb (tagOf y) 2) (failed w r) _ w (length-failed w r)
+    (made-either (eqb (labelOf t (nodeOf x)) (labelOf t (nodeOf y))) _ (failed w r) w (length-pairs w (r .acts) (nodeOf x) (frameOf x) (nodeOf y) (frameOf y) e) (length-failed w r)))))
+
+length-passNode : (w : List ℕ) (r : Registers) (z k e : ℕ) → length (passNode w r z k e .memory) ≡ length w
+unfolding passNode bindValue
+length-passNode w r z k e = made-either (eqb e 0) (bindValue w r z k) _ w (length-effect w (r .acts) z k (r .variable) (r .value) (r .trail)) (length-effect w (r .acts) z k 0 0 (r .trail))
+
+length-visitWord : (t w : List ℕ) (r : Registers) (e x : ℕ) → length (visitWord t w r e x .memory) ≡ length w
+unfolding visitWord visitVariable visitConstant visitClosure
+length-visitWord t w r e x =
+    made-either (eqb (tagOf x) 1) (visitVariable w r e x) _ w
+    (made-either (eqb x (r .variable)) (failed w r) _ w (length-failed w r) (length-passNode w r x (min (levelOf w (nameOf x)) (levelOf w (nameOf (r .variable)))) e))
+    (made-either (eqb (tagOf x) 2) (visitConstant w r e x) (visitClosure t w r e x) w
+    (made-either (leb (field w (nameOf x) 22) (levelOf w (nameOf (r .variable)))) _ (failed w r) w (length-passNode w r 0 0 e) (length-failed w r))
+    (length-passNode (putNodes w (r .acts) (nodeOf x) (frameOf x) e) r 0 0 _ ∙ length-nodes w (r .acts) (nodeOf x) (frameOf x) e))
+
+length-tryFound : (t : List ℕ) (c : ℕ) (w : List ℕ) (r : Registers) (m : Found) → length (tryFound t c w r m .memory) ≡ length w
+unfolding tryFound tryMember putTry putBody leaveOthers putPrefix
+length-tryFound t c w r m =
+    made-either (eqb (labelOf t (r .node)) (labelOf t (headOf t (m .leaf)))) (tryMember t c w r m) (tryFrom c w (nextMember t w r)) w
+    (length-pairs (putTry t c (putPrefix w r m) r m (nextMember t w r)) u _ _ _ _ _
+    ∙ either (eqb (kindOf t (m .leaf)) 6) _ others others (length-goal others u _ _ _ _ _) refl ∙ either (membersLeft c (nextMember t w r)) _ used used (length-choice used u (nextMember t w r)) refl
+    ∙ length-use (putPath (putPrefix w r m) u (r .path) (r .line)) u (r .place) (m .count) (r .next) ∙ length-path (putPrefix w r m) u (r .path) (r .line)
+    ∙ length-fresh (m .count) _ u (m .names) (r .next) (r .level) ∙ length-copy 8 w u _ 0)
+    (length-tryFrom c w (nextMember t w r))
+  where
+    u : ℕ
+    u = r .acts
+
+    used : List ℕ
+    used = putUse (putPath (putPrefix w r m) u (r .path) (r .line)) u (r .place) (m .count) (r .next)
+
+    others : List ℕ
+    others = leaveOthers c used u (nextMember t w r)
+
+pub length-act : (t : List ℕ) (c : ℕ) (w : List ℕ) (r : Registers) → length (act t c w r .memory) ≡ length w
+unfolding act dueAct tryNext comparePair checkNode
+length-act t c w r =
+    made-either (eqb (r .mode) 0) (takeGoal t c w r) _ w (length-take t c w r)
+    (made-either (eqb (r .mode) 1) (tryNext t c w r) _ w (length-tryFound t c w r _)
+    (made-either (eqb (r .mode) 2) (comparePair t w r) (checkNode t w r) w (length-compareWords t w r _ _ _) (length-visitWord t w r _ _)))
+
+pub keepsLength : KeepsLength
+unfolding run
+keepsLength zero t c w r = refl
+keepsLength (suc n) t c w r = go (ltb (r .mode) 4) (keepsLength n t c (act t c w r .memory) (act t c w r .registers) ∙ length-act t c w r)
+  where
+    R : Made
+    R = run n t c (act t c w r .memory) (act t c w r .registers)
+
+    M : Bool → Made
+    M b = elim b [ true ↦ R | false ↦ made w r ]
+
+    go : (b : Bool) → length (R .memory) ≡ length w → length (M b .memory) ≡ length w
+    go true i = i
+    go false i = refl

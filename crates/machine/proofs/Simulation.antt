@@ -1,0 +1,216 @@
+-- The machine follows the search, act for act: proofs of `specs/Simulation.antt`.
+use Prim.Native.Nat.{ℕ, zero, suc, _+_, _-_, _*_, _≤_, _<_}
+use native.Mathlib.Omega.{arith}
+use mathlib.Core.Bool.{Bool, true, false}
+use mathlib.Core.Path.{_≡_, refl, sym, ap, _∙_, subst}
+use mathlib.Core.List.{List, [], _∷_, _++_}
+use lib.Dec.{ltb}
+use lib.ListN.{length}
+use borrow.Author.Tests.{ltb-true, ltb-false, lt-ltb, le-ltb}
+use Rattle.terms.specs.Lists.{All}
+use Rattle.terms.proofs.Lists.{all-append}
+use Rattle.formulas.specs.Formulas.{Goal, Clause}
+use Rattle.sequents.specs.Sequents.{Line}
+use Rattle.unification.specs.Store.{Leaf, Store}
+use Rattle.unification.specs.Matching.{Matching, pairs, check, fail}
+use Rattle.search.specs.Configurations.{Branch, Configuration, take, try, match, done}
+use Rattle.search.specs.Steps.{step}
+use Rattle.search.specs.Search.{status, start, advance, after, searchFrom, search}
+use Rattle.search.proofs.Invariant.{Invariant, step-keeps, start-invariant, after-invariant}
+use Rattle.tables.specs.Decoding.{clausesFrom, goalAt}
+use Rattle.machine.specs.declared.Registers.{Registers}
+use Rattle.machine.specs.Records.{Made, made}
+use Rattle.machine.specs.Words.{up}
+use Rattle.machine.specs.Changes.{onActs}
+use Rattle.machine.specs.Machine.{act, run, startMemory, startRegisters, runMachine}
+use Rattle.machine.specs.Reading.{Holds}
+use Rattle.machine.specs.Simulation.{StandsAt, Tells, Stands, Simulates, Follows, Resumes}
+use Rattle.machine.proofs.Words.{up-small}
+use Rattle.machine.proofs.Tables.{Table}
+use Rattle.machine.proofs.Stores.{store-bindings}
+use Rattle.machine.proofs.Branches.{PathAt, path-read}
+use Rattle.machine.proofs.Configurations.{storeOf, CompareAt, ConfigurationAt}
+use Rattle.machine.proofs.Alternatives.{SharedAt, StateAt, ResultAt}
+use Rattle.machine.proofs.Lengths.{length-act, length-variables, keepsLength}
+use Rattle.machine.proofs.Acts.{mode-due, act-result}
+use Rattle.machine.proofs.Start.{start-result}
+
+-- Turns of the run.
+run-ended : (n : ℕ) (t : List ℕ) (c : ℕ) (w : List ℕ) (r : Registers) → 4 ≤ r .mode → run n t c w r ≡ made w r
+unfolding run
+run-ended zero t c w r h = refl
+run-ended (suc n) t c w r h = rw (run, le-ltb (r .mode) 4 h)
+
+run-due : (n : ℕ) (t : List ℕ) (c : ℕ) (w : List ℕ) (r : Registers) → r .mode < 4 → run (suc n) t c w r ≡ run n t c (act t c w r .memory) (act t c w r .registers)
+unfolding run
+run-due n t c w r h = rw (run, lt-ltb (r .mode) 4 h)
+
+start-length : (w : List ℕ) → length (startMemory w) ≡ length w
+unfolding startMemory
+start-length w = length-variables 8 w 0
+
+-- n acts and then m are n + m acts.
+pub resumes : Resumes
+unfolding run
+resumes t c zero m w r = let e : 0 + m ≡ m = omega arith in ap (λ (k : ℕ). run k t c w r) e
+resumes t c (suc n) m w r = let e : suc n + m ≡ suc (n + m) = omega arith in ap (λ (k : ℕ). run k t c w r) e ∙ go (ltb (r .mode) 4) refl (λ w′ r′. resumes t c n m w′ r′)
+  where
+    Rest : Type 0
+    Rest = (w′ : List ℕ) (r′ : Registers) → run (n + m) t c w′ r′ ≡ run m t c (run n t c w′ r′ .memory) (run n t c w′ r′ .registers)
+
+    go : (b : Bool) → ltb (r .mode) 4 ≡ b → Rest → run (suc (n + m)) t c w r ≡ run m t c (run (suc n) t c w r .memory) (run (suc n) t c w r .registers)
+    go true q ih =
+        let l = ltb-true (r .mode) 4 q in
+        run-due (n + m) t c w r l ∙ ih (act t c w r .memory) (act t c w r .registers) ∙ ap (λ (x : Made). run m t c (x .memory) (x .registers)) (sym (run-due n t c w r l))
+    go false q ih =
+        let l = ltb-false (r .mode) 4 q in
+        run-ended (suc (n + m)) t c w r l ∙ sym (run-ended m t c w r l) ∙ ap (λ (x : Made). run m t c (x .memory) (x .registers)) (sym (run-ended (suc n) t c w r l))
+
+module _ (T : Table) where
+  abbrev t : List ℕ
+  t = T .numbers
+
+  -- What a state says of a branch.
+  stands-at : (w : List ℕ) (r : Registers) (s : Store) (ds : List Configuration) (ls : List (Line Leaf)) (k : ℕ) → r .mode ≡ k → SharedAt T (r .acts) w (r .next) (r .trail) (r .choice) s ds → PathAt (r .acts) ls w (r .path) (r .line)
+      → StandsAt (T .numbers) (made w r) k s ls
+  stands-at w r s ds ls k e sh p = record {
+    mode = e;
+    store = record { next = sh .next; bindings = store-bindings T (r .acts) w s (sh .store); levels = sh .store .levels };
+    path = path-read (r .acts) (r .acts) ls w (r .path) (r .line) (omega arith) p;
+  }
+
+  stands : (w : List ℕ) (r : Registers) (ds : List Configuration) → ResultAt T (r .acts) (made w r) ds → Stands (T .numbers) (made w r) ds
+  unfolding Stands ResultAt ConfigurationAt CompareAt storeOf
+  stands w r [] h = h
+  stands w r (take s g b ∷ ds) h = stands-at w r s ds (b .path) 0 (h .front .0) (h .shared) (h .front .2 .taken)
+  stands w r (try s a m ms k b ∷ ds) h = stands-at w r s ds (b .path) 1 (h .front .mode) (h .shared) (h .front .branch .taken)
+  stands w r (match (pairs s []) b ∷ ds) h = absurd (h .front)
+  stands w r (match (pairs s (p ∷ ps)) b ∷ ds) h = stands-at w r s ds (b .path) 2 (h .front .0) (h .shared) (h .front .2 .taken)
+  stands w r (match (check s y v n ns ps) b ∷ ds) h = stands-at w r s ds (b .path) 3 (h .front .mode) (h .shared) (h .front .branch .taken)
+  stands w r (match fail b ∷ ds) h = h .front
+  stands w r (done s ls ∷ ds) h = stands-at w r s ds ls 4 (h .front .0) (h .shared) (h .front .1)
+
+  -- an act that is due
+  act-counts : (w : List ℕ) (r : Registers) → r .acts < 50000 → act (T .numbers) (T .clauses) w r .registers .acts ≡ suc (r .acts)
+  unfolding act onActs
+  act-counts w r h = up-small (r .acts) (omega arith)
+
+  acted : (u : ℕ) (w : List ℕ) (r : Registers) (c : Configuration) (ds : List Configuration) → r .acts ≡ u → 64 * suc u ≤ length w → u < 50000 → Invariant c → r .mode < 4 → StateAt T u w r c ds
+      → ResultAt T (suc u) (act (T .numbers) (T .clauses) w r) (step u c ++ ds)
+  acted u w r c ds e l b i d st =
+      subst (λ (n : ℕ). ResultAt T (suc n) (act t (T .clauses) w r) (step n c ++ ds)) e
+      (act-result T w r ds (rw e l) (rw e b) c i (λ q. omega arith) (subst (λ (n : ℕ). StateAt T n w r c ds) (sym e) st))
+
+  -- After n acts from the start: the state of the search, and n acts counted while one is due.
+  pub record Following (n : ℕ) (m : Made) (ds : List Configuration) : Type 0 where
+    pub result : ResultAt T (m .registers .acts) m ds
+    pub counted : m .registers .mode < 4 → m .registers .acts ≡ n
+
+  -- a search that has come to its end stays there
+  ended : (n : ℕ) (w : List ℕ) (r : Registers) (c : Configuration) (ds : List Configuration) → 4 ≤ r .mode → StateAt T (r .acts) w r c ds → Following (suc n) (made w r) (step n c ++ ds)
+  unfolding ConfigurationAt CompareAt step ResultAt
+  ended n w r (take s g b) ds d st = absurd (let e = st .front .0 in omega arith)
+  ended n w r (try s a m ms k b) ds d st = absurd (let e = st .front .mode in omega arith)
+  ended n w r (match (pairs s []) b) ds d st = absurd (st .front)
+  ended n w r (match (pairs s (p ∷ ps)) b) ds d st = absurd (let e = st .front .0 in omega arith)
+  ended n w r (match (check s y v x ns ps) b) ds d st = absurd (let e = st .front .mode in omega arith)
+  ended n w r (match fail b) ds d st = absurd (st .front)
+  ended n w r (done s ls) ds d st = record { result = st; counted = λ q. absurd (omega arith) }
+
+  -- one act more
+  follow : (n : ℕ) (w : List ℕ) (r : Registers) (ds : List Configuration) → 64 * suc n ≤ length w → n < 50000 → All Invariant ds → Following n (made w r) ds
+      → Following (suc n) (run 1 (T .numbers) (T .clauses) w r) (advance n ds)
+  unfolding advance ResultAt run act
+  follow n w r [] l b i f =
+      let e = f .result in
+      subst (λ (m : Made). Following (suc n) m []) (sym (run-ended 1 t (T .clauses) w r (omega arith))) (record { result = e; counted = λ q. absurd (omega arith) })
+  follow n w r (c ∷ ds) l b i f = go (ltb (r .mode) 4) refl
+    where
+      go : (x : Bool) → ltb (r .mode) 4 ≡ x → Following (suc n) (run 1 t (T .clauses) w r) (step n c ++ ds)
+      go true q =
+          let d = ltb-true (r .mode) 4 q in
+          let e = f .counted d in
+          let k = act-counts w r (omega arith) in
+          let R = acted n w r c ds e l b (i .0) d (subst (λ (j : ℕ). StateAt T j w r c ds) e (f .result)) in
+          subst (λ (m : Made). Following (suc n) m (step n c ++ ds)) (sym (run-due 0 t (T .clauses) w r d))
+          (record { result = subst (λ (j : ℕ). ResultAt T j (act t (T .clauses) w r) (step n c ++ ds)) (sym (k ∙ ap suc e)) R; counted = λ z. k ∙ ap suc e })
+      go false q =
+          let d = ltb-false (r .mode) 4 q in
+          subst (λ (m : Made). Following (suc n) m (step n c ++ ds)) (sym (run-ended 1 t (T .clauses) w r d)) (ended n w r c ds d (f .result))
+
+  -- The sheet that the table holds.
+  abbrev clauses : List Clause
+  clauses = clausesFrom (T .numbers) (T .clauses) 0
+
+  abbrev goal : Goal
+  goal = goalAt (T .numbers) (T .goal)
+
+  pub following : (n : ℕ) (w : List ℕ) → n ≤ 50000 → 64 ≤ length w → 64 * n ≤ length w
+      → Following n (runMachine n (T .numbers) (T .clauses) (T .goal) w) (after (clausesFrom (T .numbers) (T .clauses) 0) (goalAt (T .numbers) (T .goal)) n)
+  unfolding runMachine run after startRegisters
+  following zero w b k l = record { result = start-result T w k; counted = λ q. refl }
+  following (suc n) w b k l =
+      let m = runMachine n t (T .clauses) (T .goal) w in
+      let e : n + 1 ≡ suc n = omega arith in
+      let len = keepsLength n t (T .clauses) (startMemory w) (startRegisters (T .goal)) ∙ start-length w in
+      let z : run (suc n) t (T .clauses) (startMemory w) (startRegisters (T .goal)) ≡ run 1 t (T .clauses) (m .memory) (m .registers) =
+      ap (λ (j : ℕ). run j t (T .clauses) (startMemory w) (startRegisters (T .goal))) (sym e) ∙ resumes t (T .clauses) n 1 (startMemory w) (startRegisters (T .goal)) in
+      subst (λ (x : Made). Following (suc n) x (advance n (after clauses goal n))) (sym z)
+      (follow n (m .memory) (m .registers) (after clauses goal n) (omega arith) (omega arith) (after-invariant clauses goal n) (following n w (omega arith) k (omega arith)))
+
+  -- the parts of what is told
+  proved-at : (u : ℕ) (w : List ℕ) (r : Registers) (s : Store) (ls : List (Line Leaf)) (ds : List Configuration) → r .acts ≡ u → StateAt T u w r (done s ls) ds → StandsAt (T .numbers) (made w r) 4 s ls
+  unfolding ConfigurationAt storeOf
+  proved-at u w r s ls ds e h =
+      let h′ = subst (λ (n : ℕ). StateAt T n w r (done s ls) ds) (sym e) h in
+      stands-at w r s ds ls 4 (h′ .front .0) (h′ .shared) (h′ .front .1)
+
+  match-due : {u : ℕ} {w : List ℕ} {r : Registers} {ds : List Configuration} (m : Matching) (b : Branch) → StateAt T u w r (match m b) ds → r .mode ≡ 4 → ⊥
+  unfolding ConfigurationAt CompareAt
+  match-due (pairs s []) b h q = h .front
+  match-due (pairs s (p ∷ ps)) b h q = let d = h .front .0 in omega arith
+  match-due (check s y v x ns ps) b h q = let d = h .front .mode in omega arith
+  match-due fail b h q = h .front
+
+  -- an act is due
+  go-on : (f u : ℕ) (w : List ℕ) (r : Registers) (c : Configuration) (ds : List Configuration) → r .acts ≡ u → u + suc f ≤ 50000 → 64 * (u + suc f) ≤ length w → All Invariant (c ∷ ds) → StateAt T u w r c ds → r .mode < 4
+      → ((w′ : List ℕ) (r′ : Registers) (ds′ : List Configuration) → r′ .acts ≡ suc u → suc u + f ≤ 50000 → 64 * (suc u + f) ≤ length w′ → All Invariant ds′ → ResultAt T (suc u) (made w′ r′) ds′
+      → Tells (T .numbers) (run f (T .numbers) (T .clauses) w′ r′) (searchFrom f (suc u) (status (suc u) ds′)))
+      → Tells (T .numbers) (run (suc f) (T .numbers) (T .clauses) w r) (searchFrom f (suc u) (status (suc u) (step u c ++ ds)))
+  go-on f u w r c ds e b l i h d ih =
+      let m = act t (T .clauses) w r in
+      let n = length-act t (T .clauses) w r in
+      let k = act-counts w r (omega arith) in
+      subst (λ (x : Made). Tells t x (searchFrom f (suc u) (status (suc u) (step u c ++ ds)))) (sym (run-due f t (T .clauses) w r d))
+      (ih (m .memory) (m .registers) (step u c ++ ds) (k ∙ ap suc e) (omega arith) (omega arith) (all-append Invariant (step u c) ds (step-keeps u c (i .0)) (i .1)) (acted u w r c ds e (omega arith) (omega arith) (i .0) d h))
+
+  -- What is told within a budget of f acts more, u having been done.
+  tells : (f u : ℕ) (w : List ℕ) (r : Registers) (ds : List Configuration) → r .acts ≡ u → u + f ≤ 50000 → 64 * (u + f) ≤ length w → All Invariant ds → ResultAt T u (made w r) ds
+      → Tells (T .numbers) (run f (T .numbers) (T .clauses) w r) (searchFrom f u (status u ds))
+  unfolding run searchFrom status Tells ResultAt ConfigurationAt CompareAt storeOf
+  tells zero u w r [] e b l i h = (h, e)
+  tells zero u w r (take s g x ∷ ds) e b l i h = let d = h .front .0 in omega arith
+  tells zero u w r (try s a m ms k x ∷ ds) e b l i h = let d = h .front .mode in omega arith
+  tells zero u w r (match m x ∷ ds) e b l i h = mode-due T u w r (match m x) (h .front) (λ q. match-due m x h q)
+  tells zero u w r (done s ls ∷ ds) e b l i h = (proved-at u w r s ls ds e h, e)
+  tells (suc f) u w r [] e b l i h = subst (λ (m : Made). (m .registers .mode ≡ 5) × (m .registers .acts ≡ u)) (sym (run-ended (suc f) t (T .clauses) w r (omega arith))) (h, e)
+  tells (suc f) u w r (take s g x ∷ ds) e b l i h = go-on f u w r (take s g x) ds e b l i h (let d = h .front .0 in omega arith) (λ w′ r′ ds′ a c d j k. tells f (suc u) w′ r′ ds′ a c d j k)
+  tells (suc f) u w r (try s a m ms k x ∷ ds) e b l i h = go-on f u w r (try s a m ms k x) ds e b l i h (let d = h .front .mode in omega arith) (λ w′ r′ ds′ a c d j k. tells f (suc u) w′ r′ ds′ a c d j k)
+  tells (suc f) u w r (match m x ∷ ds) e b l i h = go-on f u w r (match m x) ds e b l i h (mode-due T u w r (match m x) (h .front) (λ q. match-due m x h q)) (λ w′ r′ ds′ a c d j k. tells f (suc u) w′ r′ ds′ a c d j k)
+  tells (suc f) u w r (done s ls ∷ ds) e b l i h =
+      subst (λ (m : Made). StandsAt t m 4 s ls × (m .registers .acts ≡ u)) (sym (run-ended (suc f) t (T .clauses) w r (let d = h .front .0 in omega arith))) (proved-at u w r s ls ds e h, e)
+
+-- The statements.
+pub simulates : Simulates
+unfolding runMachine search run Tells start status searchFrom startRegisters
+simulates t nodes clauses goal made zero b w l = omega arith
+simulates t nodes clauses goal made (suc f) b w l =
+    let T : Table = record { numbers = t; nodes = nodes; clauses = clauses; goal = goal; made = made } in
+    let n = start-length w in
+    tells T (suc f) 0 (startMemory w) (startRegisters goal) (start (clausesFrom t clauses 0) (goalAt t goal)) refl (omega arith) (omega arith) (start-invariant (clausesFrom t clauses 0) (goalAt t goal)) (start-result T w (omega arith))
+
+pub follows : Follows
+follows t nodes clauses goal made n b w k l =
+    let T : Table = record { numbers = t; nodes = nodes; clauses = clauses; goal = goal; made = made } in
+    let m = runMachine n t clauses goal w in
+    stands T (m .memory) (m .registers) (after (clausesFrom t clauses 0) (goalAt t goal) n) (following T n w b k l .result)

@@ -1,0 +1,62 @@
+-- A well-made table, and the laws of it that the simulation uses.
+use Prim.Native.Nat.{ℕ, zero, suc, _+_, _≤_, _<_}
+use native.Mathlib.Omega.{arith}
+use mathlib.Core.Path.{_≡_, refl, sym, ap, _∙_}
+use mathlib.Core.List.{List}
+use Rattle.terms.specs.Terms.{Term, leaf, app}
+use Rattle.tables.specs.Layout.{kindOf, childCount, labelOf, childOf, arityOf}
+use Rattle.tables.specs.Decoding.{termAt, argumentsAt}
+use Rattle.tables.specs.WellMade.{IsTerm, Arguments, WellMade}
+use Rattle.tables.proofs.Decoding.{Nodes, nodes-of, term-variable, term-application}
+
+pub record Table : Type 0 where
+  pub numbers : List ℕ
+  pub nodes : ℕ
+  pub clauses : ℕ
+  pub goal : ℕ
+  pub made : WellMade numbers nodes clauses goal
+
+module _ (T : Table) where
+  pub nodes-are : Nodes (T .numbers) (T .nodes)
+  nodes-are = nodes-of (T .numbers) (T .nodes) (T .clauses) (T .goal) (T .made)
+
+  -- A node of a term; a node with arguments, which is an application or an atom.
+  abbrev pub TermOf : ℕ → Type 0
+  TermOf n = (n < T .nodes) × IsTerm (T .numbers) n
+
+  abbrev pub Applied : ℕ → Type 0
+  Applied n = (n < T .nodes) × Arguments (T .numbers) n
+
+  abbrev pub ApplicationOf : ℕ → Type 0
+  ApplicationOf n = (n < T .nodes) × IsTerm (T .numbers) n × (kindOf (T .numbers) n ≡ 1)
+
+  -- nodes have ten bits
+  pub node-small : (n : ℕ) → n < T .nodes → n < 1024
+  node-small n h = let f = T .made .fewNodes in omega arith
+
+  -- the arguments are terms,
+  pub argument-term : (n j : ℕ) → Applied n → j < childCount (T .numbers) n → TermOf (childOf (T .numbers) n j)
+  argument-term n j a h = let b = a .1 .terms j h in let l = b .0 in let m = a .0 in (omega arith, b .1)
+
+  -- at most four, as many as the symbol has
+  pub few-arguments : (n j : ℕ) → Applied n → j < childCount (T .numbers) n → j < 4
+  few-arguments n j a h = let f = a .1 .few in omega arith
+
+  pub same-count : (n m : ℕ) → Applied n → Applied m → labelOf (T .numbers) n ≡ labelOf (T .numbers) m → childCount (T .numbers) n ≡ childCount (T .numbers) m
+  same-count n m a b e = a .1 .many ∙ ap (arityOf (T .numbers)) e ∙ sym (b .1 .many)
+
+  -- a variable's name is below 8; any other term is an application
+  pub name-small : (n : ℕ) → TermOf n → kindOf (T .numbers) n ≡ 0 → labelOf (T .numbers) n < 8
+  name-small n h e = T .made .term n (h .0) (h .1) .variable e
+
+  pub not-variable : (n : ℕ) → TermOf n → (kindOf (T .numbers) n ≡ 0 → ⊥) → kindOf (T .numbers) n ≡ 1
+  not-variable n h d = let k = T .made .term n (h .0) (h .1) .kind in omega arith
+
+  pub applied : (n : ℕ) → ApplicationOf n → Applied n
+  applied n h = (h .0, T .made .term n (h .0) (h .1) .application (h .2))
+
+  pub variable-is : (n : ℕ) → TermOf n → kindOf (T .numbers) n ≡ 0 → termAt (T .numbers) n ≡ leaf (labelOf (T .numbers) n)
+  variable-is n h e = term-variable (T .numbers) (T .nodes) nodes-are n (h .0) (h .1) e
+
+  pub application-is : (n : ℕ) → ApplicationOf n → termAt (T .numbers) n ≡ app (labelOf (T .numbers) n) (argumentsAt (T .numbers) n)
+  application-is n h = term-application (T .numbers) (T .nodes) nodes-are n (h .0) (h .1) (h .2)

@@ -1,0 +1,359 @@
+-- Taking a goal that is no atom is level 1's `takeGoal`.
+use Prim.Native.Nat.{ℕ, zero, suc, _+_, _-_, _*_, _/_, _%_, _≤_, _<_}
+use native.Mathlib.Omega.{arith}
+use mathlib.Core.Bool.{Bool, true, false, cond}
+use mathlib.Core.Path.{_≡_, refl, sym, ap, ap₂, _∙_, subst}
+use mathlib.Core.List.{List, [], _∷_, _++_}
+use mathlib.Core.Logic.{_⊎_, inl, inr}
+use lib.Dec.{eqb, ltb}
+use lib.ListN.{length, getD}
+use Rattle.terms.specs.Lists.{update}
+use Rattle.terms.specs.Terms.{Term, leaf}
+use Rattle.formulas.specs.Formulas.{Goal, and, or, implies, exists, forall, truth}
+use Rattle.sequents.specs.Sequents.{Environment, Program, hypothesis, Sequent, sequent, Line, plain, Dtrue, Dand, Dleft, Dright, Dassume, Dsome, Dall, assign}
+use Rattle.unification.specs.Store.{Leaf, var, con, Store, fresh, past, freshLevels, freshVariables}
+use Rattle.unification.specs.Promises.{Formed}
+use Rattle.search.specs.Configurations.{Branch, branch, Configuration, take}
+use Rattle.search.specs.Steps as level1
+use Rattle.tables.specs.Layout.{kindOf, labelOf, childOf}
+use Rattle.tables.specs.Decoding.{goalAt, clauseAtNode}
+use Rattle.tables.specs.WellMade.{IsGoal, GoalNode}
+use Rattle.tables.proofs.Decoding.{goal-true, goal-and, goal-or, goal-implies, goal-exists, goal-forall}
+use Rattle.machine.specs.declared.Registers.{Registers}
+use Rattle.machine.specs.Records.{field, put, Made, made, putGoal, putAssumption, putPath}
+use Rattle.machine.specs.Changes.{onMode, onNext, onTrail, onChoice, onGoals, onPath, onGoal, onMember}
+use Rattle.machine.specs.Words.{up, slotOf, environmentAt}
+use Rattle.machine.specs.Frames.{copyFrame, putFresh}
+use Rattle.machine.specs.Reading.{lineAt}
+use Rattle.machine.specs.Goals.{proceed, takeTrue, takeAnd, rightBranch, takeOr, takeImplies, takeExists, putConstant, takeForall}
+use Rattle.machine.specs.Choices.{saveChoice}
+use Rattle.machine.proofs.Records.{field-same, field-other, puts, puts-at, puts-out, length-puts}
+use Rattle.machine.proofs.Words.{up-small, constant-small}
+use Rattle.machine.proofs.Heap.{Heap, Grow, heap-22, grow-trans, grow-less, grow-put, grow-puts}
+use Rattle.machine.proofs.Tables.{Table, nodes-are}
+use Rattle.machine.proofs.Terms.{FrameAt, constant-at, constant-leaf}
+use Rattle.machine.proofs.Stores.{StoreAt, store-up, store-grow}
+use Rattle.machine.proofs.Branches.{PathAt, path-heap, GoalOf, ProgramAt, program-more, SequentAt, sequent-heap, sequent-up, GoalsAt, goals-heap, goals-up, BranchAt}
+use Rattle.machine.proofs.Configurations.{storeOf, ConfigurationAt}
+use Rattle.machine.proofs.Alternatives.{Bounded, alternatives-up, alternatives-grow, alternatives-wider, SharedAt, shared-grow, StateAt, ResultAt}
+use Rattle.machine.proofs.Onward.{proceed-result}
+use Rattle.machine.proofs.Choosing.{saved, save-is, saved-length, resumed, SavedAt, choice-opened}
+use Rattle.machine.proofs.Frames.{SameFrames, same-trans, same-puts, FrameMade, copy-grow, copy-at, copy-made, made-held, slot-made, made-same, digits, FreshMade, fresh-made}
+
+-- A line in front of the path.
+pub path-pushed : (u : ℕ) (w w′ : List ℕ) (p l k : ℕ) (x : Line Leaf) (ls : List (Line Leaf)) → Heap 22 u w w′ → field w′ u 39 ≡ p → field w′ u 40 ≡ l → lineAt w′ u k ≡ x → PathAt u ls w p l
+    → PathAt (suc u) (x ∷ ls) w′ (suc u) k
+unfolding PathAt
+path-pushed u w w′ p l k x ls h e₀ e₁ i c = (omega arith, i, rw (e₀, e₁) (path-heap u ls w w′ p l h c))
+
+-- Two groups of fields of one record: l₁ from f₁ on, then l₂ from f₂ on, beside it.
+pub first-at : (w : List ℕ) (u : ℕ) (l₁ : List ℕ) (f₁ : ℕ) (l₂ : List ℕ) (f₂ i : ℕ) → f₁ + length l₁ ≤ 64 → f₂ + length l₂ ≤ 64 → 64 * suc u ≤ length w → (f₁ + length l₁ ≤ f₂ ⊎ f₂ + length l₂ ≤ f₁) → i < length l₁
+    → field (puts l₂ (puts l₁ w u f₁) u f₂) u (f₁ + i) ≡ getD l₁ i 0
+first-at w u l₁ f₁ l₂ f₂ i b₁ b₂ room (inl d) h = puts-out l₂ (puts l₁ w u f₁) u f₂ u (f₁ + i) b₂ (omega arith) (inl (omega arith)) ∙ puts-at l₁ w u f₁ i b₁ (omega arith) h
+first-at w u l₁ f₁ l₂ f₂ i b₁ b₂ room (inr d) h = puts-out l₂ (puts l₁ w u f₁) u f₂ u (f₁ + i) b₂ (omega arith) (inr (omega arith)) ∙ puts-at l₁ w u f₁ i b₁ (omega arith) h
+
+pub second-at : (w : List ℕ) (u : ℕ) (l₁ : List ℕ) (f₁ : ℕ) (l₂ : List ℕ) (f₂ i : ℕ) → f₂ + length l₂ ≤ 64 → 64 * suc u ≤ length w → i < length l₂ → field (puts l₂ (puts l₁ w u f₁) u f₂) u (f₂ + i) ≡ getD l₂ i 0
+second-at w u l₁ f₁ l₂ f₂ i b₂ room h = puts-at l₂ (puts l₁ w u f₁) u f₂ i b₂ (let e = length-puts l₁ w u f₁ in omega arith) h
+
+pub two-grow : (w : List ℕ) (u k : ℕ) (l₁ : List ℕ) (f₁ : ℕ) (l₂ : List ℕ) (f₂ : ℕ) → 18 ≤ f₁ → 18 ≤ f₂ → f₁ + length l₁ ≤ 64 → f₂ + length l₂ ≤ 64 → Grow u k w (puts l₂ (puts l₁ w u f₁) u f₂)
+two-grow w u k l₁ f₁ l₂ f₂ a b b₁ b₂ = grow-trans u k w (puts l₁ w u f₁) (puts l₂ (puts l₁ w u f₁) u f₂) (grow-puts l₁ w u k u f₁ (omega arith) a b₁) (grow-puts l₂ (puts l₁ w u f₁) u k u f₂ (omega arith) b b₂)
+
+module _ (T : Table) (w : List ℕ) (r : Registers) (s : Store) (g : Sequent Leaf) (b : Branch) (ds : List Configuration) (room : 64 * suc (r .acts) ≤ length w) (small : r .acts < 50000)
+    (goal : SequentAt T (r .acts) w (r .node) (r .frame) (r .program) (r .level) g) (branch₀ : BranchAt T (r .acts) w (r .goals) (r .path) (r .line) b)
+    (shared : SharedAt T (r .acts) w (r .next) (r .trail) (r .choice) s ds) where
+  abbrev u : ℕ
+  u = r .acts
+
+  abbrev t : List ℕ
+  t = T .numbers
+
+  -- The goal's environment, program and level, one act later; another node in its place.
+  pub goal-later : (w′ : List ℕ) (a : ℕ) → Heap 22 (r .acts) w w′ → GoalOf T a
+      → SequentAt T (suc (r .acts)) w′ a (r .frame) (r .program) (r .level) (sequent (goalAt (T .numbers) a) (g .environment) (g .program) (g .level))
+  goal-later w′ a h n =
+      let c = sequent-up T u w′ (r .node) (r .frame) (r .program) (r .level) g (sequent-heap T u w w′ (r .node) (r .frame) (r .program) (r .level) g h goal) in
+      record { node = n; goal = refl; frame = c .frame; environment = c .environment; program = c .program; level = c .level; low = c .low }
+
+  pub waiting-later : (w′ : List ℕ) → Heap 22 (r .acts) w w′ → GoalsAt T (suc (r .acts)) (b .goals) w′ (r .goals)
+  waiting-later w′ h = goals-up T u (b .goals) w′ (r .goals) (goals-heap T u (b .goals) w w′ (r .goals) h (branch₀ .waiting))
+
+  -- a child that is a goal
+  pub goal-child : (j : ℕ) → (childOf (T .numbers) (r .node) j < r .node) → IsGoal (T .numbers) (childOf (T .numbers) (r .node) j) → GoalOf T (childOf (T .numbers) (r .node) j)
+  goal-child j l i = let n = goal .node .0 in (omega arith, i)
+
+  goal-node : GoalNode (T .numbers) (r .node)
+  goal-node = T .made .goalNode (r .node) (goal .node .0) (goal .node .1)
+
+  -- Y
+  true-held : (w′ : List ℕ) → w′ ≡ puts (r .path ∷ r .line ∷ []) w (r .acts) 39 → ResultAt T (suc (r .acts)) (made w′ (proceed w′ (onPath r (suc (r .acts)) 0))) (level1.proceed s (b .goals) (plain Dtrue ∷ b .path) ++ ds)
+  unfolding onPath lineAt
+  true-held w′ z =
+      let l₁ : List ℕ = r .path ∷ r .line ∷ [] in
+      let gr : Grow u (s .next) w w′ = rw z (grow-puts l₁ w u (s .next) u 39 (omega arith) (omega arith) (omega arith)) in
+      let h = heap-22 u w w′ (gr .heap) in
+      let e : (i : ℕ) → i < 2 → field w′ u (39 + i) ≡ getD l₁ i 0 = λ i k. rw z (puts-at l₁ w u 39 i (omega arith) (omega arith) k) in
+      proceed-result T (suc u) w′ (onPath r (suc u) 0) s (branch (b .goals) (plain Dtrue ∷ b .path)) ds
+      (record { waiting = waiting-later w′ h; taken = path-pushed u w w′ (r .path) (r .line) 0 (plain Dtrue) (b .path) h (e 0 (omega arith)) (e 1 (omega arith)) refl (branch₀ .taken) })
+      (shared-grow T u w w′ (r .next) (r .trail) (r .choice) s ds gr shared)
+
+  pub take-true : kindOf (T .numbers) (r .node) ≡ 3 → ResultAt T (suc (r .acts)) (takeTrue w r) (level1.takeGoal (r .acts) s (g .goal) (g .environment) (g .program) (g .level) b ++ ds)
+  unfolding takeTrue putPath puts level1.takeGoal
+  take-true k = rw (← goal .goal, goal-true t (T .nodes) (nodes-are T) (r .node) (goal .node .0) k, up-small u (omega arith)) (true-held (puts (r .path ∷ r .line ∷ []) w u 39) refl)
+
+  -- &
+  and-held : (w′ : List ℕ) → kindOf (T .numbers) (r .node) ≡ 4 → w′ ≡ puts (childOf (T .numbers) (r .node) 1 ∷ r .frame ∷ r .program ∷ r .level ∷ r .goals ∷ []) (puts (r .path ∷ r .line ∷ []) w (r .acts) 39) (r .acts) 31
+      → ResultAt T (suc (r .acts)) (made w′ (onGoal (onGoals (onPath r (suc (r .acts)) 1) (suc (r .acts))) (childOf (T .numbers) (r .node) 0) (r .frame) (r .program) (r .level)))
+      (take s (sequent (goalAt (T .numbers) (childOf (T .numbers) (r .node) 0)) (g .environment) (g .program) (g .level))
+      (branch (sequent (goalAt (T .numbers) (childOf (T .numbers) (r .node) 1)) (g .environment) (g .program) (g .level) ∷ b .goals) (plain Dand ∷ b .path)) ∷ ds)
+  unfolding onPath onGoal onGoals lineAt ResultAt ConfigurationAt storeOf GoalsAt
+  and-held w′ k z =
+      let l₁ : List ℕ = r .path ∷ r .line ∷ [] in
+      let l₂ : List ℕ = childOf t (r .node) 1 ∷ r .frame ∷ r .program ∷ r .level ∷ r .goals ∷ [] in
+      let gr : Grow u (s .next) w w′ = rw z (two-grow w u (s .next) l₁ 39 l₂ 31 (omega arith) (omega arith) (omega arith) (omega arith)) in
+      let h = heap-22 u w w′ (gr .heap) in
+      let e : (i : ℕ) → i < 2 → field w′ u (39 + i) ≡ getD l₁ i 0 = λ i m. rw z (first-at w u l₁ 39 l₂ 31 i (omega arith) (omega arith) room (inr (omega arith)) m) in
+      let f : (i : ℕ) → i < 5 → field w′ u (31 + i) ≡ getD l₂ i 0 = λ i m. rw z (second-at w u l₁ 39 l₂ 31 i (omega arith) room m) in
+      let a = goal-node .and k in
+      let right = goal-later w′ (childOf t (r .node) 1) h (goal-child 1 (a .2) (a .3)) in
+      record {
+        front = (
+          refl,
+          goal-later w′ (childOf t (r .node) 0) h (goal-child 0 (a .0) (a .1)),
+          record {
+            waiting = rw (f 0 (omega arith), f 1 (omega arith), f 2 (omega arith), f 3 (omega arith), f 4 (omega arith)) (omega arith, right, waiting-later w′ h);
+            taken = path-pushed u w w′ (r .path) (r .line) 1 (plain Dand) (b .path) h (e 0 (omega arith)) (e 1 (omega arith)) refl (branch₀ .taken);
+          },
+        );
+        shared = shared-grow T u w w′ (r .next) (r .trail) (r .choice) s ds gr shared;
+      }
+
+  pub take-and : kindOf (T .numbers) (r .node) ≡ 4 → ResultAt T (suc (r .acts)) (takeAnd (T .numbers) w r) (level1.takeGoal (r .acts) s (g .goal) (g .environment) (g .program) (g .level) b ++ ds)
+  unfolding takeAnd putPath putGoal puts level1.takeGoal
+  take-and k = rw (← goal .goal, goal-and t (T .nodes) (nodes-are T) (r .node) (goal .node .0) (goal .node .1) k, up-small u (omega arith)) (and-held _ k refl)
+
+  -- >
+  implies-held : (w′ : List ℕ) → kindOf (T .numbers) (r .node) ≡ 6 → w′ ≡ puts (childOf (T .numbers) (r .node) 0 ∷ r .frame ∷ r .program ∷ []) (puts (r .path ∷ r .line ∷ []) w (r .acts) 39) (r .acts) 36
+      → ResultAt T (suc (r .acts)) (made w′ (onGoal (onPath r (suc (r .acts)) 4) (childOf (T .numbers) (r .node) 1) (r .frame) (suc (r .acts)) (r .level)))
+      (take s (sequent (goalAt (T .numbers) (childOf (T .numbers) (r .node) 1)) (g .environment) (hypothesis (clauseAtNode (T .numbers) (childOf (T .numbers) (r .node) 0)) (g .environment) ∷ g .program) (g .level))
+      (branch (b .goals) (plain Dassume ∷ b .path)) ∷ ds)
+  unfolding onPath onGoal lineAt ResultAt ConfigurationAt storeOf
+  implies-held w′ k z =
+      let l₁ : List ℕ = r .path ∷ r .line ∷ [] in
+      let l₂ : List ℕ = childOf t (r .node) 0 ∷ r .frame ∷ r .program ∷ [] in
+      let gr : Grow u (s .next) w w′ = rw z (two-grow w u (s .next) l₁ 39 l₂ 36 (omega arith) (omega arith) (omega arith) (omega arith)) in
+      let h = heap-22 u w w′ (gr .heap) in
+      let e : (i : ℕ) → i < 2 → field w′ u (39 + i) ≡ getD l₁ i 0 = λ i m. rw z (first-at w u l₁ 39 l₂ 36 i (omega arith) (omega arith) room (inr (omega arith)) m) in
+      let f : (i : ℕ) → i < 3 → field w′ u (36 + i) ≡ getD l₂ i 0 = λ i m. rw z (second-at w u l₁ 39 l₂ 36 i (omega arith) room m) in
+      let f₀ : field w′ u 36 ≡ childOf t (r .node) 0 = f 0 (omega arith) in
+      let f₁ : field w′ u 37 ≡ r .frame = f 1 (omega arith) in
+      let f₂ : field w′ u 38 ≡ r .program = f 2 (omega arith) in
+      let a = goal-node .implies k in
+      let n = goal .node .0 in
+      let la = a .0 in
+      let c = goal-later w′ (childOf t (r .node) 1) h (goal-child 1 (a .2) (a .3)) in
+      record {
+        front = (
+          refl,
+          record {
+            node = c .node;
+            goal = refl;
+            frame = c .frame;
+            environment = c .environment;
+            program = program-more u (omega arith) (rw f₀ (omega arith, a .1)) (rw f₁ (c .frame)) (ap (clauseAtNode t) f₀) (ap (environmentAt w′) f₁ ∙ c .environment) (subst (λ (x : ℕ). ProgramAt T (suc u) w′ x (g .program)) (sym f₂) (c .program));
+            level = c .level;
+            low = c .low;
+          },
+          record {
+            waiting = waiting-later w′ h;
+            taken = path-pushed u w w′ (r .path) (r .line) 4 (plain Dassume) (b .path) h (e 0 (omega arith)) (e 1 (omega arith)) refl (branch₀ .taken);
+          },
+        );
+        shared = shared-grow T u w w′ (r .next) (r .trail) (r .choice) s ds gr shared;
+      }
+
+  pub take-implies : kindOf (T .numbers) (r .node) ≡ 6 → ResultAt T (suc (r .acts)) (takeImplies (T .numbers) w r) (level1.takeGoal (r .acts) s (g .goal) (g .environment) (g .program) (g .level) b ++ ds)
+  unfolding takeImplies putPath putAssumption puts level1.takeGoal
+  take-implies k = rw (← goal .goal, goal-implies t (T .nodes) (nodes-are T) (r .node) (goal .node .0) (goal .node .1) k, up-small u (omega arith)) (implies-held _ k refl)
+
+  -- |
+  right : Registers
+  unfolding onPath onGoal onMember
+  right = onMember (onGoal (onPath r (suc (r .acts)) 3) (childOf (T .numbers) (r .node) 1) (r .frame) (r .program) (r .level)) 0 0 0 0
+
+  right-is : right ≡ rightBranch (T .numbers) r
+  unfolding right rightBranch
+  right-is = rw (up-small u (omega arith))
+
+  or-held : (w′ : List ℕ) → kindOf (T .numbers) (r .node) ≡ 5 → w′ ≡ puts (saved right) (puts (r .path ∷ r .line ∷ []) w (r .acts) 39) (r .acts) 43
+      → ResultAt T (suc (r .acts)) (made w′ (onGoal (onChoice (onPath r (suc (r .acts)) 2) (suc (r .acts))) (childOf (T .numbers) (r .node) 0) (r .frame) (r .program) (r .level)))
+      (take s (sequent (goalAt (T .numbers) (childOf (T .numbers) (r .node) 0)) (g .environment) (g .program) (g .level)) (branch (b .goals) (plain Dleft ∷ b .path))
+      ∷ take s (sequent (goalAt (T .numbers) (childOf (T .numbers) (r .node) 1)) (g .environment) (g .program) (g .level)) (branch (b .goals) (plain Dright ∷ b .path)) ∷ ds)
+  unfolding onPath onGoal onChoice onMember right resumed onMode onNext onTrail onGoals lineAt ResultAt ConfigurationAt storeOf
+  or-held w′ k z =
+      let l₁ : List ℕ = r .path ∷ r .line ∷ [] in
+      let l₂ : List ℕ = saved right in
+      let n₂ = saved-length right in
+      let gr : Grow u (s .next) w w′ = rw z (two-grow w u (s .next) l₁ 39 l₂ 43 (omega arith) (omega arith) (omega arith) (omega arith)) in
+      let h = heap-22 u w w′ (gr .heap) in
+      let e : (i : ℕ) → i < 2 → field w′ u (39 + i) ≡ getD l₁ i 0 = λ i m. rw z (first-at w u l₁ 39 l₂ 43 i (omega arith) (omega arith) room (inl (omega arith)) m) in
+      let f : SavedAt w′ u right = λ i m. rw z (second-at w u l₁ 39 l₂ 43 i (omega arith) room (omega arith)) in
+      let a = goal-node .or k in
+      let sh = shared-grow T u w w′ (r .next) (r .trail) (r .choice) s ds gr shared in
+      record {
+        front = (
+          refl,
+          goal-later w′ (childOf t (r .node) 0) h (goal-child 0 (a .0) (a .1)),
+          record {
+            waiting = waiting-later w′ h;
+            taken = path-pushed u w w′ (r .path) (r .line) 2 (plain Dleft) (b .path) h (e 0 (omega arith)) (e 1 (omega arith)) refl (branch₀ .taken);
+          },
+        );
+        shared = record {
+          store = sh .store;
+          bounded = sh .bounded;
+          next = sh .next;
+          trail = sh .trail;
+          alternatives = choice-opened T (suc u) w′ u (s .next) right (take s (sequent (goalAt t (childOf t (r .node) 1)) (g .environment) (g .program) (g .level)) (branch (b .goals) (plain Dright ∷ b .path))) ds (omega arith) f
+              (λ r₀. (
+                refl,
+                goal-later w′ (childOf t (r .node) 1) h (goal-child 1 (a .2) (a .3)),
+                record {
+                  waiting = waiting-later w′ h;
+                  taken = path-pushed u w w′ (r .path) (r .line) 3 (plain Dright) (b .path) h (e 0 (omega arith)) (e 1 (omega arith)) refl (branch₀ .taken);
+                },
+              )) (sh .next) (omega arith) (sh .bounded) (sh .store) (sh .alternatives);
+        };
+      }
+
+  pub take-or : kindOf (T .numbers) (r .node) ≡ 5 → ResultAt T (suc (r .acts)) (takeOr (T .numbers) w r) (level1.takeGoal (r .acts) s (g .goal) (g .environment) (g .program) (g .level) b ++ ds)
+  unfolding takeOr putPath puts level1.takeGoal
+  take-or k =
+      rw (← goal .goal, goal-or t (T .nodes) (nodes-are T) (r .node) (goal .node .0) (goal .node .1) k, up-small u (omega arith))
+      (or-held _ k (path-saved))
+    where
+      path-saved : saveChoice (putPath w (r .acts) (r .path) (r .line)) (r .acts) (rightBranch (T .numbers) r) ≡ puts (saved right) (puts (r .path ∷ r .line ∷ []) w (r .acts) 39) (r .acts) 43
+      path-saved = save-is (putPath w u (r .path) (r .line)) u (rightBranch t r) ∙ ap (λ (q : Registers). puts (saved q) (putPath w u (r .path) (r .line)) u 43) (sym right-is)
+
+  -- E
+  exists-held : (w₁ w₂ w′ : List ℕ) → Formed s → kindOf (T .numbers) (r .node) ≡ 7 → w₁ ≡ copyFrame 8 w (r .acts) (r .frame) 0 → w₂ ≡ putFresh 1 w₁ (r .acts) (labelOf (T .numbers) (r .node)) (s .next) (r .level)
+      → w′ ≡ puts (s .next ∷ []) (puts (r .path ∷ r .line ∷ []) w₂ (r .acts) 39) (r .acts) 43
+      → ResultAt T (suc (r .acts)) (made w′ (onGoal (onNext (onPath r (suc (r .acts)) 5) (suc (s .next))) (childOf (T .numbers) (r .node) 0) (suc (r .acts)) (r .program) (r .level)))
+      (take (fresh (labelOf (T .numbers) (r .node) ∷ []) (g .level) s)
+      (sequent (goalAt (T .numbers) (childOf (T .numbers) (r .node) 0)) (update (g .environment) (labelOf (T .numbers) (r .node)) (leaf (var (s .next)))) (g .program) (g .level))
+      (branch (b .goals) (Dsome (leaf (var (s .next))) ∷ b .path)) ∷ ds)
+  unfolding onPath onGoal onNext lineAt ResultAt ConfigurationAt storeOf fresh freshLevels past assign freshVariables digits
+  exists-held w₁ w₂ w′ fm k z₁ z₂ z =
+      let x = s .next in
+      let v = labelOf t (r .node) in
+      let a = goal-node .exists k in
+      let lv = a .0 in
+      let gr₁ : Grow u x w w₁ = rw z₁ (copy-grow u (r .frame) 8 w 0 x (omega arith)) in
+      let n₁ = gr₁ .heap .len in
+      let M₁ : FrameMade w₁ u (environmentAt w (r .frame)) = rw z₁ (copy-made w u (r .frame) room (goal .frame)) in
+      let st₁ = store-grow T u x w w₁ s gr₁ (omega arith) (shared .store) in
+      let d : v % 8 ≡ v = omega arith in
+      let F₀ = fresh-made 1 T w₁ u v (r .level) s (environmentAt w (r .frame)) fm (omega arith) small (one-there (shared .bounded)) st₁ M₁ in
+      let F : FreshMade T w₁ w₂ u s (fresh (v ∷ []) (g .level) s) (update (g .environment) v (leaf (var x))) =
+      rw (z₂, ← goal .level, ← goal .environment) (subst (λ (j : ℕ). FreshMade T w₁ (putFresh 1 w₁ u v x (r .level)) u s (fresh (j ∷ []) (r .level) s) (update (environmentAt w (r .frame)) j (leaf (var x)))) d F₀) in
+      let l₁ : List ℕ = r .path ∷ r .line ∷ [] in
+      let l₂ : List ℕ = x ∷ [] in
+      let n₂ = F .grow .heap .len in
+      let gr₃ : (j : ℕ) → Grow u j w₂ w′ = λ j. rw z (two-grow w₂ u j l₁ 39 l₂ 43 (omega arith) (omega arith) (omega arith) (omega arith)) in
+      let gr : Grow u x w w′ = grow-trans u x w w₁ w′ gr₁ (grow-trans u x w₁ w₂ w′ (F .grow) (gr₃ x)) in
+      let h = heap-22 u w w′ (gr .heap) in
+      let room₂ : 64 * suc u ≤ length w₂ = omega arith in
+      let e : (i : ℕ) → i < 2 → field w′ u (39 + i) ≡ getD l₁ i 0 = λ i m. rw z (first-at w₂ u l₁ 39 l₂ 43 i (omega arith) (omega arith) room₂ (inl (omega arith)) m) in
+      let f : field w′ u 43 ≡ x = rw z (second-at w₂ u l₁ 39 l₂ 43 0 (omega arith) room₂ (omega arith)) in
+      let same : SameFrames w₂ w′ = rw z (same-trans w₂ (puts l₁ w₂ u 39) (puts l₂ (puts l₁ w₂ u 39) u 43) (same-puts l₁ w₂ u 39 (omega arith) (omega arith)) (same-puts l₂ (puts l₁ w₂ u 39) u 43 (omega arith) (omega arith))) in
+      let M = made-same w₂ w′ u (update (g .environment) v (leaf (var x))) same (F .frame) in
+      let c = goal-later w′ (childOf t (r .node) 0) h (goal-child 0 (a .1) (a .2)) in
+      let sh = shared-grow T u w w′ (r .next) (r .trail) (r .choice) s ds gr shared in
+      record {
+        front = (
+          refl,
+          record { node = c .node; goal = refl; frame = M .frame; environment = M .environment; program = c .program; level = c .level; low = c .low },
+          record {
+            waiting = waiting-later w′ h;
+            taken = path-pushed u w w′ (r .path) (r .line) 5 (Dsome (leaf (var x))) (b .path) h (e 0 (omega arith)) (e 1 (omega arith)) (ap (λ (j : ℕ). Dsome (leaf (var j))) f) (branch₀ .taken);
+          },
+        );
+        shared = record {
+          store = store-up T u w′ (fresh (v ∷ []) (g .level) s) (store-grow T u (suc x) w₂ w′ (fresh (v ∷ []) (g .level) s) (gr₃ (suc x)) (omega arith) (F .store));
+          bounded = one-more (shared .bounded);
+          next = refl;
+          trail = sh .trail;
+          alternatives = alternatives-wider T (suc u) (suc x) (omega arith) (sh .alternatives);
+        };
+      }
+    where
+      one-there : Bounded (r .acts) s → s .next + 1 ≤ 9 * suc (r .acts)
+      one-there bd = go (r .acts) (bd .variables) (bd .later)
+        where
+          go : (n : ℕ) → s .next ≤ 8 * n + 8 → (1 ≤ n → s .next ≤ 8 * n + 1) → s .next + 1 ≤ 9 * suc n
+          go zero p q = omega arith
+          go (suc n) p q = let j = q (omega arith) in omega arith
+
+      one-more : Bounded (r .acts) s → Bounded (suc (r .acts)) (fresh (labelOf (T .numbers) (r .node) ∷ []) (g .level) s)
+      one-more bd = let y = bd .bindings in let v = bd .variables in record { bindings = omega arith; variables = omega arith; later = λ q. go (r .acts) (bd .variables) (bd .later) }
+        where
+          go : (n : ℕ) → s .next ≤ 8 * n + 8 → (1 ≤ n → s .next ≤ 8 * n + 1) → suc (s .next) ≤ 8 * suc n + 1
+          go zero p q = omega arith
+          go (suc n) p q = let j = q (omega arith) in omega arith
+
+  pub take-exists : Formed s → kindOf (T .numbers) (r .node) ≡ 7 → ResultAt T (suc (r .acts)) (takeExists (T .numbers) w r) (level1.takeGoal (r .acts) s (g .goal) (g .environment) (g .program) (g .level) b ++ ds)
+  unfolding takeExists putPath puts level1.takeGoal onPath onNext
+  take-exists fm k =
+      rw (← goal .goal, goal-exists t (T .nodes) (nodes-are T) (r .node) (goal .node .0) (goal .node .1) k, up-small u (omega arith), shared .next, up-small (s .next) (let v = shared .bounded .variables in omega arith))
+      (exists-held _ _ _ fm k refl refl refl)
+
+  -- U
+  forall-held : (w₁ w₂ w₃ w′ : List ℕ) → kindOf (T .numbers) (r .node) ≡ 8 → w₁ ≡ copyFrame 8 w (r .acts) (r .frame) 0 → w₂ ≡ put w₁ (r .acts) 22 (suc (r .level)) → w₃ ≡ put w₂ (r .acts) (23 + labelOf (T .numbers) (r .node)) (4 * r .acts + 2)
+      → w′ ≡ puts (r .path ∷ r .line ∷ []) w₃ (r .acts) 39
+      → ResultAt T (suc (r .acts)) (made w′ (onGoal (onPath r (suc (r .acts)) 6) (childOf (T .numbers) (r .node) 0) (suc (r .acts)) (r .program) (suc (r .level))))
+      (take s (sequent (goalAt (T .numbers) (childOf (T .numbers) (r .node) 0)) (update (g .environment) (labelOf (T .numbers) (r .node)) (leaf (con (r .acts) (suc (g .level))))) (g .program) (suc (g .level)))
+      (branch (b .goals) (Dall (leaf (con (r .acts) (suc (g .level)))) ∷ b .path)) ∷ ds)
+  unfolding onPath onGoal lineAt ResultAt ConfigurationAt storeOf
+  forall-held w₁ w₂ w₃ w′ k z₁ z₂ z₃ z =
+      let x = s .next in
+      let v = labelOf t (r .node) in
+      let a = goal-node .forall k in
+      let lv = a .0 in
+      let gr₁ : Grow u x w w₁ = rw z₁ (copy-grow u (r .frame) 8 w 0 x (omega arith)) in
+      let n₁ = gr₁ .heap .len in
+      let gr₂ : Grow u x w₁ w₂ = rw z₂ (grow-put u x w₁ u 22 (suc (r .level)) (omega arith) (omega arith) (omega arith)) in
+      let n₂ = gr₂ .heap .len in
+      let gr₃ : Grow u x w₂ w₃ = rw z₃ (grow-put u x w₂ u (23 + v) (4 * u + 2) (omega arith) (omega arith) (omega arith)) in
+      let n₃ = gr₃ .heap .len in
+      let l₁ : List ℕ = r .path ∷ r .line ∷ [] in
+      let gr₄ : Grow u x w₃ w′ = rw z (grow-puts l₁ w₃ u x u 39 (omega arith) (omega arith) (omega arith)) in
+      let gr₁₂ : Grow u x w w₂ = grow-trans u x w w₁ w₂ gr₁ gr₂ in
+      let gr : Grow u x w w′ = grow-trans u x w w₂ w′ gr₁₂ (grow-trans u x w₂ w₃ w′ gr₃ gr₄) in
+      let h = heap-22 u w w′ (gr .heap) in
+      let slots : (i : ℕ) → i < 8 → field w₂ u (23 + i) ≡ slotOf w (r .frame) i = λ i m.
+      rw z₂ (field-other w₁ u 22 u (23 + i) (suc (r .level)) (omega arith) (omega arith) (λ q. omega arith) ∙ rw z₁ (copy-at u (r .frame) 8 w 0 i room (goal .frame) (omega arith) (omega arith) (omega arith))) in
+      let M₂ : FrameMade w₂ u (environmentAt w (r .frame)) = made-held w w₂ u (r .frame) (heap-22 u w w₂ (gr₁₂ .heap)) (goal .frame) slots in
+      let c₂ : field w₂ u 22 ≡ suc (r .level) = rw z₂ (field-same w₁ u 22 (suc (r .level)) (omega arith)) in
+      let M₃ : FrameMade w₃ u (update (environmentAt w (r .frame)) v (leaf (con u (suc (r .level))))) = rw z₃ (slot-made w₂ u v (4 * u + 2) (environmentAt w (r .frame)) (con u (suc (r .level))) (omega arith) lv (constant-at u refl (omega arith)) (constant-leaf w₂ u ∙ ap (con u) c₂) M₂) in
+      let M₄ : FrameMade w₃ u (update (g .environment) v (leaf (con u (suc (g .level))))) = rw (← goal .environment, ← goal .level) M₃ in
+      let same : SameFrames w₃ w′ = rw z (same-puts l₁ w₃ u 39 (omega arith) (omega arith)) in
+      let M = made-same w₃ w′ u (update (g .environment) v (leaf (con u (suc (g .level))))) same M₄ in
+      let e : (i : ℕ) → i < 2 → field w′ u (39 + i) ≡ getD l₁ i 0 = λ i m. rw z (puts-at l₁ w₃ u 39 i (omega arith) (omega arith) m) in
+      let c : field w′ u 22 ≡ suc (g .level) = same u 22 (omega arith) (omega arith) ∙ rw z₃ (field-other w₂ u (23 + v) u 22 (4 * u + 2) (omega arith) (omega arith) (λ q. omega arith)) ∙ c₂ ∙ ap suc (goal .level) in
+      let d = goal-later w′ (childOf t (r .node) 0) h (goal-child 0 (a .1) (a .2)) in
+      record {
+        front = (
+          refl,
+          record { node = d .node; goal = refl; frame = M .frame; environment = M .environment; program = d .program; level = ap suc (goal .level); low = let l = goal .low in omega arith },
+          record {
+            waiting = waiting-later w′ h;
+            taken = path-pushed u w w′ (r .path) (r .line) 6 (Dall (leaf (con u (suc (g .level))))) (b .path) h (e 0 (omega arith)) (e 1 (omega arith)) (ap (λ (j : ℕ). Dall (leaf (con u j))) c) (branch₀ .taken);
+          },
+        );
+        shared = shared-grow T u w w′ (r .next) (r .trail) (r .choice) s ds gr shared;
+      }
+
+  pub take-forall : kindOf (T .numbers) (r .node) ≡ 8 → ResultAt T (suc (r .acts)) (takeForall (T .numbers) w r) (level1.takeGoal (r .acts) s (g .goal) (g .environment) (g .program) (g .level) b ++ ds)
+  unfolding takeForall putConstant putPath puts level1.takeGoal
+  take-forall k =
+      rw (← goal .goal, goal-forall t (T .nodes) (nodes-are T) (r .node) (goal .node .0) (goal .node .1) k, up-small u (omega arith), up-small (r .level) (let l = goal .low in omega arith), constant-small u (omega arith))
+      (forall-held _ _ _ _ k refl refl refl refl)

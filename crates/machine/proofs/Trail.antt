@@ -1,0 +1,251 @@
+-- The trail: undoing what was noted gives back all that was readable.
+use Prim.Native.Nat.{ℕ, zero, suc, _+_, _-_, _*_, _/_, _%_, _≤_, _<_}
+use native.Mathlib.Omega.{arith}
+use mathlib.Core.Bool.{Bool, true, false, cond}
+use mathlib.Core.Path.{_≡_, refl, sym, ap, _∙_}
+use mathlib.Core.List.{List, [], _∷_}
+use lib.Dec.{eqb}
+use lib.ListN.{length, getD}
+use borrow.Author.Tests.{eqb-true, eqb-false, eq-eqb, ne-eqb}
+use Rattle.terms.specs.Lists.{All}
+use Rattle.machine.specs.Records.{field, put, cellOf, levelOf, putCell, putLevel, putEntry}
+use Rattle.machine.specs.Words.{nameOf}
+use Rattle.machine.specs.Trail.{lowerTo, bindTo, oldLevel, effect, undoEntry, undo}
+use Rattle.machine.proofs.Records.{length-put, field-same, field-other, field-agree, There, cell-same, level-same, cell-put, level-put, level-cell, cell-other, cell-level, level-other, puts, puts-at}
+use Rattle.machine.proofs.Heap.{Heap, Grow, heap-refl, heap-trans, heap-put, heap-low, heap-22, heap-cell, heap-level, heap-both, grow-refl, grow-puts}
+
+-- The writes by a variable's word: what they leave as it was.
+pub heap-lowerTo : (n : ℕ) (w : List ℕ) (a k : ℕ) → Heap 18 n w (lowerTo w a k)
+unfolding lowerTo
+heap-lowerTo n w a k = go (eqb a 0)
+  where
+    go : (b : Bool) → Heap 18 n w (cond b w (putLevel w (nameOf a) k))
+    go true = heap-refl 18 n w
+    go false = heap-level n w (nameOf a) k
+
+pub heap-bindTo : (n : ℕ) (w : List ℕ) (a v : ℕ) → Heap 18 n w (bindTo w a v)
+unfolding bindTo
+heap-bindTo n w a v = go (eqb a 0)
+  where
+    go : (b : Bool) → Heap 18 n w (cond b w (putCell w (nameOf a) v))
+    go true = heap-refl 18 n w
+    go false = heap-cell n w (nameOf a) v
+
+pub cell-lowerTo : (w : List ℕ) (a k x : ℕ) → cellOf (lowerTo w a k) x ≡ cellOf w x
+unfolding lowerTo
+cell-lowerTo w a k x = go (eqb a 0)
+  where
+    go : (b : Bool) → cellOf (cond b w (putLevel w (nameOf a) k)) x ≡ cellOf w x
+    go true = refl
+    go false = cell-level w (nameOf a) k x
+
+pub level-bindTo : (w : List ℕ) (a v x : ℕ) → levelOf (bindTo w a v) x ≡ levelOf w x
+unfolding bindTo
+level-bindTo w a v x = go (eqb a 0)
+  where
+    go : (b : Bool) → levelOf (cond b w (putCell w (nameOf a) v)) x ≡ levelOf w x
+    go true = refl
+    go false = level-cell w (nameOf a) v x
+
+-- The same write to two memories keeps their order.
+grow-lowerTo : (n k a i : ℕ) (w w′ : List ℕ) → Grow n k w w′ → Grow n k (lowerTo w a i) (lowerTo w′ a i)
+unfolding lowerTo putLevel levelOf
+grow-lowerTo n k a i w w′ g = go (eqb a 0)
+  where
+    x : ℕ
+    x = nameOf a
+
+    go : (b : Bool) → Grow n k (cond b w (putLevel w x i)) (cond b w′ (putLevel w′ x i))
+    go true = g
+    go false = record {
+      heap = heap-both n w w′ (putLevel w x i) (putLevel w′ x i) (g .heap) (heap-level n w x i) (heap-level n w′ x i);
+      cells = λ y h. cell-level w′ x i y ∙ g .cells y h ∙ sym (cell-level w x i y);
+      levels = λ y h. field-agree w w′ (x / 9) (9 + x % 9) i (y / 9) (9 + y % 9) (g .heap .len) (g .levels y h);
+    }
+
+grow-bindTo : (n k a v : ℕ) (w w′ : List ℕ) → Grow n k w w′ → Grow n k (bindTo w a v) (bindTo w′ a v)
+unfolding bindTo putCell cellOf
+grow-bindTo n k a v w w′ g = go (eqb a 0)
+  where
+    x : ℕ
+    x = nameOf a
+
+    go : (b : Bool) → Grow n k (cond b w (putCell w x v)) (cond b w′ (putCell w′ x v))
+    go true = g
+    go false = record {
+      heap = heap-both n w w′ (putCell w x v) (putCell w′ x v) (g .heap) (heap-cell n w x v) (heap-cell n w′ x v);
+      cells = λ y h. field-agree w w′ (x / 9) (x % 9) v (y / 9) (y % 9) (g .heap .len) (g .cells y h);
+      levels = λ y h. level-cell w′ x v y ∙ g .levels y h ∙ sym (level-cell w x v y);
+    }
+
+-- Undoing entries, latest first.
+unfoldable pub undoAll : List ℕ → List ℕ → List ℕ
+undoAll [] w = w
+undoAll (r ∷ rs) w = undoAll rs (undoEntry w r)
+
+heap-undoEntry : (n : ℕ) (w : List ℕ) (r : ℕ) → Heap 18 n w (undoEntry w r)
+unfolding undoEntry
+heap-undoEntry n w r =
+    heap-trans 18 n w (bindTo w (field w r 20) 0) (undoEntry w r) (heap-bindTo n w (field w r 20) 0) (heap-lowerTo n (bindTo w (field w r 20) 0) (field w r 18) (field w r 19))
+
+pub heap-undoAll : (n : ℕ) (rs : List ℕ) (w : List ℕ) → Heap 18 n w (undoAll rs w)
+unfolding undoAll
+heap-undoAll n [] w = heap-refl 18 n w
+heap-undoAll n (r ∷ rs) w = heap-trans 18 n w (undoEntry w r) (undoAll rs (undoEntry w r)) (heap-undoEntry n w r) (heap-undoAll n rs (undoEntry w r))
+
+grow-undoEntry : (n k r : ℕ) (w w′ : List ℕ) → r < n → Grow n k w w′ → Grow n k (undoEntry w r) (undoEntry w′ r)
+unfolding undoEntry
+grow-undoEntry n k r w w′ l g =
+    let h = g .heap in
+    rw (h .old r 18 l (omega arith) (omega arith), h .old r 19 l (omega arith) (omega arith), h .old r 20 l (omega arith) (omega arith))
+    (grow-lowerTo n k (field w r 18) (field w r 19) (bindTo w (field w r 20) 0) (bindTo w′ (field w r 20) 0) (grow-bindTo n k (field w r 20) 0 w w′ g))
+
+-- two memories in order, the entries of records that both have undone
+pub grow-undoAll : (n k : ℕ) (rs : List ℕ) (w w′ : List ℕ) → All (λ r. r < n) rs → Grow n k w w′ → Grow n k (undoAll rs w) (undoAll rs w′)
+unfolding undoAll
+grow-undoAll n k [] w w′ l g = g
+grow-undoAll n k (r ∷ rs) w w′ l g = grow-undoAll n k rs (undoEntry w r) (undoEntry w′ r) (l .1) (grow-undoEntry n k r w w′ (l .0) g)
+
+-- An entry
+
+entry-is : (w : List ℕ) (u z k y h : ℕ) → putEntry w u z k y h ≡ puts (z ∷ k ∷ y ∷ h ∷ []) w u 18
+unfolding putEntry puts
+entry-is w u z k y h = refl
+
+pub grow-entry : (n k : ℕ) (w : List ℕ) (u z i y h : ℕ) → n ≤ u → Grow n k w (putEntry w u z i y h)
+grow-entry n k w u z i y h l = rw (entry-is w u z i y h) (grow-puts (z ∷ i ∷ y ∷ h ∷ []) w n k u 18 l (omega arith) (omega arith))
+
+-- its four fields
+entry-at : (w : List ℕ) (u z k y h i : ℕ) → 64 * u + 63 < length w → i < 4 → field (putEntry w u z k y h) u (18 + i) ≡ getD (z ∷ k ∷ y ∷ h ∷ []) i 0
+entry-at w u z k y h i l b = rw (entry-is w u z k y h) (puts-at (z ∷ k ∷ y ∷ h ∷ []) w u 18 i (omega arith) l b)
+
+-- it lies below all that is read back as data, in its own record too
+heap-entry : (n : ℕ) (w : List ℕ) (u z k y h : ℕ) → Heap 22 n w (putEntry w u z k y h)
+unfolding putEntry
+heap-entry n w u z k y h =
+    let a = put w u 18 z in
+    let b = put a u 19 k in
+    let c = put b u 20 y in
+    let d = put c u 21 h in
+    heap-trans 22 n w a d (heap-low 22 n w u 18 z (omega arith) (omega arith))
+    (heap-trans 22 n a b d (heap-low 22 n a u 19 k (omega arith) (omega arith)) (heap-trans 22 n b c d (heap-low 22 n b u 20 y (omega arith) (omega arith)) (heap-low 22 n c u 21 h (omega arith) (omega arith))))
+
+-- The word of a variable whose place is in memory, or 0; one that is unbound besides.
+abbrev pub LowerAt : ℕ → List ℕ → Type 0
+LowerAt a w = eqb a 0 ≡ false → There (nameOf a) w
+
+abbrev pub FreeAt : ℕ → List ℕ → Type 0
+FreeAt a w = eqb a 0 ≡ false → (cellOf w (nameOf a) ≡ 0) × There (nameOf a) w
+
+cell-back : (y a x : ℕ) (w v : List ℕ) → FreeAt y w → length v ≡ length w → ((x : ℕ) → cellOf v x ≡ cellOf (bindTo w y a) x) → cellOf (bindTo v y 0) x ≡ cellOf w x
+unfolding bindTo
+cell-back y a x w v f e h = go (eqb y 0) f h (eqb x (nameOf y)) refl
+  where
+    z : ℕ
+    z = nameOf y
+
+    go : (b : Bool) → (b ≡ false → (cellOf w z ≡ 0) × There z w) → ((x : ℕ) → cellOf v x ≡ cellOf (cond b w (putCell w z a)) x) → (c : Bool) → eqb x z ≡ c
+        → cellOf (cond b v (putCell v z 0)) x ≡ cellOf w x
+    go true f h c q = h x
+    go false f h true q = let l = f refl .1 in rw (eqb-true x z q, cell-same v z 0 (omega arith)) (sym (f refl .0))
+    go false f h false q = let n = eqb-false x z q in cell-other v z 0 x n ∙ h x ∙ cell-other w z a x n
+
+level-back : (z i x : ℕ) (w v : List ℕ) → LowerAt z w → length v ≡ length w → ((x : ℕ) → levelOf v x ≡ levelOf (lowerTo w z i) x) → levelOf (lowerTo v z (oldLevel w z)) x ≡ levelOf w x
+unfolding lowerTo oldLevel
+level-back z i x w v f e h = go (eqb z 0) f h (eqb x (nameOf z)) refl
+  where
+    y : ℕ
+    y = nameOf z
+
+    go : (b : Bool) → (b ≡ false → There y w) → ((x : ℕ) → levelOf v x ≡ levelOf (cond b w (putLevel w y i)) x) → (c : Bool) → eqb x y ≡ c
+        → levelOf (cond b v (putLevel v y (cond b 0 (levelOf w y)))) x ≡ levelOf w x
+    go true f h c q = h x
+    go false f h true q = let l = f refl in rw (eqb-true x y q) (level-same v y (levelOf w y) (omega arith))
+    go false f h false q = let n = eqb-false x y q in level-other v y (levelOf w y) x n ∙ h x ∙ level-other w y i x n
+
+-- An act that lowers and binds
+
+pub heap-effect : (n : ℕ) (w : List ℕ) (u z i y a h : ℕ) → n ≤ u → Heap 18 n w (effect w u z i y a h)
+unfolding effect
+heap-effect n w u z i y a h l =
+    let w₁ = lowerTo w z i in
+    let w₂ = bindTo w₁ y a in
+    heap-trans 18 n w w₁ (effect w u z i y a h) (heap-lowerTo n w z i)
+    (heap-trans 18 n w₁ w₂ (effect w u z i y a h) (heap-bindTo n w₁ y a) (grow-entry n 0 w₂ u z (oldLevel w z) y h l .heap))
+
+-- what is read back as data stays in every record
+pub heap-effect-22 : (n : ℕ) (w : List ℕ) (u z i y a h : ℕ) → Heap 22 n w (effect w u z i y a h)
+unfolding effect
+heap-effect-22 n w u z i y a h =
+    let w₁ = lowerTo w z i in
+    let w₂ = bindTo w₁ y a in
+    heap-trans 22 n w w₁ (effect w u z i y a h) (heap-22 n w w₁ (heap-lowerTo n w z i))
+    (heap-trans 22 n w₁ w₂ (effect w u z i y a h) (heap-22 n w₁ w₂ (heap-bindTo n w₁ y a)) (heap-entry n w₂ u z (oldLevel w z) y h))
+
+-- the entry before it
+pub effect-before : (w : List ℕ) (u z i y a h : ℕ) → 64 * u + 63 < length w → field (effect w u z i y a h) u 21 ≡ h
+unfolding effect
+effect-before w u z i y a h l =
+    let w₁ = lowerTo w z i in
+    let w₂ = bindTo w₁ y a in
+    let l₁ = heap-lowerTo 0 w z i .len in
+    let l₂ = heap-bindTo 0 w₁ y a .len in
+    entry-at w₂ u z (oldLevel w z) y h 3 (omega arith) (omega arith)
+
+-- Undone, it leaves everything readable as it was.
+pub undo-effect : (n j : ℕ) (w : List ℕ) (u z i y a h : ℕ) → n ≤ u → 64 * u + 63 < length w → LowerAt z w → FreeAt y w → Grow n j w (undoEntry (effect w u z i y a h) u)
+unfolding undoEntry effect
+undo-effect n j w u z i y a h l len lz fy =
+    let w₁ = lowerTo w z i in
+    let w₂ = bindTo w₁ y a in
+    let k = oldLevel w z in
+    let w₃ = putEntry w₂ u z k y h in
+    let g₃ = grow-entry n j w₂ u z k y h l in
+    let l₁ = heap-lowerTo n w z i .len in
+    let l₂ = heap-bindTo n w₁ y a .len in
+    let l₃ = g₃ .heap .len in
+    let w₄ = bindTo w₃ y 0 in
+    let l₄ = heap-bindTo n w₃ y 0 .len in
+    let e : (i : ℕ) → i < 4 → field w₃ u (18 + i) ≡ getD (z ∷ k ∷ y ∷ h ∷ []) i 0 = λ i b. entry-at w₂ u z k y h i (omega arith) b in
+    rw (e 0 (omega arith), e 1 (omega arith), e 2 (omega arith)) (record {
+      heap = heap-trans 18 n w w₁ (lowerTo w₄ z k) (heap-lowerTo n w z i)
+          (heap-trans 18 n w₁ w₂ (lowerTo w₄ z k) (heap-bindTo n w₁ y a) (heap-trans 18 n w₂ w₃ (lowerTo w₄ z k) (g₃ .heap) (heap-trans 18 n w₃ w₄ (lowerTo w₄ z k) (heap-bindTo n w₃ y 0) (heap-lowerTo n w₄ z k))));
+      cells = λ x b.
+          cell-lowerTo w₄ z k x
+          ∙ cell-back y a x w₁ w₃ (λ q. (cell-lowerTo w z i (nameOf y) ∙ fy q .0, let m = fy q .1 in omega arith)) (omega arith) (λ x. grow-entry n (suc x) w₂ u z k y h l .cells x (omega arith))
+          ∙ cell-lowerTo w z i x;
+      levels = λ x b.
+          level-back z i x w w₄ lz (omega arith) (λ x. level-bindTo w₃ y 0 x ∙ grow-entry n (suc x) w₂ u z k y h l .levels x (omega arith) ∙ level-bindTo w₁ y a x);
+    })
+
+-- The loop
+
+-- The trail from head h down to the mark, linked through field 21: newer entries in later records.
+unfoldable pub Chain : List ℕ → List ℕ → ℕ → ℕ → Type 0
+Chain [] w h mark = h ≡ mark
+Chain (r ∷ rs) w h mark = (h ≡ suc r) × (mark ≤ r) × (field w r 21 ≤ r) × Chain rs w (field w r 21) mark
+
+pub chain-heap : (n : ℕ) (rs : List ℕ) (w w′ : List ℕ) (h mark : ℕ) → All (λ r. r < n) rs → Heap 18 n w w′ → Chain rs w h mark → Chain rs w′ h mark
+unfolding Chain
+chain-heap n [] w w′ h mark l g c = c
+chain-heap n (r ∷ rs) w w′ h mark l g c =
+    rw (g .old r 21 (l .0) (omega arith) (omega arith)) (c .0, c .1, c .2, chain-heap n rs w w′ (field w r 21) mark (l .1) g (c .3))
+
+pub chain-le : (rs : List ℕ) (w : List ℕ) (h mark : ℕ) → Chain rs w h mark → mark ≤ h
+unfolding Chain
+chain-le [] w h mark k = omega arith
+chain-le (r ∷ rs) w h mark k = let x = k .0 in let y = k .1 in omega arith
+
+-- The machine's loop undoes that list.
+pub undo-chain : (rs : List ℕ) (n f : ℕ) (w : List ℕ) (h mark : ℕ) → All (λ r. r < n) rs → h ≤ f → Chain rs w h mark → undo f w h mark ≡ undoAll rs w
+unfolding undo undoAll Chain
+undo-chain [] n zero w h mark a l c = refl
+undo-chain [] n (suc f) w h mark a l c = rw (undo, eq-eqb h mark c)
+undo-chain (r ∷ rs) n zero w h mark a l c = absurd (let e = c .0 in omega arith)
+undo-chain (r ∷ rs) n (suc f) w h mark a l c =
+    let e = c .0 in
+    let q = c .1 in
+    let b = c .2 in
+    let p : h - 1 ≡ r = omega arith in
+    rw (undo, ne-eqb h mark (λ z. omega arith), p)
+    (undo-chain rs n f (undoEntry w r) (field w r 21) mark (a .1) (omega arith) (chain-heap n rs w (undoEntry w r) (field w r 21) mark (a .1) (heap-undoEntry n w r) (c .3)))

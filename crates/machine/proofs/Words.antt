@@ -1,0 +1,69 @@
+-- Numbers of 32 bits, and the parts of words. Nothing after this file looks at `/`, `%` or the width.
+use Prim.Native.Nat.{ℕ, zero, suc, _+_, _-_, _*_, _/_, _%_, _≤_, _<_}
+use native.Mathlib.Omega.{arith}
+use mathlib.Core.Path.{_≡_, refl, sym, ap, _∙_}
+use Rattle.machine.specs.Words.{narrow, up, variableWord, constantWord, closureWord, tagOf, nameOf, nodeOf, frameOf}
+use Rattle.machine.specs.Matching.{placeWord}
+
+pub narrow-small : (a : ℕ) → a < 4294967296 → narrow a ≡ a
+unfolding narrow
+narrow-small a h = omega arith
+
+pub up-small : (a : ℕ) → a < 4294967295 → up a ≡ suc a
+unfolding up
+up-small a h = narrow-small (a + 1) (omega arith) ∙ (omega arith)
+
+pub variable-small : (x : ℕ) → x < 1000000000 → variableWord x ≡ 4 * x + 1
+unfolding variableWord
+variable-small x h = narrow-small (4 * x + 1) (omega arith)
+
+pub constant-small : (c : ℕ) → c ≤ 50000 → constantWord c ≡ 4 * c + 2
+unfolding constantWord
+constant-small c h = narrow-small (4 * c + 2) (omega arith)
+
+pub closure-small : (n f : ℕ) → n < 1024 → f ≤ 50001 → closureWord n f ≡ 4 * (1024 * f + n) + 3
+unfolding closureWord
+closure-small n f h k = narrow-small (4 * (1024 * f + n) + 3) (omega arith)
+
+pub place-small : (p i : ℕ) → p ≤ 50001 → i < 4 → placeWord p i ≡ 4 * p + i
+unfolding placeWord
+place-small p i h k = narrow-small (4 * p + i) (omega arith)
+
+mod4 : (p t : ℕ) → t < 4 → (4 * p + t) % 4 ≡ t
+mod4 p t h = omega arith
+
+div4 : (p t : ℕ) → t < 4 → (4 * p + t) / 4 ≡ p
+div4 p t h = omega arith
+
+mod1024 : (p t : ℕ) → t < 1024 → (1024 * p + t) % 1024 ≡ t
+mod1024 p t h = omega arith
+
+div1024 : (p t : ℕ) → t < 1024 → (1024 * p + t) / 1024 ≡ p
+div1024 p t h = omega arith
+
+pub tag-is : (p t : ℕ) → t < 4 → tagOf (4 * p + t) ≡ t
+unfolding tagOf
+tag-is p t h = mod4 p t h
+
+pub name-is : (p t : ℕ) → t < 4 → nameOf (4 * p + t) ≡ p
+unfolding nameOf
+name-is p t h = div4 p t h
+
+pub node-is : (n f : ℕ) → n < 1024 → nodeOf (4 * (1024 * f + n) + 3) ≡ n
+unfolding nodeOf
+node-is n f h = rw (div4 (1024 * f + n) 3 (omega arith)) (mod1024 f n h)
+
+pub frame-is : (n f : ℕ) → n < 1024 → frameOf (4 * (1024 * f + n) + 3) ≡ f
+unfolding frameOf
+frame-is n f h = rw (div4 (1024 * f + n) 3 (omega arith)) (div1024 f n h)
+
+-- The parts of a place.
+pub place-record : (p i : ℕ) → i < 4 → (4 * p + i) / 4 ≡ p
+place-record p i h = div4 p i h
+
+pub place-argument : (p i : ℕ) → i < 4 → (4 * p + i) % 4 ≡ i
+place-argument p i h = mod4 p i h
+
+-- Words of different variables or constants differ.
+pub same-name : (x y t : ℕ) → 4 * x + t ≡ 4 * y + t → x ≡ y
+same-name x y t e = omega arith
