@@ -1,19 +1,17 @@
 -- One act of the machine is one step of the search.
-use Prim.Native.Nat.{ℕ, zero, suc, _+_, _-_, _*_, _≤_, _<_}
+use Prim.Native.Nat.{ℕ, suc, _+_, _-_, _*_, _≤_, _<_}
 use native.Mathlib.Omega.{arith}
-use mathlib.Core.Bool.{Bool, true, false, cond}
-use mathlib.Core.Path.{_≡_, refl, sym, ap, _∙_, subst}
+use mathlib.Core.Path.{_≡_, refl}
 use mathlib.Core.List.{List, [], _∷_, _++_}
-use lib.Dec.{eqb, ltb}
 use lib.ListN.{length}
 use borrow.Author.Tests.{eq-eqb, ne-eqb}
 use Rattle.sequents.specs.Sequents.{Sequent}
 use Rattle.unification.specs.Store.{Leaf, Store}
-use Rattle.unification.specs.Matching.{Matching, pairs, check, fail}
+use Rattle.unification.specs.Matching.{pairs, check, fail}
 use Rattle.unification.specs.Promises.{Formed}
 use Rattle.search.specs.Configurations.{Branch, Configuration, take, try, match, done}
 use Rattle.search.specs.Steps as level1
-use Rattle.search.proofs.Invariant.{Invariant}
+use Rattle.search.proofs.Invariant.{EnvironmentBelow, Invariant}
 use Rattle.tables.specs.Layout.{kindOf}
 use Rattle.tables.proofs.Decoding.{GoalKind, atom-kind, true-kind, and-kind, or-kind, implies-kind, exists-kind, forall-kind, goal-kind}
 use Rattle.machine.specs.declared.Registers.{Registers}
@@ -21,8 +19,6 @@ use Rattle.machine.specs.Records.{Made, made}
 use Rattle.machine.specs.Changes.{onActs}
 use Rattle.machine.specs.Words.{up}
 use Rattle.machine.specs.Goals.{takeGoal}
-use Rattle.machine.specs.Matching.{comparePair, checkNode}
-use Rattle.machine.specs.Trying.{tryNext}
 use Rattle.machine.specs.Machine.{dueAct, act}
 use Rattle.machine.proofs.Tables.{Table}
 use Rattle.machine.proofs.Configurations.{storeOf, position-same, CompareAt, ConfigurationAt}
@@ -44,6 +40,7 @@ module _ (T : Table) where
   configuration-counted n w r x (match fail b) h = h
   configuration-counted n w r x (done s ls) h = h
 
+  -- of the whole result
   result-counted : (n : ℕ) (m : Made) (x : ℕ) (ds : List Configuration) → ResultAt T n m ds → ResultAt T n (made (m .memory) (onActs (m .registers) x)) ds
   unfolding ResultAt onActs
   result-counted n m x [] h = h
@@ -61,16 +58,17 @@ module _ (T : Table) where
   mode-due n w r (done s ls) h d = absurd (d (h .0))
 
   module _ (w : List ℕ) (r : Registers) (ds : List Configuration) (room : 64 * suc (r .acts) ≤ length w) (small : r .acts < 50000) where
-    take-act : (s : Store) (g : Sequent Leaf) (b : Branch) → Formed s → StateAt T (r .acts) w r (take s g b) ds
+    -- Taking a goal, by its kind.
+    take-act : (s : Store) (g : Sequent Leaf) (b : Branch) → Formed s → EnvironmentBelow (s .next) (g .environment) → StateAt T (r .acts) w r (take s g b) ds
         → ResultAt T (suc (r .acts)) (takeGoal (T .numbers) (T .clauses) w r) (level1.takeGoal (r .acts) s (g .goal) (g .environment) (g .program) (g .level) b ++ ds)
     unfolding takeGoal ConfigurationAt storeOf
-    take-act s g b fm st =
+    take-act s g b fm bl st =
         let f = st .front in
         let n = T .made .goalNode (r .node) (f .1 .node .0) (f .1 .node .1) in
         go (goal-kind (kindOf (T .numbers) (r .node)) (n .least) (n .most))
       where
         go : GoalKind (kindOf (T .numbers) (r .node)) → ResultAt T (suc (r .acts)) (takeGoal (T .numbers) (T .clauses) w r) (level1.takeGoal (r .acts) s (g .goal) (g .environment) (g .program) (g .level) b ++ ds)
-        go (atom-kind k) = rw k (take-atom T w r b ds room small s g k (st .front .1) (st .front .2) (st .shared))
+        go (atom-kind k) = rw k (take-atom T w r b ds room small s g k (st .front .1) bl (st .front .2) (st .shared))
         go (true-kind k) = rw k (take-true T w r s g b ds room small (st .front .1) (st .front .2) (st .shared) k)
         go (and-kind k) = rw k (take-and T w r s g b ds room small (st .front .1) (st .front .2) (st .shared) k)
         go (or-kind k) = rw k (take-or T w r s g b ds room small (st .front .1) (st .front .2) (st .shared) k)
@@ -78,12 +76,13 @@ module _ (T : Table) where
         go (exists-kind k) = rw k (take-exists T w r s g b ds room small (st .front .1) (st .front .2) (st .shared) fm k)
         go (forall-kind k) = rw k (take-forall T w r s g b ds room small (st .front .1) (st .front .2) (st .shared) k)
 
+    -- The act that is due, by the configuration.
     due-act : (c : Configuration) → Invariant c → (r .mode ≡ 4 → ⊥) → StateAt T (r .acts) w r c ds → ResultAt T (suc (r .acts)) (dueAct (T .numbers) (T .clauses) w r) (level1.step (r .acts) c ++ ds)
     unfolding dueAct level1.step Invariant ConfigurationAt CompareAt
-    due-act (take s g b) i d st = rw (eq-eqb (r .mode) 0 (st .front .0)) (take-act s g b (i .formed) st)
+    due-act (take s g b) i d st = rw (eq-eqb (r .mode) 0 (st .front .0)) (take-act s g b (i .formed) (i .extra .0 .0) st)
     due-act (try s a m ms k b) i d st =
         let e = st .front .mode in
-        rw (ne-eqb (r .mode) 0 (λ z. omega arith), eq-eqb (r .mode) 1 e) (try-act T w r b ds room small s a m ms k (i .formed) st)
+        rw (ne-eqb (r .mode) 0 (λ z. omega arith), eq-eqb (r .mode) 1 e) (try-act T w r b ds room small s a m ms k (i .formed) (i .extra .members .0) st)
     due-act (match (pairs s []) b) i d st = absurd (st .front)
     due-act (match (pairs s (p ∷ ps)) b) i d st =
         let e = st .front .0 in
@@ -94,6 +93,7 @@ module _ (T : Table) where
     due-act (match fail b) i d st = absurd (st .front)
     due-act (done s ls) i d st = absurd (d (st .front .0))
 
+    -- One act, counted.
     pub act-result : (c : Configuration) → Invariant c → (r .mode ≡ 4 → ⊥) → StateAt T (r .acts) w r c ds
         → ResultAt T (suc (r .acts)) (act (T .numbers) (T .clauses) w r) (level1.step (r .acts) c ++ ds)
     unfolding act

@@ -2,9 +2,9 @@
 -- definition going on with the rest.
 use Prim.Native.Nat.{ℕ, zero, suc, _+_, _-_, _*_, _≤_, _<_}
 use native.Mathlib.Omega.{arith}
-use mathlib.Core.Bool.{Bool, true, false, cond}
-use mathlib.Core.Path.{_≡_, refl, sym, ap, ap₂, _∙_, subst}
-use mathlib.Core.List.{List, [], _∷_, _++_, map}
+use mathlib.Core.Bool.{cond}
+use mathlib.Core.Path.{_≡_, refl, sym, _∙_, subst}
+use mathlib.Core.List.{List, [], _∷_}
 use lib.Dec.{eqb}
 use lib.ListN.{length}
 use borrow.Author.Tests.{eq-eqb, ne-eqb}
@@ -15,7 +15,7 @@ use Rattle.search.specs.Configurations.{Configuration}
 use Rattle.machine.specs.declared.Registers.{Registers}
 use Rattle.machine.specs.Records.{field, Made, made}
 use Rattle.machine.specs.Changes.{onMode, onNext, onTrail, onChoice, onGoals, onPath, onGoal, onMember}
-use Rattle.machine.specs.Trail.{undo, undoEntry}
+use Rattle.machine.specs.Trail.{undoEntry}
 use Rattle.machine.specs.Choices.{resumeGoal, resumeMember, resumeBranch, resume, takeUp, failed}
 use Rattle.machine.proofs.Heap.{Heap, Grow, heap-22, grow-less}
 use Rattle.machine.proofs.Trail.{undoAll, heap-undoAll, grow-undoAll, Chain, chain-heap, chain-le, undo-chain}
@@ -23,18 +23,24 @@ use Rattle.machine.proofs.Tables.{Table}
 use Rattle.machine.proofs.Stores.{StoreAt, store-grow, store-up}
 use Rattle.machine.proofs.Configurations.{storeOf, ConfigurationAt, configuration-heap, configuration-up}
 
--- What n acts can have made: each binds at most one variable; the first makes at most one, every other at most eight.
+-- What n acts can have made: each binds at most one variable; the first makes at most one, every other at most eight; eight were there.
 pub record Bounded (n : ℕ) (s : Store) : Type 0 where
   pub bindings : length (s .bindings) ≤ n
+  pub least : 8 ≤ s .next
   pub variables : s .next ≤ 8 * n + 8
   pub later : 1 ≤ n → s .next ≤ 8 * n + 1
 
+-- One variable more would fit the records so far, and the bound of the next act.
+pub bounded-next : (n : ℕ) (s : Store) → Bounded n s → (suc (s .next) ≤ 9 * suc n) × (suc (s .next) ≤ 8 * suc n + 1)
+bounded-next zero s b = let y = b .variables in (omega arith, omega arith)
+bounded-next (suc n) s b = let y = b .later (omega arith) in (omega arith, omega arith)
+
+-- An act later.
 pub bounded-up : (n : ℕ) (s : Store) → Bounded n s → Bounded (suc n) s
-bounded-up n s b = let x = b .bindings in let y = b .variables in record { bindings = omega arith; variables = omega arith; later = λ h. go n b }
-  where
-    go : (n : ℕ) → Bounded n s → s .next ≤ 8 * suc n + 1
-    go zero b = let y = b .variables in omega arith
-    go (suc m) b = let y = b .later (omega arith) in omega arith
+bounded-up n s b =
+    let x = b .bindings in
+    let y = b .variables in
+    record { bindings = omega arith; least = b .least; variables = omega arith; later = λ h. let z = bounded-next n s b .1 in omega arith }
 
 -- Resuming reads the fields of one record.
 resume-heap : (n : ℕ) (w w′ : List ℕ) (r : Registers) (q : ℕ) → Heap 22 n w w′ → q < n → resume w′ r q ≡ resume w r q
@@ -71,6 +77,7 @@ module _ (T : Table) where
     alternatives-more : {k : ℕ} {w : List ℕ} {h : ℕ} {c : Configuration} {ds : List Configuration} (q : ℕ) (rs : List ℕ) → ChoiceAt n w q c k → All (λ r. r < n) rs → Chain rs w h (field w q 44)
         → StoreAt T n (undoAll rs w) (storeOf c) → AlternativesAt n (storeOf c .next) (undoAll rs w) (field w q 45) (field w q 44) ds → AlternativesAt n k w (suc q) h (c ∷ ds)
 
+  -- A choice point stays,
   choice-heap : (n : ℕ) (w w′ : List ℕ) (q : ℕ) (c : Configuration) (k : ℕ) → Heap 22 n w w′ → ChoiceAt n w q c k → ChoiceAt n w′ q c k
   choice-heap n w w′ q c k e h = record {
     low = h .low;
@@ -80,6 +87,7 @@ module _ (T : Table) where
     bounded = h .bounded;
   }
 
+  -- an act later too.
   choice-up : (n : ℕ) (w : List ℕ) (q : ℕ) (c : Configuration) (k : ℕ) → ChoiceAt n w q c k → ChoiceAt (suc n) w q c k
   choice-up n w q c k h = record {
     low = let l = h .low in omega arith;
@@ -89,6 +97,7 @@ module _ (T : Table) where
     bounded = bounded-up n (storeOf c) (h .bounded);
   }
 
+  -- The entries of a trail, an act later.
   pub all-up : (n : ℕ) (rs : List ℕ) → All (λ r. r < n) rs → All (λ r. r < suc n) rs
   all-up n rs h = all-weaken (λ r. r < n) (λ r. r < suc n) (λ r l. omega arith) rs h
 
@@ -169,6 +178,7 @@ module _ (T : Table) where
     pub front : ConfigurationAt T n w r c
     pub shared : SharedAt n w (r .next) (r .trail) (r .choice) (storeOf c) ds
 
+  -- What an act leaves: no alternative, or a state.
   unfoldable pub ResultAt : ℕ → Made → List Configuration → Type 0
   ResultAt n m [] = m .registers .mode ≡ 5
   ResultAt n m (c ∷ ds) = StateAt n (m .memory) (m .registers) c ds

@@ -1,5 +1,5 @@
 -- Following bindings one by one comes to what level 1's `look` comes to, after at most as many turns as there are bindings.
-use Prim.Native.Nat.{ℕ, zero, suc, _+_, _≤_, _<_}
+use Prim.Native.Nat.{ℕ, suc, _+_, _≤_}
 use native.Mathlib.Omega.{arith}
 use mathlib.Core.Path.{_≡_, refl, sym, _∙_, ap, subst}
 use mathlib.Core.Bool.{Bool, true, false, cond}
@@ -20,12 +20,15 @@ unfoldable pub cell : List Binding → ℕ → Option (Term Leaf)
 cell [] x = none
 cell (b ∷ bs) x = cond (eqb x (b .name)) (some (b .value)) (cell bs x)
 
+-- Constructors.
 pub not-none : {A : Type 0} (a : A) → _≡_ {A = Option A} (some a) none → ⊥
 not-none a e = let z : _≡_ {A = ℕ} 0 1 = cc in omega arith
 
+-- The element of an option.
 pub some-is : {A : Type 0} (a b : A) → _≡_ {A = Option A} (some a) (some b) → a ≡ b
 some-is a b e = cc
 
+-- The number of a variable.
 variable-is : (x y : ℕ) → _≡_ {A = Term Leaf} (leaf (var x)) (leaf (var y)) → x ≡ y
 variable-is x y e = cc
 
@@ -39,6 +42,7 @@ cell-none (b ∷ bs) x e = go (eqb x (b .name)) e (cell-none bs x)
     go true e ih = absurd (not-none (b .value) e)
     go false e ih = ih e
 
+-- What it is bound to is level 1's.
 pub cell-some : (bs : List Binding) (x : ℕ) (t : Term Leaf) → cell bs x ≡ some t → boundTo bs x ≡ t
 unfolding cell boundTo
 cell-some [] x t e = absurd (not-none t (sym e))
@@ -64,10 +68,12 @@ hop1 (leaf (var x)) b = cond (eqb x (b .name)) 1 0
 hop1 (leaf (con c k)) b = 0
 hop1 (app f ts) b = 0
 
+-- Over all bindings.
 unfoldable pub hops : List Binding → Term Leaf → ℕ
 hops [] t = 0
 hops (b ∷ bs) t = hops bs t + hop1 (look bs t) b
 
+-- One binding is followed at most once,
 hop1-le : (t : Term Leaf) (b : Binding) → hop1 t b ≤ 1
 unfolding hop1
 hop1-le (leaf (var x)) b = go (eqb x (b .name))
@@ -78,11 +84,13 @@ hop1-le (leaf (var x)) b = go (eqb x (b .name))
 hop1-le (leaf (con c k)) b = omega arith
 hop1-le (app f ts) b = omega arith
 
+-- so that there are at most as many turns as bindings.
 pub hops-le : (bs : List Binding) (t : Term Leaf) → hops bs t ≤ length bs
 unfolding hops
 hops-le [] t = omega arith
 hops-le (b ∷ bs) t = let r = hops-le bs t in let q = hop1-le (look bs t) b in omega arith
 
+-- Nothing but its variable follows a binding.
 hop1-other : (t : Term Leaf) (b : Binding) → (t ≡ leaf (var (b .name)) → ⊥) → hop1 t b ≡ 0
 unfolding hop1
 hop1-other (leaf (var x)) b h = rw (ne-eqb x (b .name) (λ q. h (ap (λ (z : ℕ). leaf (var z)) q)))
@@ -95,6 +103,7 @@ unfolding look look1 hops hop1
 look-app [] f ts = (refl, refl)
 look-app (b ∷ bs) f ts = let r = look-app bs f ts in (rw (r .0), rw (r .0, r .1))
 
+-- so is a made constant
 pub look-con : (bs : List Binding) (c k : ℕ) → (look bs (leaf (con c k)) ≡ leaf (con c k)) × (hops bs (leaf (con c k)) ≡ 0)
 unfolding look look1 hops hop1
 look-con [] c k = (refl, refl)
@@ -108,15 +117,18 @@ hops-variable (b ∷ bs) x w e =
     let r = unbound-before b bs x w e in
     rw (hops-variable bs x (w .3) (r .0), hop1-other (look bs (leaf (var x))) b (λ q. r .1 (variable-is x (b .name) (sym (r .0) ∙ q))))
 
+-- What is looked through needs no turn.
 hops-fixed : (bs : List Binding) (t : Term Leaf) → WellBound bs → look bs t ≡ t → hops bs t ≡ 0
 hops-fixed bs (leaf (var x)) w e = hops-variable bs x w e
 hops-fixed bs (leaf (con c k)) w e = look-con bs c k .1
 hops-fixed bs (app f ts) w e = look-app bs f ts .1
 
+-- A binding's own variable gives its value,
 hit : (b : Binding) → look1 (leaf (var (b .name))) b ≡ b .value
 unfolding look1
 hit b = rw (eq-eqb (b .name) (b .name) refl)
 
+-- in one turn.
 hop1-hit : (b : Binding) → hop1 (leaf (var (b .name))) b ≡ 1
 unfolding hop1
 hop1-hit b = rw (eq-eqb (b .name) (b .name) refl)

@@ -1,25 +1,23 @@
 -- Programs, open goals and the path in memory, and that they stay.
-use Prim.Native.Nat.{ℕ, zero, suc, _+_, _-_, _*_, _≤_, _<_}
+use Prim.Native.Nat.{ℕ, zero, suc, _+_, _-_, _≤_, _<_}
 use native.Mathlib.Omega.{arith}
 use mathlib.Core.Bool.{Bool, true, false, cond}
 use mathlib.Core.Path.{_≡_, refl, sym, ap, ap₂, _∙_, fun-ext, subst}
-use mathlib.Core.List.{List, [], _∷_, _++_, map}
-use lib.Dec.{ltb, eqb}
-use lib.ListN.{length}
+use mathlib.Core.List.{List, [], _∷_}
+use lib.Dec.{ltb}
 use borrow.Author.Tests.{ltb-true, ne-eqb}
-use Rattle.terms.specs.Terms.{Term, leaf, app, nil}
-use Rattle.formulas.specs.Formulas.{Goal, Clause}
-use Rattle.sequents.specs.Sequents.{Environment, Program, hypothesis, Sequent, Line, plain, Dsome, Dall, Dclause, Dtrue, Dand, Dleft, Dright, Dassume}
+use Rattle.terms.specs.Terms.{leaf, app, nil}
+use Rattle.formulas.specs.Formulas.{Clause}
+use Rattle.sequents.specs.Sequents.{Environment, Program, hypothesis, Sequent, Line}
 use Rattle.sequents.specs.Derivations.{sheetProgram}
-use Rattle.unification.specs.Store.{Leaf, var, con}
+use Rattle.unification.specs.Store.{Leaf, var}
 use Rattle.search.specs.Configurations.{Branch}
 use Rattle.search.specs.Search.{startEnvironment}
 use Rattle.tables.specs.Decoding.{goalAt, clauseAtNode, clausesFrom}
 use Rattle.tables.specs.WellMade.{IsGoal, IsClause}
-use Rattle.machine.specs.declared.Registers.{Registers}
 use Rattle.machine.specs.Records.{field}
 use Rattle.machine.specs.Words.{slotOf, leafOf, environmentAt, variableWord}
-use Rattle.machine.specs.Reading.{lineAt, pathFrom, variablesFrom}
+use Rattle.machine.specs.Reading.{lineAt, pathFrom}
 use Rattle.machine.proofs.Words.{variable-small}
 use Rattle.machine.proofs.Heap.{Heap}
 use Rattle.machine.proofs.Tables.{Table}
@@ -38,57 +36,84 @@ first-environment w = fun-ext (λ v. go v (ltb v 8) refl)
 pub heap-less : (lo n m : ℕ) (w w′ : List ℕ) → m ≤ n → Heap lo n w w′ → Heap lo m w w′
 heap-less lo n m w w′ l h = record { len = h .len; old = λ u f a b c. h .old u f (omega arith) b c }
 
--- The path. A line is in an earlier record than the one after it.
-unfoldable pub PathAt : ℕ → List (Line Leaf) → List ℕ → ℕ → ℕ → Type 0
-PathAt n [] w zero k = Unit {0}
-PathAt n [] w (suc r) k = ⊥
-PathAt n (x ∷ ls) w zero k = ⊥
-PathAt n (x ∷ ls) w (suc r) k = (r < n) × (lineAt w r k ≡ x) × PathAt r ls w (field w r 39) (field w r 40)
+-- A line's variables are below x.
+pub record LineBelow (x : ℕ) (w : List ℕ) (r k : ℕ) : Type 0 where
+  pub kind : k ≤ 7
+  pub some : k ≡ 5 → field w r 43 < x
+  pub clause : k ≡ 7 → field w r 42 + field w r 43 ≤ x
 
+-- The path. A line is in an earlier record than the one after it.
+unfoldable pub PathAt : ℕ → ℕ → List (Line Leaf) → List ℕ → ℕ → ℕ → Type 0
+PathAt n x [] w zero k = Unit {0}
+PathAt n x [] w (suc r) k = ⊥
+PathAt n x (l ∷ ls) w zero k = ⊥
+PathAt n x (l ∷ ls) w (suc r) k = (r < n) × (lineAt w r k ≡ l) × LineBelow x w r k × PathAt r x ls w (field w r 39) (field w r 40)
+
+-- It stays.
 line-heap : (n : ℕ) (w w′ : List ℕ) (r k : ℕ) → Heap 22 n w w′ → r < n → lineAt w′ r k ≡ lineAt w r k
 unfolding lineAt
 line-heap n w w′ r k h l =
     rw (h .old r 22 l (omega arith) (omega arith), h .old r 41 l (omega arith) (omega arith), h .old r 42 l (omega arith) (omega arith), h .old r 43 l (omega arith) (omega arith))
 
-pub path-heap : (n : ℕ) (ls : List (Line Leaf)) (w w′ : List ℕ) (p k : ℕ) → Heap 22 n w w′ → PathAt n ls w p k → PathAt n ls w′ p k
+-- The path,
+pub path-heap : (n x : ℕ) (ls : List (Line Leaf)) (w w′ : List ℕ) (p k : ℕ) → Heap 22 n w w′ → PathAt n x ls w p k → PathAt n x ls w′ p k
 unfolding PathAt
-path-heap n [] w w′ zero k h c = tt
-path-heap n [] w w′ (suc r) k h c = c
-path-heap n (x ∷ ls) w w′ zero k h c = c
-path-heap n (x ∷ ls) w w′ (suc r) k h c =
-    let l = c .0 in (
+path-heap n x [] w w′ zero k h c = tt
+path-heap n x [] w w′ (suc r) k h c = c
+path-heap n x (y ∷ ls) w w′ zero k h c = c
+path-heap n x (y ∷ ls) w w′ (suc r) k h c =
+    let l = c .0 in
+    let b = c .2 in
+    let e₂ = h .old r 42 l (omega arith) (omega arith) in
+    let e₃ = h .old r 43 l (omega arith) (omega arith) in (
       l,
       line-heap n w w′ r k h l ∙ c .1,
+      record { kind = b .kind; some = λ q. rw e₃ (b .some q); clause = λ q. rw (e₂, e₃) (b .clause q) },
       rw (h .old r 39 l (omega arith) (omega arith), h .old r 40 l (omega arith) (omega arith))
-          (path-heap r ls w w′ (field w r 39) (field w r 40) (heap-less 22 n r w w′ (omega arith) h) (c .2)),
+          (path-heap r x ls w w′ (field w r 39) (field w r 40) (heap-less 22 n r w w′ (omega arith) h) (c .3)),
     )
 
-pub path-up : (n : ℕ) (ls : List (Line Leaf)) (w : List ℕ) (p k : ℕ) → PathAt n ls w p k → PathAt (suc n) ls w p k
-unfolding PathAt
-path-up n [] w zero k c = tt
-path-up n [] w (suc r) k c = c
-path-up n (x ∷ ls) w zero k c = c
-path-up n (x ∷ ls) w (suc r) k c = (let l = c .0 in omega arith, c .1, c .2)
+-- more variables
+line-wider : (x y : ℕ) (w : List ℕ) (r k : ℕ) → x ≤ y → LineBelow x w r k → LineBelow y w r k
+line-wider x y w r k l b = record { kind = b .kind; some = λ q. let m = b .some q in omega arith; clause = λ q. let m = b .clause q in omega arith }
 
--- it is read back
-pub path-read : (f n : ℕ) (ls : List (Line Leaf)) (w : List ℕ) (p k : ℕ) → n ≤ f → PathAt n ls w p k → pathFrom f w p k ≡ ls
+-- of the whole path
+pub path-wider : (n x y : ℕ) (ls : List (Line Leaf)) (w : List ℕ) (p k : ℕ) → x ≤ y → PathAt n x ls w p k → PathAt n y ls w p k
+unfolding PathAt
+path-wider n x y [] w zero k b c = tt
+path-wider n x y [] w (suc r) k b c = c
+path-wider n x y (l ∷ ls) w zero k b c = c
+path-wider n x y (l ∷ ls) w (suc r) k b c = (c .0, c .1, line-wider x y w r k b (c .2), path-wider r x y ls w (field w r 39) (field w r 40) b (c .3))
+
+-- an act later
+pub path-up : (n x : ℕ) (ls : List (Line Leaf)) (w : List ℕ) (p k : ℕ) → PathAt n x ls w p k → PathAt (suc n) x ls w p k
+unfolding PathAt
+path-up n x [] w zero k c = tt
+path-up n x [] w (suc r) k c = c
+path-up n x (y ∷ ls) w zero k c = c
+path-up n x (y ∷ ls) w (suc r) k c = (let l = c .0 in omega arith, c .1, c .2, c .3)
+
+-- It is read back.
+pub path-read : (f n x : ℕ) (ls : List (Line Leaf)) (w : List ℕ) (p k : ℕ) → n ≤ f → PathAt n x ls w p k → pathFrom f w p k ≡ ls
 unfolding PathAt pathFrom
-path-read zero n [] w zero k h c = refl
-path-read zero n [] w (suc r) k h c = absurd c
-path-read zero n (x ∷ ls) w zero k h c = absurd c
-path-read zero n (x ∷ ls) w (suc r) k h c = absurd (let l = c .0 in omega arith)
-path-read (suc f) n [] w zero k h c = refl
-path-read (suc f) n [] w (suc r) k h c = absurd c
-path-read (suc f) n (x ∷ ls) w zero k h c = absurd c
-path-read (suc f) n (x ∷ ls) w (suc r) k h c =
+path-read zero n x [] w zero k h c = refl
+path-read zero n x [] w (suc r) k h c = absurd c
+path-read zero n x (y ∷ ls) w zero k h c = absurd c
+path-read zero n x (y ∷ ls) w (suc r) k h c = absurd (let l = c .0 in omega arith)
+path-read (suc f) n x [] w zero k h c = refl
+path-read (suc f) n x [] w (suc r) k h c = absurd c
+path-read (suc f) n x (y ∷ ls) w zero k h c = absurd c
+path-read (suc f) n x (y ∷ ls) w (suc r) k h c =
     let e : suc r - 1 ≡ r = omega arith in
     let l = c .0 in
-    rw (pathFrom, ne-eqb (suc r) 0 (λ q. omega arith), e) (ap₂ _∷_ (c .1) (path-read f r ls w (field w r 39) (field w r 40) (omega arith) (c .2)))
+    rw (pathFrom, ne-eqb (suc r) 0 (λ q. omega arith), e) (ap₂ _∷_ (c .1) (path-read f r x ls w (field w r 39) (field w r 40) (omega arith) (c .3)))
 
 module _ (T : Table) where
+  -- A node of a goal, and of a clause.
   abbrev pub GoalOf : ℕ → Type 0
   GoalOf n = (n < T .nodes) × IsGoal (T .numbers) n
 
+  -- A node of a clause.
   abbrev pub ClauseOf : ℕ → Type 0
   ClauseOf n = (n < T .nodes) × IsClause (T .numbers) n
 
@@ -102,6 +127,7 @@ module _ (T : Table) where
     program-more : {c : Clause} {e : Environment Leaf} {P : Program Leaf} (r : ℕ) → r < n → ClauseOf (field w r 36) → FrameAt n w (field w r 37)
         → clauseAtNode (T .numbers) (field w r 36) ≡ c → environmentAt w (field w r 37) ≡ e → ProgramAt n w (field w r 38) P → ProgramAt n w (suc r) (hypothesis c e ∷ P)
 
+  -- It stays,
   pub program-heap : (n : ℕ) (w w′ : List ℕ) {h : ℕ} {P : Program Leaf} → Heap 22 n w w′ → ProgramAt n w h P → ProgramAt n w′ h P
   program-heap n w w′ e program-sheet = program-sheet
   program-heap n w w′ e (program-more {P = P} r l c f i j p) =
@@ -111,6 +137,7 @@ module _ (T : Table) where
       program-more r l (rw e₁ c) (rw e₂ (frame-heap n w w′ (field w r 37) e f)) (ap (clauseAtNode (T .numbers)) e₁ ∙ i)
       (ap (environmentAt w′) e₂ ∙ environment-heap n w w′ (field w r 37) e f ∙ j) (subst (λ (x : ℕ). ProgramAt n w′ x P) (sym e₃) (program-heap n w w′ e p))
 
+  -- an act later too.
   pub program-up : (n : ℕ) (w : List ℕ) {h : ℕ} {P : Program Leaf} → ProgramAt n w h P → ProgramAt (suc n) w h P
   program-up n w program-sheet = program-sheet
   program-up n w (program-more r l c f i j p) = program-more r (omega arith) c (frame-up n w (field w r 37) f) i j (program-up n w p)
@@ -125,6 +152,7 @@ module _ (T : Table) where
     pub level : i ≡ g .level
     pub low : i ≤ n
 
+  -- It stays,
   pub sequent-heap : (n : ℕ) (w w′ : List ℕ) (a f h i : ℕ) (g : Sequent Leaf) → Heap 22 n w w′ → SequentAt n w a f h i g → SequentAt n w′ a f h i g
   sequent-heap n w w′ a f h i g e c = record {
     node = c .node;
@@ -136,6 +164,7 @@ module _ (T : Table) where
     low = c .low;
   }
 
+  -- an act later too.
   pub sequent-up : (n : ℕ) (w : List ℕ) (a f h i : ℕ) (g : Sequent Leaf) → SequentAt n w a f h i g → SequentAt (suc n) w a f h i g
   sequent-up n w a f h i g c = record {
     node = c .node;
@@ -154,6 +183,7 @@ module _ (T : Table) where
   GoalsAt n (g ∷ gs) w zero = ⊥
   GoalsAt n (g ∷ gs) w (suc r) = (r < n) × SequentAt n w (field w r 31) (field w r 32) (field w r 33) (field w r 34) g × GoalsAt n gs w (field w r 35)
 
+  -- They stay,
   pub goals-heap : (n : ℕ) (gs : List (Sequent Leaf)) (w w′ : List ℕ) (p : ℕ) → Heap 22 n w w′ → GoalsAt n gs w p → GoalsAt n gs w′ p
   unfolding GoalsAt
   goals-heap n [] w w′ zero e c = tt
@@ -164,6 +194,7 @@ module _ (T : Table) where
       rw (e .old r 31 l (omega arith) (omega arith), e .old r 32 l (omega arith) (omega arith), e .old r 33 l (omega arith) (omega arith), e .old r 34 l (omega arith) (omega arith), e .old r 35 l (omega arith) (omega arith))
       (l, sequent-heap n w w′ (field w r 31) (field w r 32) (field w r 33) (field w r 34) g e (c .1), goals-heap n gs w w′ (field w r 35) e (c .2))
 
+  -- an act later too.
   pub goals-up : (n : ℕ) (gs : List (Sequent Leaf)) (w : List ℕ) (p : ℕ) → GoalsAt n gs w p → GoalsAt (suc n) gs w p
   unfolding GoalsAt
   goals-up n [] w zero c = tt
@@ -173,12 +204,14 @@ module _ (T : Table) where
       (let l = c .0 in omega arith, sequent-up n w (field w r 31) (field w r 32) (field w r 33) (field w r 34) g (c .1), goals-up n gs w (field w r 35) (c .2))
 
   -- A branch: the goals that wait and the path.
-  pub record BranchAt (n : ℕ) (w : List ℕ) (goals path line : ℕ) (b : Branch) : Type 0 where
+  pub record BranchAt (n x : ℕ) (w : List ℕ) (goals path line : ℕ) (b : Branch) : Type 0 where
     pub waiting : GoalsAt n (b .goals) w goals
-    pub taken : PathAt n (b .path) w path line
+    pub taken : PathAt n x (b .path) w path line
 
-  pub branch-heap : (n : ℕ) (w w′ : List ℕ) (q p l : ℕ) (b : Branch) → Heap 22 n w w′ → BranchAt n w q p l b → BranchAt n w′ q p l b
-  branch-heap n w w′ q p l b e c = record { waiting = goals-heap n (b .goals) w w′ q e (c .waiting); taken = path-heap n (b .path) w w′ p l e (c .taken) }
+  -- It stays,
+  pub branch-heap : (n x : ℕ) (w w′ : List ℕ) (q p l : ℕ) (b : Branch) → Heap 22 n w w′ → BranchAt n x w q p l b → BranchAt n x w′ q p l b
+  branch-heap n x w w′ q p l b e c = record { waiting = goals-heap n (b .goals) w w′ q e (c .waiting); taken = path-heap n x (b .path) w w′ p l e (c .taken) }
 
-  pub branch-up : (n : ℕ) (w : List ℕ) (q p l : ℕ) (b : Branch) → BranchAt n w q p l b → BranchAt (suc n) w q p l b
-  branch-up n w q p l b c = record { waiting = goals-up n (b .goals) w q (c .waiting); taken = path-up n (b .path) w p l (c .taken) }
+  -- an act later too.
+  pub branch-up : (n x : ℕ) (w : List ℕ) (q p l : ℕ) (b : Branch) → BranchAt n x w q p l b → BranchAt (suc n) x w q p l b
+  branch-up n x w q p l b c = record { waiting = goals-up n (b .goals) w q (c .waiting); taken = path-up n x (b .path) w p l (c .taken) }

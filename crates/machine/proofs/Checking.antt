@@ -1,41 +1,41 @@
 -- Looking at one node in a range check is level 1's `visit`.
-use Prim.Native.Nat.{ℕ, zero, suc, _+_, _-_, _*_, _/_, _%_, _≤_, _<_, min}
+use Prim.Native.Nat.{ℕ, suc, _+_, _-_, _*_, _≤_, _<_, min}
 use native.Mathlib.Omega.{arith}
 use mathlib.Core.Bool.{Bool, true, false, cond, false≢true}
 use mathlib.Core.Path.{_≡_, refl, sym, ap, ap₂, _∙_, subst}
 use mathlib.Core.List.{List, [], _∷_, _++_}
-use mathlib.Core.Option.{Option, none, some}
-use mathlib.Core.Logic.{_⊎_, inl, inr}
+use mathlib.Core.Option.{Option, none}
+use mathlib.Core.Logic.{inr}
 use lib.Dec.{eqb, leb}
 use lib.ListN.{length, getD}
 use borrow.Author.Tests.{eqb-true, eqb-false, eq-eqb, ne-eqb}
-use Rattle.terms.specs.Terms.{Term, leaf, app, Terms, substitutes, Leaves}
-use Rattle.unification.specs.Store.{Leaf, var, con, Store, lower, bind}
-use Rattle.unification.specs.Matching.{Pair, Matching, pairs, check, fail, pushTerms, onNode, visit}
+use Rattle.terms.specs.Terms.{Term, substitutes, Leaves}
+use Rattle.unification.specs.Store.{Leaf, Store, lower, bind}
+use Rattle.unification.specs.Matching.{Pair, pairs, check, fail, pushTerms, onNode, visit}
 use Rattle.unification.specs.Promises.{Below}
 use Rattle.search.specs.Configurations.{Branch, Configuration, match}
 use Rattle.search.specs.Steps.{settle}
-use Rattle.tables.specs.Layout.{childCount, labelOf}
+use Rattle.tables.specs.Layout.{childCount}
 use Rattle.tables.specs.Decoding.{argumentsAt}
 use Rattle.machine.specs.declared.Registers.{Registers}
-use Rattle.machine.specs.Records.{field, cellOf, levelOf, putCell, putLevel, Made, made, putEntry, putNodes}
+use Rattle.machine.specs.Records.{field, cellOf, levelOf, putCell, putLevel, made, putNodes}
 use Rattle.machine.specs.Changes.{onTrail, onNodes}
-use Rattle.machine.specs.Words.{up, tagOf, nameOf, nodeOf, frameOf, environmentAt}
-use Rattle.machine.specs.Trail.{lowerTo, bindTo, oldLevel, effect, undoEntry}
+use Rattle.machine.specs.Words.{up, nameOf, environmentAt}
+use Rattle.machine.specs.Trail.{lowerTo, bindTo, oldLevel, effect}
 use Rattle.machine.specs.Choices.{failed}
-use Rattle.machine.specs.Matching.{nodesFrom, duePairs, bindValue, passNode, visitVariable, visitConstant, visitClosure, visitWord}
+use Rattle.machine.specs.Matching.{nodesFrom, bindValue, passNode, visitVariable, visitConstant, visitClosure, visitWord}
 use Rattle.machine.proofs.Records.{There, there, puts, puts-at}
-use Rattle.machine.proofs.Words.{up-small, tag-is, name-is, node-is, frame-is}
-use Rattle.machine.proofs.Heap.{Heap, Grow, heap-22, grow-refl, grow-puts}
-use Rattle.machine.proofs.Trail.{heap-lowerTo, heap-bindTo, grow-entry, heap-effect, heap-effect-22, effect-before, LowerAt, FreeAt, undo-effect}
+use Rattle.machine.proofs.Words.{up-small, name-is, tag-of, name-of, node-is, frame-is}
+use Rattle.machine.proofs.Heap.{Grow, heap-22, grow-refl, grow-puts}
+use Rattle.machine.proofs.Trail.{heap-lowerTo, grow-entry, heap-effect, heap-effect-22, effect-before, LowerAt, FreeAt, undo-effect}
 use Rattle.machine.proofs.Tables.{Table, Applied, applied, node-small}
-use Rattle.machine.proofs.Terms.{FrameAt, frame-up, frame-heap, environment-heap, WordAt, word-variable, word-constant, word-closure, word-heap, word-up}
+use Rattle.machine.proofs.Terms.{FrameIn, framed-heap, framed-up, environment-heap, WordAt, word-variable, word-constant, word-closure, word-heap, word-up}
 use Rattle.machine.proofs.Bindings.{cell}
 use Rattle.machine.proofs.Stores.{CellAt, StoreAt, store-grow, store-up, store-lower, store-bind}
 use Rattle.machine.proofs.Places.{PairsAt, NodesAt, pairs-heap, pairs-up, nodes-heap, nodes-up, push-nodes}
 use Rattle.machine.proofs.Branches.{BranchAt, branch-heap, branch-up}
 use Rattle.machine.proofs.Configurations.{storeOf, ConfigurationAt}
-use Rattle.machine.proofs.Alternatives.{Bounded, alternatives-noted, SharedAt, shared-same, shared-grow, StateAt, ResultAt}
+use Rattle.machine.proofs.Alternatives.{bounded-next, alternatives-noted, SharedAt, shared-same, ResultAt}
 use Rattle.machine.proofs.Onward.{pairs-result}
 use Rattle.machine.proofs.Comparing.{now-failed}
 
@@ -44,10 +44,12 @@ lower-variable : (w : List ℕ) (x k : ℕ) → lowerTo w (4 * x + 1) k ≡ putL
 unfolding lowerTo
 lower-variable w x k = rw (ne-eqb (4 * x + 1) 0 (λ e. omega arith), name-is x 1 (omega arith))
 
+-- Binding at a variable's word.
 bind-variable : (w : List ℕ) (x a : ℕ) → bindTo w (4 * x + 1) a ≡ putCell w x a
 unfolding bindTo
 bind-variable w x a = rw (ne-eqb (4 * x + 1) 0 (λ e. omega arith), name-is x 1 (omega arith))
 
+-- No variable is unbound.
 free-none : (w : List ℕ) → FreeAt 0 w
 free-none w e = absurd (false≢true (sym e))
 
@@ -59,19 +61,18 @@ nodes-are w u a f e = refl
 module _ (T : Table) where
   -- After a node, in the memory w, where a record of nodes may have been made: s₁ is the store with the variable z lowered to k.
   module _ (w : List ℕ) (r : Registers) (s s₁ : Store) (b : Branch) (ds : List Configuration) (room : 64 * suc (r .acts) ≤ length w) (small : r .acts < 50000)
-      (branch : BranchAt T (r .acts) w (r .goals) (r .path) (r .line) b) (shared : SharedAt T (r .acts) w (r .next) (r .trail) (r .choice) s ds)
-      (mode : r .mode ≡ 3) (z k y e : ℕ) (t : Term Leaf) (ns : List (Term Leaf)) (ps : List Pair) (variable : r .variable ≡ 4 * y + 1) (value : WordAt T (r .acts) w (r .value) t) (waiting : PairsAt T (r .acts) ps w (r .pairs))
+      (branch : BranchAt T (r .acts) (s₁ .next) w (r .goals) (r .path) (r .line) b) (shared : SharedAt T (r .acts) w (r .next) (r .trail) (r .choice) s ds)
+      (mode : r .mode ≡ 3) (z k y e : ℕ) (t : Term Leaf) (ns : List (Term Leaf)) (ps : List Pair) (variable : r .variable ≡ 4 * y + 1) (value : WordAt T (r .acts) (s₁ .next) w (r .value) t) (waiting : PairsAt T (r .acts) (s₁ .next) ps w (r .pairs))
       (bound : y < s .next) (unbound : cellOf w y ≡ 0) (lowered : LowerAt z w) (store : StoreAt T (r .acts) (lowerTo w z k) s₁) (next : s₁ .next ≡ s .next) (bindings : s₁ .bindings ≡ s .bindings) where
+    -- The act's number.
     abbrev u : ℕ
     u = r .acts
 
+    -- The variable's place is in memory,
     y-there : There y w
-    y-there = there u y w room (let v = shared .bounded .variables in go (r .acts) v (shared .bounded .later))
-      where
-        go : (n : ℕ) → s .next ≤ 8 * n + 8 → (1 ≤ n → s .next ≤ 8 * n + 1) → y < 9 * suc n
-        go zero v l = omega arith
-        go (suc n) v l = let q = l (omega arith) in omega arith
+    y-there = there u y w room (let q = bounded-next u s (shared .bounded) .0 in omega arith)
 
+    -- and it is unbound.
     free : FreeAt (r .variable) w
     free q = rw (variable, name-is y 1 (omega arith)) (unbound, y-there)
 
@@ -84,15 +85,11 @@ module _ (T : Table) where
         let bv = shared .bounded .variables in
         record {
           store = store-up T u w′ s₂ st;
-          bounded = record { bindings = l; variables = omega arith; later = λ q. go (r .acts) bv (shared .bounded .later) };
+          bounded = record { bindings = l; least = let q = shared .bounded .least in omega arith; variables = omega arith; later = λ q. let z = bounded-next u s (shared .bounded) .1 in omega arith };
           next = shared .next ∙ sym n;
           trail = omega arith;
           alternatives = rw n (alternatives-noted T u w′ (heap-effect u w u z k a v (r .trail) (omega arith)) g (effect-before w u z k a v (r .trail) (omega arith)) (shared .trail) (shared .alternatives));
         }
-      where
-        go : (m : ℕ) → s .next ≤ 8 * m + 8 → (1 ≤ m → s .next ≤ 8 * m + 1) → s₂ .next ≤ 8 * suc m + 1
-        go zero p q = omega arith
-        go (suc m) p q = let x = q (omega arith) in omega arith
 
     -- the last node: the variable is bound
     bound-store : StoreAt T (r .acts) (effect w (r .acts) z k (r .variable) (r .value) (r .trail)) (bind s₁ y t)
@@ -102,12 +99,13 @@ module _ (T : Table) where
         let h₁ = heap-lowerTo u w z k in
         let l₁ = h₁ .len in
         let th = y-there in
-        let st : StoreAt T u (putCell w₁ y (r .value)) (bind s₁ y t) = store-bind T u w₁ s₁ y (r .value) t (omega arith) (word-heap T u w w₁ (heap-22 u w w₁ h₁) value) store in
+        let st : StoreAt T u (putCell w₁ y (r .value)) (bind s₁ y t) = store-bind T u w₁ s₁ y (r .value) t (omega arith) (word-heap T u (s₁ .next) w w₁ (heap-22 u w w₁ h₁) value) store in
         let e₂ : bindTo w₁ (r .variable) (r .value) ≡ putCell w₁ y (r .value) = ap (λ (a : ℕ). bindTo w₁ a (r .value)) variable ∙ bind-variable w₁ y (r .value) in
         let w₂ = bindTo w₁ (r .variable) (r .value) in
         store-grow T u (s₁ .next) w₂ (effect w u z k (r .variable) (r .value) (r .trail)) (bind s₁ y t) (grow-entry u (s₁ .next) w₂ u z (oldLevel w z) (r .variable) (r .trail) (omega arith)) (omega arith)
         (rw e₂ st)
 
+    -- then the pairs that wait are due
     bind-result : ResultAt T (suc (r .acts)) (bindValue w r z k) (settle (pairs (bind s₁ y t) ps) b ++ ds)
     unfolding bindValue onTrail bind
     bind-result =
@@ -116,8 +114,8 @@ module _ (T : Table) where
         let m = shared .bounded .bindings in
         let lb : length (bind s₁ y t .bindings) ≤ suc u = rw bindings (omega arith) in
         rw (up-small u (omega arith))
-        (pairs-result T (suc u) w′ (onTrail r (suc u)) (bind s₁ y t) b ds ps (r .pairs) (pairs-up T u ps w′ (r .pairs) (pairs-heap T u ps w w′ (r .pairs) h waiting))
-        (branch-up T u w′ (r .goals) (r .path) (r .line) b (branch-heap T u w w′ (r .goals) (r .path) (r .line) b h branch))
+        (pairs-result T (suc u) w′ (onTrail r (suc u)) (bind s₁ y t) b ds ps (r .pairs) (pairs-up T u (s₁ .next) (s₁ .next) ps w′ (r .pairs) (omega arith) (pairs-heap T u (s₁ .next) ps w w′ (r .pairs) h waiting))
+        (branch-up T u (s₁ .next) w′ (r .goals) (r .path) (r .line) b (branch-heap T u (s₁ .next) w w′ (r .goals) (r .path) (r .line) b h branch))
         (noted (r .variable) (r .value) free (bind s₁ y t) next lb bound-store))
 
     -- more nodes
@@ -125,7 +123,8 @@ module _ (T : Table) where
     unfolding effect bindTo
     lowered-store = store-grow T u (s₁ .next) (lowerTo w z k) (effect w u z k 0 0 (r .trail)) s₁ (grow-entry u (s₁ .next) (lowerTo w z k) u z (oldLevel w z) 0 (r .trail) (omega arith)) (omega arith) store
 
-    more-result : (n : Term Leaf) (ns : List (Term Leaf)) → NodesAt T (suc (r .acts)) (n ∷ ns) w e
+    -- the next node is due
+    more-result : (n : Term Leaf) (ns : List (Term Leaf)) → NodesAt T (suc (r .acts)) (s₁ .next) (n ∷ ns) w e
         → ResultAt T (suc (r .acts)) (made (effect w (r .acts) z k 0 0 (r .trail)) (onNodes (onTrail r (up (r .acts))) e)) (match (check s₁ y t n ns ps) b ∷ ds)
     unfolding onNodes onTrail ResultAt ConfigurationAt storeOf
     more-result n ns h =
@@ -138,46 +137,39 @@ module _ (T : Table) where
           front = record {
             mode = mode;
             variable = variable;
-            value = word-up T u w′ (word-heap T u w w′ h₀ value);
-            nodes = inr (nodes-heap T (suc u) (n ∷ ns) w w′ e h₁ h);
-            pairs = pairs-up T u ps w′ (r .pairs) (pairs-heap T u ps w w′ (r .pairs) h₀ waiting);
-            branch = branch-up T u w′ (r .goals) (r .path) (r .line) b (branch-heap T u w w′ (r .goals) (r .path) (r .line) b h₀ branch);
+            value = word-up T u (s₁ .next) (s₁ .next) w′ (omega arith) (word-heap T u (s₁ .next) w w′ h₀ value);
+            nodes = inr (nodes-heap T (suc u) (s₁ .next) (n ∷ ns) w w′ e h₁ h);
+            pairs = pairs-up T u (s₁ .next) (s₁ .next) ps w′ (r .pairs) (omega arith) (pairs-heap T u (s₁ .next) ps w w′ (r .pairs) h₀ waiting);
+            branch = branch-up T u (s₁ .next) w′ (r .goals) (r .path) (r .line) b (branch-heap T u (s₁ .next) w w′ (r .goals) (r .path) (r .line) b h₀ branch);
           };
           shared = noted 0 0 (free-none w) s₁ next lb lowered-store;
         })
 
-    pub pass-result : NodesAt T (suc (r .acts)) ns w e → ResultAt T (suc (r .acts)) (passNode w r z k e) (settle (onNode s₁ y t ns ps) b ++ ds)
+    -- After a node: level 1's `onNode`.
+    pub pass-result : NodesAt T (suc (r .acts)) (s₁ .next) ns w e → ResultAt T (suc (r .acts)) (passNode w r z k e) (settle (onNode s₁ y t ns ps) b ++ ds)
     unfolding passNode onNode settle NodesAt
     pass-result h = go ns h
       where
-        go : (ns : List (Term Leaf)) → NodesAt T (suc (r .acts)) ns w e → ResultAt T (suc (r .acts)) (passNode w r z k e) (settle (onNode s₁ y t ns ps) b ++ ds)
+        go : (ns : List (Term Leaf)) → NodesAt T (suc (r .acts)) (s₁ .next) ns w e → ResultAt T (suc (r .acts)) (passNode w r z k e) (settle (onNode s₁ y t ns ps) b ++ ds)
         go [] h = rw (eq-eqb e 0 h) bind-result
         go (n ∷ ns) h = rw (ne-eqb e 0 (λ x. let q = h .2 in omega arith)) (more-result n ns h)
 
   -- The node that is due, looked through: its word x and its term p.
   module _ (w : List ℕ) (r : Registers) (s : Store) (b : Branch) (ds : List Configuration) (room : 64 * suc (r .acts) ≤ length w) (small : r .acts < 50000)
-      (branch : BranchAt T (r .acts) w (r .goals) (r .path) (r .line) b) (shared : SharedAt T (r .acts) w (r .next) (r .trail) (r .choice) s ds)
-      (mode : r .mode ≡ 3) (y e : ℕ) (t : Term Leaf) (ns : List (Term Leaf)) (ps : List Pair) (variable : r .variable ≡ 4 * y + 1) (value : WordAt T (r .acts) w (r .value) t)
-      (waiting : PairsAt T (r .acts) ps w (r .pairs)) (bound : y < s .next) (free : cell (s .bindings) y ≡ none) where
+      (branch : BranchAt T (r .acts) (s .next) w (r .goals) (r .path) (r .line) b) (shared : SharedAt T (r .acts) w (r .next) (r .trail) (r .choice) s ds)
+      (mode : r .mode ≡ 3) (y e : ℕ) (t : Term Leaf) (ns : List (Term Leaf)) (ps : List Pair) (variable : r .variable ≡ 4 * y + 1) (value : WordAt T (r .acts) (s .next) w (r .value) t)
+      (waiting : PairsAt T (r .acts) (s .next) ps w (r .pairs)) (bound : y < s .next) (free : cell (s .bindings) y ≡ none) where
+    -- The variable that is to be bound has no word yet.
     unbound : cellOf w y ≡ 0
     unfolding CellAt
-    unbound = subst (λ (c : Option (Term Leaf)). CellAt T (r .acts) w (cellOf w y) c) free (shared .store .cells y bound)
+    unbound = subst (λ (c : Option (Term Leaf)). CellAt T (r .acts) (s .next) w (cellOf w y) c) free (shared .store .cells y bound)
 
+    -- Places of variables are in memory.
     variable-there : (z : ℕ) → z < s .next → There z w
-    variable-there z h = there (r .acts) z w room (go (r .acts) (shared .bounded .variables) (shared .bounded .later))
-      where
-        go : (n : ℕ) → s .next ≤ 8 * n + 8 → (1 ≤ n → s .next ≤ 8 * n + 1) → z < 9 * suc n
-        go zero v l = omega arith
-        go (suc n) v l = let q = l (omega arith) in omega arith
-
-    tag : (x i k : ℕ) → k < 4 → x ≡ 4 * i + k → tagOf x ≡ k
-    tag x i k l e = ap tagOf e ∙ tag-is i k l
-
-    name : (x i k : ℕ) → k < 4 → x ≡ 4 * i + k → nameOf x ≡ i
-    name x i k l e = ap nameOf e ∙ name-is i k l
+    variable-there z h = there (r .acts) z w room (let q = bounded-next (r .acts) s (shared .bounded) .0 in omega arith)
 
     -- nothing is lowered; w′ may have a record of nodes
-    passes : (w′ : List ℕ) → Grow (r .acts) (s .next) w w′ → (ns′ : List (Term Leaf)) (e′ : ℕ) → NodesAt T (suc (r .acts)) ns′ w′ e′
+    passes : (w′ : List ℕ) → Grow (r .acts) (s .next) w w′ → (ns′ : List (Term Leaf)) (e′ : ℕ) → NodesAt T (suc (r .acts)) (s .next) ns′ w′ e′
         → ResultAt T (suc (r .acts)) (passNode w′ r 0 0 e′) (settle (onNode s y t ns′ ps) b ++ ds)
     unfolding lowerTo
     passes w′ g ns′ e′ h =
@@ -185,10 +177,11 @@ module _ (T : Table) where
         let h₀ = heap-22 u w w′ (g .heap) in
         let l = g .heap .len in
         let sh = shared-same T u w w′ (r .next) (r .trail) (r .choice) s ds g shared in
-        pass-result w′ r s s b ds (omega arith) small (branch-heap T u w w′ (r .goals) (r .path) (r .line) b h₀ branch) sh mode 0 0 y e′ t ns′ ps variable
-        (word-heap T u w w′ h₀ value) (pairs-heap T u ps w w′ (r .pairs) h₀ waiting) bound (g .cells y bound ∙ unbound) (λ q. absurd (false≢true (sym q))) (sh .store) refl refl h
+        pass-result w′ r s s b ds (omega arith) small (branch-heap T u (s .next) w w′ (r .goals) (r .path) (r .line) b h₀ branch) sh mode 0 0 y e′ t ns′ ps variable
+        (word-heap T u (s .next) w w′ h₀ value) (pairs-heap T u (s .next) ps w w′ (r .pairs) h₀ waiting) bound (g .cells y bound ∙ unbound) (λ q. absurd (false≢true (sym q))) (sh .store) refl refl h
 
-    closure : (m f : ℕ) → Applied T m → FrameAt (r .acts) w f → NodesAt T (r .acts) ns w e → (w′ : List ℕ) → w′ ≡ putNodes w (r .acts) m f e
+    -- an application: its arguments wait
+    closure : (m f : ℕ) → Applied T m → FrameIn (r .acts) (s .next) w f → NodesAt T (r .acts) (s .next) ns w e → (w′ : List ℕ) → w′ ≡ putNodes w (r .acts) m f e
         → ResultAt T (suc (r .acts)) (passNode w′ r 0 0 (nodesFrom (T .numbers) w′ (up (r .acts)) 0))
         (settle (onNode s y t (pushTerms (substitutes (argumentsAt (T .numbers) m) (environmentAt w f)) ns) ps) b ++ ds)
     unfolding argumentsAt
@@ -202,14 +195,15 @@ module _ (T : Table) where
         let e₂ : field w′ u 59 ≡ e = at 2 (omega arith) in
         rw (up-small u (omega arith))
         (passes w′ g _ (nodesFrom (T .numbers) w′ (suc u) 0)
-        (rw (← environment-heap u w w′ f h₀ hf, ← e₀, ← e₁)
-        (push-nodes T (childCount (T .numbers) (field w′ u 57)) (suc u) w′ ns u 0 (omega arith) (omega arith) (rw e₀ a) (rw e₁ (frame-up u w′ f (frame-heap u w w′ f h₀ hf))) (omega arith)
-        (rw e₂ (nodes-up T u ns w′ e (nodes-heap T u ns w w′ e h₀ h))))))
+        (rw (← environment-heap u w w′ f h₀ (hf .frame), ← e₀, ← e₁)
+        (push-nodes T (childCount (T .numbers) (field w′ u 57)) (suc u) (s .next) w′ ns u 0 (omega arith) (omega arith) (rw e₀ a) (rw e₁ (framed-up u (s .next) (s .next) w′ f (omega arith) (framed-heap u (s .next) w w′ f h₀ hf))) (omega arith)
+        (rw e₂ (nodes-up T u (s .next) (s .next) ns w′ e (omega arith) (nodes-heap T u (s .next) ns w w′ e h₀ h))))))
 
-    pub visit-result : (x : ℕ) (p : Term Leaf) → WordAt T (r .acts) w x p → Leaves p (Below (s .next)) → NodesAt T (r .acts) ns w e
+    -- By the node's word: level 1's `visit`.
+    pub visit-result : (x : ℕ) (p : Term Leaf) → WordAt T (r .acts) (s .next) w x p → Leaves p (Below (s .next)) → NodesAt T (r .acts) (s .next) ns w e
         → ResultAt T (suc (r .acts)) (visitWord (T .numbers) w r e x) (settle (visit s y t p ns ps) b ++ ds)
     unfolding visitWord visitVariable visitConstant visitClosure visit settle Leaves Below lower
-    visit-result x p (word-variable {x = z} ex) l h = rw (tag x z 1 (omega arith) ex) (go (eqb z y) refl)
+    visit-result x p (word-variable {y = z} ex) l h = rw (tag-of x z 1 (omega arith) ex) (go (eqb z y) refl)
       where
         k : ℕ
         k = min (levelOf w z) (s .level y)
@@ -218,7 +212,7 @@ module _ (T : Table) where
         st = rw (ex, lower-variable w z k) (store-lower T (r .acts) w s z (s .level y) (variable-there z l) l (shared .store))
 
         lk : min (levelOf w (nameOf x)) (levelOf w (nameOf (r .variable))) ≡ k
-        lk = ap₂ min (ap (levelOf w) (name x z 1 (omega arith) ex)) (ap (levelOf w) (name (r .variable) y 1 (omega arith) variable) ∙ shared .store .levels y bound)
+        lk = ap₂ min (ap (levelOf w) (name-of x z 1 (omega arith) ex)) (ap (levelOf w) (name-of (r .variable) y 1 (omega arith) variable) ∙ shared .store .levels y bound)
 
         go : (c : Bool) → eqb z y ≡ c
             → ResultAt T (suc (r .acts)) (cond (eqb x (r .variable)) (failed w r) (passNode w r x (min (levelOf w (nameOf x)) (levelOf w (nameOf (r .variable)))) e))
@@ -227,13 +221,13 @@ module _ (T : Table) where
         go false q =
             rw (ne-eqb x (r .variable) (λ i. eqb-false z y q (omega arith)), lk)
             (pass-result w r s (lower s z (s .level y)) b ds room small branch shared mode x k y e t ns ps variable value waiting bound unbound
-            (λ i. rw (name x z 1 (omega arith) ex) (variable-there z l)) st refl refl (nodes-up T (r .acts) ns w e h))
+            (λ i. rw (name-of x z 1 (omega arith) ex) (variable-there z l)) st refl refl (nodes-up T (r .acts) (s .next) (s .next) ns w e (omega arith) h))
     visit-result x p (word-constant {c = c} {k = j} ex g v) l h =
-        rw (tag x c 2 (omega arith) ex, name x c 2 (omega arith) ex, v, name (r .variable) y 1 (omega arith) variable, shared .store .levels y bound) (go (leb j (s .level y)))
+        rw (tag-of x c 2 (omega arith) ex, name-of x c 2 (omega arith) ex, v, name-of (r .variable) y 1 (omega arith) variable, shared .store .levels y bound) (go (leb j (s .level y)))
       where
         go : (q : Bool) → ResultAt T (suc (r .acts)) (cond q (passNode w r 0 0 e) (failed w r)) (settle (cond q (onNode s y t ns ps) fail) b ++ ds)
-        go true = passes w (grow-refl (r .acts) (s .next) w) ns e (nodes-up T (r .acts) ns w e h)
+        go true = passes w (grow-refl (r .acts) (s .next) w) ns e (nodes-up T (r .acts) (s .next) (s .next) ns w e (omega arith) h)
         go false = now-failed T w r s b ds room small branch shared
     visit-result x p (word-closure {g = k} {ts = ts} m f ex a v i j) l h =
-        rw (tag x (1024 * f + m) 3 (omega arith) ex, ex, node-is m f (node-small T m (a .0)), frame-is m f (node-small T m (a .0)), ← j)
+        rw (tag-of x (1024 * f + m) 3 (omega arith) ex, ex, node-is m f (node-small T m (a .0)), frame-is m f (node-small T m (a .0)), ← j)
         (closure m f (applied T m a) v h (putNodes w (r .acts) m f e) refl)

@@ -1,15 +1,14 @@
 -- Saving a choice point opens an alternative.
-use Prim.Native.Nat.{ℕ, zero, suc, _+_, _-_, _*_, _≤_, _<_}
+use Prim.Native.Nat.{ℕ, suc, _+_, _-_, _≤_, _<_}
 use native.Mathlib.Omega.{arith}
-use mathlib.Core.Bool.{Bool, true, false, cond}
-use mathlib.Core.Path.{_≡_, refl, sym, ap, _∙_, subst}
+use mathlib.Core.Bool.{cond}
+use mathlib.Core.Path.{_≡_, refl, sym, _∙_, subst}
 use mathlib.Core.List.{List, [], _∷_}
 use lib.Dec.{eqb}
 use lib.ListN.{length, getD}
-use Rattle.unification.specs.Store.{Store}
 use Rattle.search.specs.Configurations.{Configuration}
 use Rattle.machine.specs.declared.Registers.{Registers}
-use Rattle.machine.specs.Records.{field, put, putChoice, putChosen, putPosition}
+use Rattle.machine.specs.Records.{field, putChoice, putChosen, putPosition}
 use Rattle.machine.specs.Changes.{onMode, onNext, onTrail, onChoice, onGoals, onPath, onGoal, onMember}
 use Rattle.machine.specs.Choices.{saveChoice, resumeGoal, resumeMember, resumeBranch, resume}
 use Rattle.machine.proofs.Records.{puts}
@@ -17,16 +16,18 @@ use Rattle.machine.proofs.Tables.{Table}
 use Rattle.machine.proofs.Trail.{Chain, undoAll}
 use Rattle.machine.proofs.Stores.{StoreAt}
 use Rattle.machine.proofs.Configurations.{storeOf, ConfigurationAt}
-use Rattle.machine.proofs.Alternatives.{Bounded, ChoiceAt, AlternativesAt, alternatives-more}
+use Rattle.machine.proofs.Alternatives.{Bounded, AlternativesAt, alternatives-more}
 
 -- The fields of a choice point, from 43 on.
 unfoldable pub saved : Registers → List ℕ
 saved r = r .next ∷ r .trail ∷ r .choice ∷ r .goals ∷ r .path ∷ r .line ∷ r .node ∷ r .frame ∷ r .program ∷ r .level ∷ r .hypothesis ∷ r .clause ∷ r .member ∷ r .place ∷ []
 
+-- They are written in a row.
 pub save-is : (w : List ℕ) (u : ℕ) (r : Registers) → saveChoice w u r ≡ puts (saved r) w u 43
 unfolding saveChoice putChoice putChosen putPosition puts saved
 save-is w u r = refl
 
+-- There are fourteen.
 pub saved-length : (r : Registers) → length (saved r) ≡ 14
 unfolding saved
 saved-length r = refl
@@ -36,9 +37,11 @@ unfoldable pub resumed : Registers → Registers → Registers
 resumed r q = onMode (onMember (onGoal (onPath (onGoals (onChoice (onTrail (onNext r (q .next)) (q .trail)) (q .choice)) (q .goals)) (q .path) (q .line)) (q .node) (q .frame) (q .program) (q .level))
     (q .hypothesis) (q .clause) (q .member) (q .place)) (cond (eqb (q .place) 0) 0 1)
 
+-- A record that holds them.
 abbrev pub SavedAt : List ℕ → ℕ → Registers → Type 0
 SavedAt w u q = (i : ℕ) → i < 14 → field w u (43 + i) ≡ getD (saved q) i 0
 
+-- Resuming gives back what was saved.
 resume-saved : (w : List ℕ) (u : ℕ) (r q : Registers) → SavedAt w u q → resume w r u ≡ resumed r q
 unfolding resume resumeMember resumeGoal resumeBranch resumed saved
 resume-saved w u r q e =
@@ -58,6 +61,7 @@ resume-saved w u r q e =
     let f₃ : field w u 56 ≡ q .place = e 13 (omega arith) in
     rw (e₀, e₁, e₂, e₃, e₄, e₅, e₆, e₇, e₈, e₉, f₀, f₁, f₂, f₃)
 
+-- The alternative is open: its trail is empty.
 pub choice-opened : (T : Table) (n : ℕ) (w : List ℕ) (u k : ℕ) (q : Registers) (c : Configuration) (ds : List Configuration) → u < n → SavedAt w u q → ((r : Registers) → ConfigurationAt T n w (resumed r q) c)
     → q .next ≡ storeOf c .next → storeOf c .next ≤ k → Bounded n (storeOf c) → StoreAt T n w (storeOf c) → AlternativesAt T n (storeOf c .next) w (q .choice) (q .trail) ds
     → AlternativesAt T n k w (suc u) (q .trail) (c ∷ ds)

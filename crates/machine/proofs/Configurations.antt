@@ -1,18 +1,18 @@
 -- A configuration of the search in memory and registers, and that it stays.
 use Prim.Native.Nat.{ℕ, zero, suc, _+_, _-_, _*_, _≤_, _<_}
 use native.Mathlib.Omega.{arith}
-use mathlib.Core.Bool.{Bool, true, false, cond}
-use mathlib.Core.Path.{_≡_, refl, sym, ap, ap₂, _∙_, subst}
+use mathlib.Core.Bool.{cond}
+use mathlib.Core.Path.{_≡_, refl, sym, ap, _∙_, subst}
 use mathlib.Core.List.{List, [], _∷_, _++_, map}
 use mathlib.Core.Logic.{_⊎_, inl, inr}
-use lib.Dec.{ltb, eqb}
+use lib.Dec.{eqb}
 use lib.ListN.{length, drop}
 use borrow.Author.Tests.{ne-eqb}
-use Rattle.terms.specs.Terms.{Term, leaf, app, substitutes}
-use Rattle.formulas.specs.Members.{Member, members}
-use Rattle.sequents.specs.Sequents.{Environment, Program, Entry, entry, entries, Sequent, Line}
+use Rattle.terms.specs.Terms.{Term, substitutes}
+use Rattle.formulas.specs.Members.{members}
+use Rattle.sequents.specs.Sequents.{Program, Entry, entry, entries}
 use Rattle.unification.specs.Store.{Leaf, Store}
-use Rattle.unification.specs.Matching.{Pair, Matching, pairs, check, fail}
+use Rattle.unification.specs.Matching.{Pair, pairs, check, fail}
 use Rattle.search.specs.Configurations.{Branch, Atom, Configuration, take, try, match, done}
 use Rattle.search.specs.Search.{startStore}
 use Rattle.tables.specs.Layout.{labelOf, clauseNode}
@@ -23,7 +23,7 @@ use Rattle.machine.specs.Words.{environmentAt}
 use Rattle.machine.specs.Trying.{clauseOf, clauseFrame}
 use Rattle.machine.proofs.Heap.{Heap}
 use Rattle.machine.proofs.Tables.{Table, Applied}
-use Rattle.machine.proofs.Terms.{FrameAt, frame-up, frame-heap, environment-heap, WordAt, word-heap, word-up}
+use Rattle.machine.proofs.Terms.{FrameAt, frame-up, frame-heap, environment-heap, FrameIn, framed-heap, framed-up, WordAt, word-heap, word-up}
 use Rattle.machine.proofs.Places.{PairsAt, NodesAt, pairs-heap, pairs-up, nodes-heap, nodes-up}
 use Rattle.machine.proofs.Branches.{PathAt, path-heap, path-up, ClauseOf, sheetFrom, ProgramAt, program-heap, program-up, SequentAt, sequent-heap, sequent-up, BranchAt, branch-heap, branch-up}
 
@@ -38,10 +38,10 @@ storeOf (done s ls) = s
 
 module _ (T : Table) where
   -- The atom whose members are tried.
-  pub record AtomAt (n : ℕ) (w : List ℕ) (m f h i : ℕ) (a : Atom) : Type 0 where
+  pub record AtomAt (n x : ℕ) (w : List ℕ) (m f h i : ℕ) (a : Atom) : Type 0 where
     pub node : Applied T m
     pub predicate : labelOf (T .numbers) m ≡ a .predicate
-    pub frame : FrameAt n w f
+    pub frame : FrameIn n x w f
     pub arguments : substitutes (argumentsAt (T .numbers) m) (environmentAt w f) ≡ a .arguments
     pub program : ProgramAt T n w h (a .program)
     pub level : i ≡ a .level
@@ -61,68 +61,73 @@ module _ (T : Table) where
     pub others : RestAt n w (r .hypothesis) (r .clause) rest
     pub are : es ≡ map (entry (environmentAt w (clauseFrame w r))) (drop (r .member) (members (clauseAtNode (T .numbers) (clauseOf (T .numbers) w r)))) ++ rest
 
-  pub record TryAt (n : ℕ) (w : List ℕ) (r : Registers) (a : Atom) (es : List (Entry Leaf)) (k : ℕ) (b : Branch) : Type 0 where
+  pub record TryAt (n x : ℕ) (w : List ℕ) (r : Registers) (a : Atom) (es : List (Entry Leaf)) (k : ℕ) (b : Branch) : Type 0 where
     pub mode : r .mode ≡ 1
-    pub atom : AtomAt n w (r .node) (r .frame) (r .program) (r .level) a
+    pub atom : AtomAt n x w (r .node) (r .frame) (r .program) (r .level) a
     pub position : PositionAt n w r es
     pub place : r .place ≡ k
     pub first : 1 ≤ k
     pub low : k ≤ n
-    pub branch : BranchAt T n w (r .goals) (r .path) (r .line) b
+    pub branch : BranchAt T n x w (r .goals) (r .path) (r .line) b
 
   -- The node that is due in a range check of t, and the nodes left.
-  abbrev pub DueAt : ℕ → List ℕ → ℕ → Term Leaf → Term Leaf → List (Term Leaf) → Type 0
-  DueAt n w a t x ns = ((a ≡ 0) × (x ≡ t) × (ns ≡ [])) ⊎ NodesAt T n (x ∷ ns) w a
+  abbrev pub DueAt : ℕ → ℕ → List ℕ → ℕ → Term Leaf → Term Leaf → List (Term Leaf) → Type 0
+  DueAt n v w a t x ns = ((a ≡ 0) × (x ≡ t) × (ns ≡ [])) ⊎ NodesAt T n v (x ∷ ns) w a
 
-  pub record CheckAt (n : ℕ) (w : List ℕ) (r : Registers) (y : ℕ) (t x : Term Leaf) (ns : List (Term Leaf)) (ps : List Pair) (b : Branch) : Type 0 where
+  pub record CheckAt (n v : ℕ) (w : List ℕ) (r : Registers) (y : ℕ) (t x : Term Leaf) (ns : List (Term Leaf)) (ps : List Pair) (b : Branch) : Type 0 where
     pub mode : r .mode ≡ 3
     pub variable : r .variable ≡ 4 * y + 1
-    pub value : WordAt T n w (r .value) t
-    pub nodes : DueAt n w (r .nodes) t x ns
-    pub pairs : PairsAt T n ps w (r .pairs)
-    pub branch : BranchAt T n w (r .goals) (r .path) (r .line) b
+    pub value : WordAt T n v w (r .value) t
+    pub nodes : DueAt n v w (r .nodes) t x ns
+    pub pairs : PairsAt T n v ps w (r .pairs)
+    pub branch : BranchAt T n v w (r .goals) (r .path) (r .line) b
 
-  unfoldable pub CompareAt : ℕ → List ℕ → Registers → List Pair → Branch → Type 0
-  CompareAt n w r [] b = ⊥
-  CompareAt n w r (p ∷ ps) b = (r .mode ≡ 2) × PairsAt T n (p ∷ ps) w (r .pairs) × BranchAt T n w (r .goals) (r .path) (r .line) b
+  -- Pairs left to compare: one at least.
+  unfoldable pub CompareAt : ℕ → ℕ → List ℕ → Registers → List Pair → Branch → Type 0
+  CompareAt n x w r [] b = ⊥
+  CompareAt n x w r (p ∷ ps) b = (r .mode ≡ 2) × PairsAt T n x (p ∷ ps) w (r .pairs) × BranchAt T n x w (r .goals) (r .path) (r .line) b
 
+  -- A configuration, by the act that is due.
   unfoldable pub ConfigurationAt : ℕ → List ℕ → Registers → Configuration → Type 0
-  ConfigurationAt n w r (take s g b) = (r .mode ≡ 0) × SequentAt T n w (r .node) (r .frame) (r .program) (r .level) g × BranchAt T n w (r .goals) (r .path) (r .line) b
-  ConfigurationAt n w r (try s a m ms k b) = TryAt n w r a (m ∷ ms) k b
-  ConfigurationAt n w r (match (pairs s ps) b) = CompareAt n w r ps b
-  ConfigurationAt n w r (match (check s y t x ns ps) b) = CheckAt n w r y t x ns ps b
+  ConfigurationAt n w r (take s g b) = (r .mode ≡ 0) × SequentAt T n w (r .node) (r .frame) (r .program) (r .level) g × BranchAt T n (s .next) w (r .goals) (r .path) (r .line) b
+  ConfigurationAt n w r (try s a m ms k b) = TryAt n (s .next) w r a (m ∷ ms) k b
+  ConfigurationAt n w r (match (pairs s ps) b) = CompareAt n (s .next) w r ps b
+  ConfigurationAt n w r (match (check s y t x ns ps) b) = CheckAt n (s .next) w r y t x ns ps b
   ConfigurationAt n w r (match fail b) = ⊥
-  ConfigurationAt n w r (done s ls) = (r .mode ≡ 4) × PathAt n ls w (r .path) (r .line)
+  ConfigurationAt n w r (done s ls) = (r .mode ≡ 4) × PathAt n (s .next) ls w (r .path) (r .line)
 
   -- They stay.
-  pub atom-heap : (n : ℕ) (w w′ : List ℕ) (m f h i : ℕ) (a : Atom) → Heap 22 n w w′ → AtomAt n w m f h i a → AtomAt n w′ m f h i a
-  atom-heap n w w′ m f h i a e c = record {
+  pub atom-heap : (n x : ℕ) (w w′ : List ℕ) (m f h i : ℕ) (a : Atom) → Heap 22 n w w′ → AtomAt n x w m f h i a → AtomAt n x w′ m f h i a
+  atom-heap n x w w′ m f h i a e c = record {
     node = c .node;
     predicate = c .predicate;
-    frame = frame-heap n w w′ f e (c .frame);
-    arguments = ap (substitutes (argumentsAt (T .numbers) m)) (environment-heap n w w′ f e (c .frame)) ∙ c .arguments;
+    frame = framed-heap n x w w′ f e (c .frame);
+    arguments = ap (substitutes (argumentsAt (T .numbers) m)) (environment-heap n w w′ f e (c .frame .frame)) ∙ c .arguments;
     program = program-heap T n w w′ e (c .program);
     level = c .level;
     low = c .low;
   }
 
-  pub atom-up : (n : ℕ) (w : List ℕ) (m f h i : ℕ) (a : Atom) → AtomAt n w m f h i a → AtomAt (suc n) w m f h i a
-  atom-up n w m f h i a c = record {
+  -- an act later
+  pub atom-up : (n x : ℕ) (w : List ℕ) (m f h i : ℕ) (a : Atom) → AtomAt n x w m f h i a → AtomAt (suc n) x w m f h i a
+  atom-up n x w m f h i a c = record {
     node = c .node;
     predicate = c .predicate;
-    frame = frame-up n w f (c .frame);
+    frame = framed-up n x x w f (omega arith) (c .frame);
     arguments = c .arguments;
     program = program-up T n w (c .program);
     level = c .level;
     low = let l = c .low in omega arith;
   }
 
+  -- the clauses after a position
   rest-heap : (n : ℕ) (w w′ : List ℕ) (h i : ℕ) (rest : List (Entry Leaf)) → Heap 22 n w w′ → RestAt n w h i rest → RestAt n w′ h i rest
   unfolding RestAt
   rest-heap n w w′ zero i rest e c = c
   rest-heap n w w′ (suc r) i rest e c =
       (c .0, c .1, subst (λ (x : ℕ). ProgramAt T n w′ x (c .1)) (sym (e .old r 38 (c .0) (omega arith) (omega arith))) (program-heap T n w w′ e (c .2)), c .3)
 
+  -- an act later
   rest-up : (n : ℕ) (w : List ℕ) (h i : ℕ) (rest : List (Entry Leaf)) → RestAt n w h i rest → RestAt (suc n) w h i rest
   unfolding RestAt
   rest-up n w zero i rest c = c
@@ -142,6 +147,7 @@ module _ (T : Table) where
           let z : suc q - 1 ≡ q = omega arith in
           rw (ne-eqb (suc q) 0 (λ x. omega arith), z) (e .old q 36 (c .0) (omega arith) (omega arith), e .old q 37 (c .0) (omega arith) (omega arith))
 
+  -- a position
   pub position-heap : (n : ℕ) (w w′ : List ℕ) (r : Registers) (es : List (Entry Leaf)) → Heap 22 n w w′ → PositionAt n w r es → PositionAt n w′ r es
   position-heap n w w′ r es e c =
       let z = clause-heap n w w′ r (c .rest) e (c .others) in
@@ -156,6 +162,7 @@ module _ (T : Table) where
         are = rw (z₀, z₁, environment-heap n w w′ (clauseFrame w r) e (c .frame)) (c .are);
       }
 
+  -- an act later
   pub position-up : (n : ℕ) (w : List ℕ) (r : Registers) (es : List (Entry Leaf)) → PositionAt n w r es → PositionAt (suc n) w r es
   position-up n w r es c = record {
     clause = c .clause;
@@ -178,61 +185,65 @@ module _ (T : Table) where
     are = rw (e₀, e₁, e₂) (c .are);
   }
 
-  due-heap : (n : ℕ) (w w′ : List ℕ) (a : ℕ) (t x : Term Leaf) (ns : List (Term Leaf)) → Heap 22 n w w′ → DueAt n w a t x ns → DueAt n w′ a t x ns
-  due-heap n w w′ a t x ns e (inl c) = inl c
-  due-heap n w w′ a t x ns e (inr c) = inr (nodes-heap T n (x ∷ ns) w w′ a e c)
+  -- nodes of a range check
+  due-heap : (n v : ℕ) (w w′ : List ℕ) (a : ℕ) (t x : Term Leaf) (ns : List (Term Leaf)) → Heap 22 n w w′ → DueAt n v w a t x ns → DueAt n v w′ a t x ns
+  due-heap n v w w′ a t x ns e (inl c) = inl c
+  due-heap n v w w′ a t x ns e (inr c) = inr (nodes-heap T n v (x ∷ ns) w w′ a e c)
 
-  due-up : (n : ℕ) (w : List ℕ) (a : ℕ) (t x : Term Leaf) (ns : List (Term Leaf)) → DueAt n w a t x ns → DueAt (suc n) w a t x ns
-  due-up n w a t x ns (inl c) = inl c
-  due-up n w a t x ns (inr c) = inr (nodes-up T n (x ∷ ns) w a c)
+  -- an act later
+  due-up : (n v : ℕ) (w : List ℕ) (a : ℕ) (t x : Term Leaf) (ns : List (Term Leaf)) → DueAt n v w a t x ns → DueAt (suc n) v w a t x ns
+  due-up n v w a t x ns (inl c) = inl c
+  due-up n v w a t x ns (inr c) = inr (nodes-up T n v v (x ∷ ns) w a (omega arith) c)
 
+  -- The whole configuration stays,
   pub configuration-heap : (n : ℕ) (w w′ : List ℕ) (r : Registers) (c : Configuration) → Heap 22 n w w′ → ConfigurationAt n w r c → ConfigurationAt n w′ r c
   unfolding ConfigurationAt CompareAt
   configuration-heap n w w′ r (take s g b) e h =
-      (h .0, sequent-heap T n w w′ (r .node) (r .frame) (r .program) (r .level) g e (h .1), branch-heap T n w w′ (r .goals) (r .path) (r .line) b e (h .2))
+      (h .0, sequent-heap T n w w′ (r .node) (r .frame) (r .program) (r .level) g e (h .1), branch-heap T n (s .next) w w′ (r .goals) (r .path) (r .line) b e (h .2))
   configuration-heap n w w′ r (try s a m ms k b) e h = record {
     mode = h .mode;
-    atom = atom-heap n w w′ (r .node) (r .frame) (r .program) (r .level) a e (h .atom);
+    atom = atom-heap n (s .next) w w′ (r .node) (r .frame) (r .program) (r .level) a e (h .atom);
     position = position-heap n w w′ r (m ∷ ms) e (h .position);
     place = h .place;
     first = h .first;
     low = h .low;
-    branch = branch-heap T n w w′ (r .goals) (r .path) (r .line) b e (h .branch);
+    branch = branch-heap T n (s .next) w w′ (r .goals) (r .path) (r .line) b e (h .branch);
   }
   configuration-heap n w w′ r (match (pairs s []) b) e h = h
-  configuration-heap n w w′ r (match (pairs s (p ∷ ps)) b) e h = (h .0, pairs-heap T n (p ∷ ps) w w′ (r .pairs) e (h .1), branch-heap T n w w′ (r .goals) (r .path) (r .line) b e (h .2))
+  configuration-heap n w w′ r (match (pairs s (p ∷ ps)) b) e h = (h .0, pairs-heap T n (s .next) (p ∷ ps) w w′ (r .pairs) e (h .1), branch-heap T n (s .next) w w′ (r .goals) (r .path) (r .line) b e (h .2))
   configuration-heap n w w′ r (match (check s y t x ns ps) b) e h = record {
     mode = h .mode;
     variable = h .variable;
-    value = word-heap T n w w′ e (h .value);
-    nodes = due-heap n w w′ (r .nodes) t x ns e (h .nodes);
-    pairs = pairs-heap T n ps w w′ (r .pairs) e (h .pairs);
-    branch = branch-heap T n w w′ (r .goals) (r .path) (r .line) b e (h .branch);
+    value = word-heap T n (s .next) w w′ e (h .value);
+    nodes = due-heap n (s .next) w w′ (r .nodes) t x ns e (h .nodes);
+    pairs = pairs-heap T n (s .next) ps w w′ (r .pairs) e (h .pairs);
+    branch = branch-heap T n (s .next) w w′ (r .goals) (r .path) (r .line) b e (h .branch);
   }
   configuration-heap n w w′ r (match fail b) e h = h
-  configuration-heap n w w′ r (done s ls) e h = (h .0, path-heap n ls w w′ (r .path) (r .line) e (h .1))
+  configuration-heap n w w′ r (done s ls) e h = (h .0, path-heap n (s .next) ls w w′ (r .path) (r .line) e (h .1))
 
+  -- an act later too.
   pub configuration-up : (n : ℕ) (w : List ℕ) (r : Registers) (c : Configuration) → ConfigurationAt n w r c → ConfigurationAt (suc n) w r c
   unfolding ConfigurationAt CompareAt
-  configuration-up n w r (take s g b) h = (h .0, sequent-up T n w (r .node) (r .frame) (r .program) (r .level) g (h .1), branch-up T n w (r .goals) (r .path) (r .line) b (h .2))
+  configuration-up n w r (take s g b) h = (h .0, sequent-up T n w (r .node) (r .frame) (r .program) (r .level) g (h .1), branch-up T n (s .next) w (r .goals) (r .path) (r .line) b (h .2))
   configuration-up n w r (try s a m ms k b) h = record {
     mode = h .mode;
-    atom = atom-up n w (r .node) (r .frame) (r .program) (r .level) a (h .atom);
+    atom = atom-up n (s .next) w (r .node) (r .frame) (r .program) (r .level) a (h .atom);
     position = position-up n w r (m ∷ ms) (h .position);
     place = h .place;
     first = h .first;
     low = let l = h .low in omega arith;
-    branch = branch-up T n w (r .goals) (r .path) (r .line) b (h .branch);
+    branch = branch-up T n (s .next) w (r .goals) (r .path) (r .line) b (h .branch);
   }
   configuration-up n w r (match (pairs s []) b) h = h
-  configuration-up n w r (match (pairs s (p ∷ ps)) b) h = (h .0, pairs-up T n (p ∷ ps) w (r .pairs) (h .1), branch-up T n w (r .goals) (r .path) (r .line) b (h .2))
+  configuration-up n w r (match (pairs s (p ∷ ps)) b) h = (h .0, pairs-up T n (s .next) (s .next) (p ∷ ps) w (r .pairs) (omega arith) (h .1), branch-up T n (s .next) w (r .goals) (r .path) (r .line) b (h .2))
   configuration-up n w r (match (check s y t x ns ps) b) h = record {
     mode = h .mode;
     variable = h .variable;
-    value = word-up T n w (h .value);
-    nodes = due-up n w (r .nodes) t x ns (h .nodes);
-    pairs = pairs-up T n ps w (r .pairs) (h .pairs);
-    branch = branch-up T n w (r .goals) (r .path) (r .line) b (h .branch);
+    value = word-up T n (s .next) (s .next) w (omega arith) (h .value);
+    nodes = due-up n (s .next) w (r .nodes) t x ns (h .nodes);
+    pairs = pairs-up T n (s .next) (s .next) ps w (r .pairs) (omega arith) (h .pairs);
+    branch = branch-up T n (s .next) w (r .goals) (r .path) (r .line) b (h .branch);
   }
   configuration-up n w r (match fail b) h = h
-  configuration-up n w r (done s ls) h = (h .0, path-up n ls w (r .path) (r .line) (h .1))
+  configuration-up n w r (done s ls) h = (h .0, path-up n (s .next) ls w (r .path) (r .line) (h .1))

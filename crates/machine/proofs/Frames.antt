@@ -2,27 +2,27 @@
 use Prim.Native.Nat.{ℕ, zero, suc, _+_, _-_, _*_, _/_, _%_, _≤_, _<_}
 use native.Mathlib.Omega.{arith}
 use mathlib.Core.Bool.{Bool, true, false, cond}
-use mathlib.Core.Path.{_≡_, refl, sym, ap, ap₂, _∙_, fun-ext, subst}
+use mathlib.Core.Path.{_≡_, refl, sym, ap, _∙_, fun-ext, subst}
 use mathlib.Core.List.{List, [], _∷_}
 use mathlib.Core.Logic.{_⊎_, inl, inr}
 use lib.Dec.{ltb, eqb}
 use lib.ListN.{length}
 use borrow.Author.Tests.{ltb-true, ltb-false, eqb-true, eqb-false, ne-eqb}
 use Rattle.terms.specs.Lists.{update}
-use Rattle.terms.specs.Terms.{Term, leaf, app, nil}
+use Rattle.terms.specs.Terms.{leaf, app, nil}
 use Rattle.sequents.specs.Sequents.{Environment, assign}
-use Rattle.unification.specs.Store.{Leaf, var, con, Store, past, fresh, freshLevels, freshVariables}
+use Rattle.unification.specs.Store.{Leaf, var, Store, past, fresh, freshLevels, freshVariables}
 use Rattle.unification.specs.Promises.{Formed}
 use Rattle.unification.proofs.Look.{unbound-beyond}
 use Rattle.unification.proofs.Stores.{fresh-formed}
-use Rattle.machine.specs.Records.{field, put, cellOf, levelOf, putCell, putLevel}
-use Rattle.machine.specs.Words.{up, variableWord, slotOf, leafOf, environmentAt, tagOf, nameOf}
+use Rattle.machine.specs.Records.{field, put, putCell, putLevel}
+use Rattle.machine.specs.Words.{variableWord, slotOf, leafOf, environmentAt, nameOf}
 use Rattle.machine.specs.Frames.{copyFrame, putVariable, putFresh}
-use Rattle.machine.proofs.Records.{length-put, length-cell, length-level, field-same, field-other, There, there, field-cell, field-level, puts, puts-out}
+use Rattle.machine.proofs.Records.{length-put, field-same, field-other, there, field-cell, field-level, puts, puts-out}
 use Rattle.machine.proofs.Words.{up-small, variable-small}
 use Rattle.machine.proofs.Heap.{Heap, Grow, heap-22, heap-put, grow-refl, grow-trans, grow-less, grow-put, grow-cell, grow-level}
 use Rattle.machine.proofs.Tables.{Table}
-use Rattle.machine.proofs.Terms.{LeafAt, variable-at, constant-at, leaf-up, FrameAt, frame-heap, slot-leaf, slot-heap, leaf-heap, variable-leaf, environment-heap}
+use Rattle.machine.proofs.Terms.{LeafAt, variable-at, leaf-up, FrameAt, frame-heap, slot-leaf, slot-heap, leaf-heap, variable-leaf}
 use Rattle.machine.proofs.Bindings.{unbound-cell}
 use Rattle.machine.proofs.Stores.{StoreAt, store-grow, store-fresh}
 
@@ -30,20 +30,25 @@ use Rattle.machine.proofs.Stores.{StoreAt, store-grow, store-fresh}
 abbrev pub SameFrames : List ℕ → List ℕ → Type 0
 SameFrames w w′ = (r f : ℕ) → 22 ≤ f → f < 31 → field w′ r f ≡ field w r f
 
+-- One after the other.
 pub same-trans : (a b c : List ℕ) → SameFrames a b → SameFrames b c → SameFrames a c
 same-trans a b c p q r f h k = q r f h k ∙ p r f h k
 
+-- Later fields of a record leave them.
 pub same-puts : (l w : List ℕ) (u f : ℕ) → 31 ≤ f → f + length l ≤ 64 → SameFrames w (puts l w u f)
 same-puts l w u f h k r g a b = puts-out l w u f r g k (omega arith) (inl (omega arith))
 
+-- So a leaf's word stands for the same leaf,
 leaf-same : (w w′ : List ℕ) (a : ℕ) → SameFrames w w′ → leafOf w′ a ≡ leafOf w a
 unfolding leafOf
 leaf-same w w′ a e = rw (e (nameOf a) 22 (omega arith) (omega arith))
 
+-- a slot is the same,
 slot-same : (w w′ : List ℕ) (f v : ℕ) → v < 8 → SameFrames w w′ → slotOf w′ f v ≡ slotOf w f v
 unfolding slotOf
 slot-same w w′ f v l e = rw (e (f - 1) (23 + v) (omega arith) (omega arith))
 
+-- an environment is the same,
 pub environment-same : (w w′ : List ℕ) (f : ℕ) → SameFrames w w′ → environmentAt w′ f ≡ environmentAt w f
 unfolding environmentAt
 environment-same w w′ f e = fun-ext (λ v. go v (ltb v 8) refl)
@@ -52,6 +57,7 @@ environment-same w w′ f e = fun-ext (λ v. go v (ltb v 8) refl)
     go v true q = ap leaf (leaf-same w w′ (slotOf w′ f v) e ∙ ap (leafOf w) (slot-same w w′ f v (ltb-true v 8 q) e))
     go v false q = refl
 
+-- and a frame stays one.
 pub frame-same : (n : ℕ) (w w′ : List ℕ) (f : ℕ) → SameFrames w w′ → FrameAt n w f → FrameAt n w′ f
 unfolding FrameAt
 frame-same n w w′ zero e h = tt
@@ -60,6 +66,7 @@ frame-same n w w′ (suc r) e h = (h .0, λ v l. rw (e r (23 + v) (omega arith) 
 -- Copying
 
 module _ (u f : ℕ) where
+  -- A copy leaves older records.
   pub copy-grow : (n : ℕ) (w : List ℕ) (v k : ℕ) → v + n ≤ 8 → Grow u k w (copyFrame n w u f v)
   unfolding copyFrame
   copy-grow zero w v k h = grow-refl u k w
@@ -67,12 +74,14 @@ module _ (u f : ℕ) where
       let w₁ = put w u (23 + v) (slotOf w f v) in
       grow-trans u k w w₁ (copyFrame n w₁ u f (suc v)) (grow-put u k w u (23 + v) (slotOf w f v) (omega arith) (omega arith) (omega arith)) (copy-grow n w₁ (suc v) k (omega arith))
 
+  -- Fields beside the slots stay.
   copy-out : (n : ℕ) (w : List ℕ) (v q g : ℕ) → v + n ≤ 8 → g < 64 → (g < 23 + v ⊎ 31 ≤ g) → field (copyFrame n w u f v) q g ≡ field w q g
   unfolding copyFrame
   copy-out zero w v q g h k o = refl
   copy-out (suc n) w v q g h k (inl o) = copy-out n (put w u (23 + v) (slotOf w f v)) (suc v) q g (omega arith) k (inl (omega arith)) ∙ field-other w u (23 + v) q g (slotOf w f v) (omega arith) k (λ e. omega arith)
   copy-out (suc n) w v q g h k (inr o) = copy-out n (put w u (23 + v) (slotOf w f v)) (suc v) q g (omega arith) k (inr o) ∙ field-other w u (23 + v) q g (slotOf w f v) (omega arith) k (λ e. omega arith)
 
+  -- The slots are the frame's.
   pub copy-at : (n : ℕ) (w : List ℕ) (v i : ℕ) → 64 * suc u ≤ length w → FrameAt u w f → v + n ≤ 8 → v ≤ i → i < v + n → field (copyFrame n w u f v) u (23 + i) ≡ slotOf w f i
   unfolding copyFrame
   copy-at zero w v i b h l m k = absurd (omega arith)
@@ -107,6 +116,7 @@ made-held w w′ u f e h s = record { frame = (omega arith, λ v l. rw (s v l) (
     go v true q = let l = ltb-true v 8 q in ap leaf (ap (leafOf w′) (made-slot w′ u v ∙ s v l) ∙ leaf-heap u w w′ (slotOf w f v) e (slot-leaf u w f v l h))
     go v false q = refl
 
+-- A copy is the same environment.
 pub copy-made : (w : List ℕ) (u f : ℕ) → 64 * suc u ≤ length w → FrameAt u w f → FrameMade (copyFrame 8 w u f 0) u (environmentAt w f)
 copy-made w u f b h =
     made-held w (copyFrame 8 w u f 0) u f (heap-22 u w (copyFrame 8 w u f 0) (copy-grow u f 8 w 0 0 (omega arith) .heap)) h (λ v l. copy-at u f 8 w 0 v b h (omega arith) (omega arith) (omega arith))
@@ -161,10 +171,12 @@ unfoldable pub digits : ℕ → ℕ → List ℕ
 digits zero vs = []
 digits (suc n) vs = vs % 8 ∷ digits n (vs / 8)
 
+-- Making a variable leaves frames,
 same-variable : (w : List ℕ) (x i : ℕ) → SameFrames w (putVariable w x i)
 unfolding putVariable
 same-variable w x i r f h k = field-level (putCell w x 0) x i r f (omega arith) (omega arith) ∙ field-cell w x 0 r f (omega arith) (omega arith)
 
+-- and older records and variables.
 grow-variable : (n k : ℕ) (w : List ℕ) (x i : ℕ) → k ≤ x → Grow n k w (putVariable w x i)
 unfolding putVariable
 grow-variable n k w x i h = grow-trans n k w (putCell w x 0) (putLevel (putCell w x 0) x i) (grow-cell n k w x 0 h) (grow-level n k (putCell w x 0) x i h)
@@ -174,6 +186,7 @@ pub record FreshMade (T : Table) (w w′ : List ℕ) (u : ℕ) (s s′ : Store) 
   pub frame : FrameMade w′ u e
   pub grow : Grow u (s .next) w w′
 
+-- Fresh variables for the names: level 1's `fresh` and `assign`.
 pub fresh-made : (n : ℕ) (T : Table) (w : List ℕ) (u vs i : ℕ) (s : Store) (e : Environment Leaf) → Formed s → 64 * suc u ≤ length w → u < 50000 → s .next + n ≤ 9 * suc u → StoreAt T u w s → FrameMade w u e
     → FreshMade T w (putFresh n w u vs (s .next) i) u s (fresh (digits n vs) i s) (assign (digits n vs) (freshVariables (digits n vs) (s .next)) e)
 unfolding putFresh digits fresh freshLevels past assign freshVariables

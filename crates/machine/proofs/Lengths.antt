@@ -1,15 +1,15 @@
 -- No act changes the buffer's length.
-use Prim.Native.Nat.{ℕ, zero, suc, _+_, _-_, _*_, _/_, _%_, min}
+use Prim.Native.Nat.{ℕ, zero, suc, _+_, _-_, _/_, _%_, min}
 use mathlib.Core.Bool.{Bool, true, false, cond}
-use mathlib.Core.Path.{_≡_, refl, sym, ap, _∙_}
+use mathlib.Core.Path.{_≡_, refl, ap, _∙_}
 use mathlib.Core.List.{List, [], _∷_}
 use lib.Dec.{eqb, ltb, leb}
 use lib.ListN.{length}
-use Rattle.tables.specs.Layout.{kindOf, labelOf, childOf}
+use Rattle.tables.specs.Layout.{kindOf, labelOf}
 use Rattle.machine.specs.declared.Registers.{Registers}
 use Rattle.machine.specs.declared.Found.{Found}
-use Rattle.machine.specs.Records.{field, put, levelOf, putCell, putLevel, Made, made, putEntry, putGoal, putAssumption, putPath, putUse, putChoice, putChosen, putPosition, putPairs, putNodes}
-use Rattle.machine.specs.Words.{up, tagOf, nameOf, nodeOf, frameOf, slotOf, variableWord, constantWord, lookWord}
+use Rattle.machine.specs.Records.{field, put, levelOf, putCell, putLevel, Made, made, putEntry, putGoal, putAssumption, putPath, putUse, putPairs, putNodes}
+use Rattle.machine.specs.Words.{up, tagOf, nameOf, nodeOf, frameOf, slotOf, variableWord, constantWord}
 use Rattle.machine.specs.Trail.{lowerTo, bindTo, oldLevel, effect, undoEntry, undo}
 use Rattle.machine.specs.Frames.{copyFrame, putVariable, putFresh, putVariables}
 use Rattle.machine.specs.Members.{headOf}
@@ -27,61 +27,75 @@ either : (b : Bool) (x y w : List ℕ) → length x ≡ length w → length y �
 either true x y w p q = p
 either false x y w p q = q
 
+-- What an act leaves.
 made-either : (b : Bool) (x y : Made) (w : List ℕ) → length (x .memory) ≡ length w → length (y .memory) ≡ length w → length (cond b x y .memory) ≡ length w
 made-either true x y w p q = p
 made-either false x y w p q = q
 
 -- Groups of fields
 
+-- A trail entry,
 length-entry : (w : List ℕ) (u z k y h : ℕ) → length (putEntry w u z k y h) ≡ length w
 unfolding putEntry puts
 length-entry w u z k y h = length-puts (z ∷ k ∷ y ∷ h ∷ []) w u 18
 
+-- a goal,
 length-goal : (w : List ℕ) (u a b c d e : ℕ) → length (putGoal w u a b c d e) ≡ length w
 unfolding putGoal puts
 length-goal w u a b c d e = length-puts (a ∷ b ∷ c ∷ d ∷ e ∷ []) w u 31
 
+-- an assumption,
 length-assumption : (w : List ℕ) (u a b c : ℕ) → length (putAssumption w u a b c) ≡ length w
 unfolding putAssumption puts
 length-assumption w u a b c = length-puts (a ∷ b ∷ c ∷ []) w u 36
 
+-- a line,
 length-path : (w : List ℕ) (u a b : ℕ) → length (putPath w u a b) ≡ length w
 unfolding putPath puts
 length-path w u a b = length-puts (a ∷ b ∷ []) w u 39
 
+-- a member's use,
 length-use : (w : List ℕ) (u a b c : ℕ) → length (putUse w u a b c) ≡ length w
 unfolding putUse puts
 length-use w u a b c = length-puts (a ∷ b ∷ c ∷ []) w u 41
 
+-- a choice point,
 length-choice : (w : List ℕ) (u : ℕ) (r : Registers) → length (saveChoice w u r) ≡ length w
 length-choice w u r = ap length (save-is w u r) ∙ length-puts (saved r) w u 43
 
+-- pairs,
 length-pairs : (w : List ℕ) (u a b c d e : ℕ) → length (putPairs w u a b c d e) ≡ length w
 unfolding putPairs puts
 length-pairs w u a b c d e = length-puts (a ∷ b ∷ c ∷ d ∷ e ∷ []) w u 57
 
+-- nodes.
 length-nodes : (w : List ℕ) (u a b c : ℕ) → length (putNodes w u a b c) ≡ length w
 unfolding putNodes puts
 length-nodes w u a b c = length-puts (a ∷ b ∷ c ∷ []) w u 57
 
 -- The trail
 
+-- Lowering,
 length-lowerTo : (w : List ℕ) (a k : ℕ) → length (lowerTo w a k) ≡ length w
 unfolding lowerTo
 length-lowerTo w a k = either (eqb a 0) w (putLevel w (nameOf a) k) w refl (length-level w (nameOf a) k)
 
+-- binding,
 length-bindTo : (w : List ℕ) (a v : ℕ) → length (bindTo w a v) ≡ length w
 unfolding bindTo
 length-bindTo w a v = either (eqb a 0) w (putCell w (nameOf a) v) w refl (length-cell w (nameOf a) v)
 
+-- both with their entry,
 length-effect : (w : List ℕ) (u z k y v h : ℕ) → length (effect w u z k y v h) ≡ length w
 unfolding effect
 length-effect w u z k y v h = length-entry (bindTo (lowerTo w z k) y v) u z (oldLevel w z) y h ∙ length-bindTo (lowerTo w z k) y v ∙ length-lowerTo w z k
 
+-- undoing one entry,
 length-undoEntry : (w : List ℕ) (q : ℕ) → length (undoEntry w q) ≡ length w
 unfolding undoEntry
 length-undoEntry w q = length-lowerTo (bindTo w (field w q 20) 0) (field w q 18) (field w q 19) ∙ length-bindTo w (field w q 20) 0
 
+-- undoing several,
 length-undo : (n : ℕ) (w : List ℕ) (h mark : ℕ) → length (undo n w h mark) ≡ length w
 unfolding undo
 length-undo zero w h mark = refl
@@ -92,27 +106,32 @@ length-undo (suc n) w h mark = go (eqb h mark) (length-undo n (undoEntry w (h - 
     go true i = refl
     go false i = i
 
+-- taking up an alternative.
 length-failed : (w : List ℕ) (r : Registers) → length (failed w r .memory) ≡ length w
 unfolding failed takeUp
 length-failed w r = made-either (eqb (r .choice) 0) _ (takeUp w r (r .choice - 1)) w refl (length-undo (r .trail) w (r .trail) (field w (r .choice - 1) 44))
 
 -- Frames
 
+-- Copying a frame,
 length-copy : (n : ℕ) (w : List ℕ) (u f v : ℕ) → length (copyFrame n w u f v) ≡ length w
 unfolding copyFrame
 length-copy zero w u f v = refl
 length-copy (suc n) w u f v = length-copy n (put w u (23 + v) (slotOf w f v)) u f (suc v) ∙ length-put w u (23 + v) (slotOf w f v)
 
+-- making a variable,
 length-variable : (w : List ℕ) (x i : ℕ) → length (putVariable w x i) ≡ length w
 unfolding putVariable
 length-variable w x i = length-level (putCell w x 0) x i ∙ length-cell w x 0
 
+-- the variables of a prefix,
 length-fresh : (n : ℕ) (w : List ℕ) (u vs x i : ℕ) → length (putFresh n w u vs x i) ≡ length w
 unfolding putFresh
 length-fresh zero w u vs x i = refl
 length-fresh (suc n) w u vs x i =
     length-fresh n (put (putVariable w x i) u (23 + vs % 8) (variableWord x)) u (vs / 8) (up x) i ∙ length-put (putVariable w x i) u (23 + vs % 8) (variableWord x) ∙ length-variable w x i
 
+-- those of the goal.
 pub length-variables : (n : ℕ) (w : List ℕ) (x : ℕ) → length (putVariables n w x) ≡ length w
 unfolding putVariables
 length-variables zero w x = refl
@@ -120,10 +139,12 @@ length-variables (suc n) w x = length-variables n (putVariable w x 0) (suc x) �
 
 -- Acts
 
+-- Going on with a member,
 length-tryFrom : (c : ℕ) (w : List ℕ) (r : Registers) → length (tryFrom c w r .memory) ≡ length w
 unfolding tryFrom
 length-tryFrom c w r = made-either (membersLeft c r) _ (failed w r) w refl (length-failed w r)
 
+-- taking a goal,
 length-take : (t : List ℕ) (c : ℕ) (w : List ℕ) (r : Registers) → length (takeGoal t c w r .memory) ≡ length w
 unfolding takeGoal takeAtom takeTrue takeAnd takeOr takeImplies takeExists takeForall putConstant
 length-take t c w r =
@@ -158,6 +179,7 @@ length-take t c w r =
     y : List ℕ
     y = put (put copy u 22 (up (r .level))) u (23 + labelOf t (r .node)) (constantWord u)
 
+-- comparing a pair,
 length-compareWords : (t w : List ℕ) (r : Registers) (e x y : ℕ) → length (compareWords t w r e x y .memory) ≡ length w
 unfolding compareWords compareLeaves compareClosures
 length-compareWords t w r e x y =
@@ -167,10 +189,12 @@ length-compareWords t w r e x y =
     (made-either (eqb (tagOf y) 2) (failed w r) _ w (length-failed w r)
     (made-either (eqb (labelOf t (nodeOf x)) (labelOf t (nodeOf y))) _ (failed w r) w (length-pairs w (r .acts) (nodeOf x) (frameOf x) (nodeOf y) (frameOf y) e) (length-failed w r)))))
 
+-- after a node,
 length-passNode : (w : List ℕ) (r : Registers) (z k e : ℕ) → length (passNode w r z k e .memory) ≡ length w
 unfolding passNode bindValue
 length-passNode w r z k e = made-either (eqb e 0) (bindValue w r z k) _ w (length-effect w (r .acts) z k (r .variable) (r .value) (r .trail)) (length-effect w (r .acts) z k 0 0 (r .trail))
 
+-- looking at a node,
 length-visitWord : (t w : List ℕ) (r : Registers) (e x : ℕ) → length (visitWord t w r e x .memory) ≡ length w
 unfolding visitWord visitVariable visitConstant visitClosure
 length-visitWord t w r e x =
@@ -180,6 +204,7 @@ length-visitWord t w r e x =
     (made-either (leb (field w (nameOf x) 22) (levelOf w (nameOf (r .variable)))) _ (failed w r) w (length-passNode w r 0 0 e) (length-failed w r))
     (length-passNode (putNodes w (r .acts) (nodeOf x) (frameOf x) e) r 0 0 _ ∙ length-nodes w (r .acts) (nodeOf x) (frameOf x) e))
 
+-- trying a member,
 length-tryFound : (t : List ℕ) (c : ℕ) (w : List ℕ) (r : Registers) (m : Found) → length (tryFound t c w r m .memory) ≡ length w
 unfolding tryFound tryMember putTry putBody leaveOthers putPrefix
 length-tryFound t c w r m =
@@ -199,6 +224,7 @@ length-tryFound t c w r m =
     others : List ℕ
     others = leaveOthers c used u (nextMember t w r)
 
+-- so any act,
 pub length-act : (t : List ℕ) (c : ℕ) (w : List ℕ) (r : Registers) → length (act t c w r .memory) ≡ length w
 unfolding act dueAct tryNext comparePair checkNode
 length-act t c w r =
@@ -206,6 +232,7 @@ length-act t c w r =
     (made-either (eqb (r .mode) 1) (tryNext t c w r) _ w (length-tryFound t c w r _)
     (made-either (eqb (r .mode) 2) (comparePair t w r) (checkNode t w r) w (length-compareWords t w r _ _ _) (length-visitWord t w r _ _)))
 
+-- and any number of acts.
 pub keepsLength : KeepsLength
 unfolding run
 keepsLength zero t c w r = refl

@@ -27,3 +27,4 @@ pub mod Lengths
 pub mod Acts
 pub mod Start
 pub mod Simulation
+pub mod Proved

@@ -1,25 +1,23 @@
 -- The two acts of matching, from state to state.
-use Prim.Native.Nat.{ℕ, zero, suc, _+_, _-_, _*_, _/_, _%_, _≤_, _<_}
+use Prim.Native.Nat.{ℕ, suc, _+_, _-_, _*_, _/_, _%_, _≤_, _<_}
 use native.Mathlib.Omega.{arith}
-use mathlib.Core.Bool.{Bool, true, false, cond}
-use mathlib.Core.Path.{_≡_, refl, sym, ap, ap₂, _∙_, subst}
-use mathlib.Core.List.{List, [], _∷_, _++_}
-use mathlib.Core.Logic.{_⊎_, inl, inr}
-use lib.Dec.{eqb}
+use mathlib.Core.Path.{_≡_, refl, ap, _∙_}
+use mathlib.Core.List.{List, _∷_, _++_}
+use mathlib.Core.Logic.{inl, inr}
 use lib.ListN.{length}
 use borrow.Author.Tests.{eq-eqb, ne-eqb}
-use Rattle.terms.specs.Terms.{Term, leaf}
-use Rattle.unification.specs.Store.{Leaf, var, Store, look}
-use Rattle.unification.specs.Matching.{Pair, Matching, pairs, check, fail, compareTerms, visit, matchStep}
+use Rattle.terms.specs.Terms.{Term}
+use Rattle.unification.specs.Store.{Leaf, Store, look}
+use Rattle.unification.specs.Matching.{Pair, pairs, check, matchStep}
 use Rattle.unification.proofs.Look.{look-below}
-use Rattle.unification.proofs.Invariant.{Good, Checking, Running}
+use Rattle.unification.proofs.Invariant.{Running}
 use Rattle.search.specs.Configurations.{Branch, Configuration, match}
-use Rattle.search.specs.Steps.{settle, step}
-use Rattle.search.proofs.Invariant.{GoalsBelow, Invariant}
+use Rattle.search.specs.Steps.{settle}
+use Rattle.search.proofs.Invariant.{Invariant}
 use Rattle.machine.specs.declared.Registers.{Registers}
-use Rattle.machine.specs.Records.{field, Made}
+use Rattle.machine.specs.Records.{field}
 use Rattle.machine.specs.Words.{lookWord}
-use Rattle.machine.specs.Matching.{pairsFrom, nodesFrom, argumentWord, compareWords, comparePair, visitWord, dueWord, nodesAfter, checkNode}
+use Rattle.machine.specs.Matching.{pairsFrom, argumentWord, comparePair, dueWord, nodesAfter, checkNode}
 use Rattle.machine.proofs.Words.{place-record, place-argument}
 use Rattle.machine.proofs.Tables.{Table, few-arguments}
 use Rattle.machine.proofs.Terms.{WordAt}
@@ -32,6 +30,7 @@ use Rattle.machine.proofs.Comparing.{compare-result}
 use Rattle.machine.proofs.Checking.{visit-result}
 
 module _ (T : Table) (w : List ℕ) (r : Registers) (b : Branch) (ds : List Configuration) (room : 64 * suc (r .acts) ≤ length w) (small : r .acts < 50000) where
+  -- Comparing the pair that is due.
   pub compare-act : (s : Store) (p : Pair) (ps : List Pair) → Invariant (match (pairs s (p ∷ ps)) b) → StateAt T (r .acts) w r (match (pairs s (p ∷ ps)) b) ds
       → ResultAt T (suc (r .acts)) (comparePair (T .numbers) w r) (settle (matchStep (pairs s (p ∷ ps))) b ++ ds)
   unfolding comparePair matchStep Invariant Running ConfigurationAt CompareAt PairsAt storeOf
@@ -45,8 +44,8 @@ module _ (T : Table) (w : List ℕ) (r : Registers) (b : Branch) (ds : List Conf
       let good = i .1 .0 .formed in
       let below = i .1 .1 .0 in
       let k = few-arguments T (field w q 57) j (P .4 .node) (P .4 .more) in
-      let a₁ : WordAt T u w (argumentWord (T .numbers) w (r .pairs) 57) (p .goal) = place-word T u w (r .pairs) q j 57 (p .goal) (omega arith) e (P .4) in
-      let a₂ : WordAt T u w (argumentWord (T .numbers) w (r .pairs) 59) (p .clause) = place-word T u w (r .pairs) q j 59 (p .clause) (omega arith) e (P .5) in
+      let a₁ : WordAt T u (s .next) w (argumentWord (T .numbers) w (r .pairs) 57) (p .goal) = place-word T u (s .next) w (r .pairs) q j 57 (p .goal) (omega arith) e (P .4) in
+      let a₂ : WordAt T u (s .next) w (argumentWord (T .numbers) w (r .pairs) 59) (p .clause) = place-word T u (s .next) w (r .pairs) q j 59 (p .clause) (omega arith) e (P .5) in
       let bs = s .bindings in
       let m = st .shared .bounded .bindings in
       let x₁ = look-word T u w s (st .shared .store) (good .bound) (good .below) u a₁ (below .0) (let h = hops-le bs (p .goal) in omega arith) in
@@ -58,11 +57,11 @@ module _ (T : Table) (w : List ℕ) (r : Registers) (b : Branch) (ds : List Conf
       (lookWord u w (argumentWord (T .numbers) w (r .pairs) 59)) (look bs (p .goal)) (look bs (p .clause)) ps x₁ x₂ (P .6))
 
   -- the node that is due
-  due-word : (t x : Term Leaf) (ns : List (Term Leaf)) → WordAt T (r .acts) w (r .value) t → DueAt T (r .acts) w (r .nodes) t x ns
-      → WordAt T (r .acts) w (dueWord (T .numbers) w r) x × NodesAt T (r .acts) ns w (nodesAfter (T .numbers) w (r .nodes))
+  due-word : (v : ℕ) (t x : Term Leaf) (ns : List (Term Leaf)) → WordAt T (r .acts) v w (r .value) t → DueAt T (r .acts) v w (r .nodes) t x ns
+      → WordAt T (r .acts) v w (dueWord (T .numbers) w r) x × NodesAt T (r .acts) v ns w (nodesAfter (T .numbers) w (r .nodes))
   unfolding dueWord nodesAfter NodesAt
-  due-word t x ns v (inl d) = rw (eq-eqb (r .nodes) 0 (d .0), d .1, d .2) (v, refl)
-  due-word t x ns v (inr d) =
+  due-word n t x ns v (inl d) = rw (eq-eqb (r .nodes) 0 (d .0), d .1, d .2) (v, refl)
+  due-word n t x ns v (inr d) =
       let u = r .acts in
       let q = d .0 in
       let j = d .1 in
@@ -70,8 +69,9 @@ module _ (T : Table) (w : List ℕ) (r : Registers) (b : Branch) (ds : List Conf
       let k = few-arguments T (field w q 57) j (d .4 .node) (d .4 .more) in
       let e₀ : r .nodes / 4 ≡ suc q = ap (λ (z : ℕ). z / 4) e ∙ place-record (suc q) j k in
       let e₁ : r .nodes % 4 + 1 ≡ suc j = ap (λ (z : ℕ). z % 4 + 1) e ∙ ap (λ (z : ℕ). z + 1) (place-argument (suc q) j k) ∙ (omega arith) in
-      rw (ne-eqb (r .nodes) 0 (λ z. omega arith), e₀, e₁) (place-word T u w (r .nodes) q j 57 x (omega arith) e (d .4), d .5)
+      rw (ne-eqb (r .nodes) 0 (λ z. omega arith), e₀, e₁) (place-word T u n w (r .nodes) q j 57 x (omega arith) e (d .4), d .5)
 
+  -- Looking at the node that is due.
   pub check-act : (s : Store) (y : ℕ) (t x : Term Leaf) (ns : List (Term Leaf)) (ps : List Pair) → Invariant (match (check s y t x ns ps) b)
       → StateAt T (r .acts) w r (match (check s y t x ns ps) b) ds → ResultAt T (suc (r .acts)) (checkNode (T .numbers) w r) (settle (matchStep (check s y t x ns ps)) b ++ ds)
   unfolding checkNode matchStep Invariant Running ConfigurationAt storeOf
@@ -80,7 +80,7 @@ module _ (T : Table) (w : List ℕ) (r : Registers) (b : Branch) (ds : List Conf
       let f = st .front in
       let c = i .1 .0 in
       let good = c .good .formed in
-      let d = due-word t x ns (f .value) (f .nodes) in
+      let d = due-word (s .next) t x ns (f .value) (f .nodes) in
       let m = st .shared .bounded .bindings in
       let bs = s .bindings in
       let v = look-word T u w s (st .shared .store) (good .bound) (good .below) u (d .0) (c .nodes .0) (let h = hops-le bs x in omega arith) in

@@ -1,8 +1,8 @@
 -- The member that the machine finds is the k-th of level 1's list.
-use Prim.Native.Nat.{ℕ, zero, suc, _+_, _-_, _*_, _/_, _%_, _≤_, _<_}
+use Prim.Native.Nat.{ℕ, zero, suc, _+_, _-_, _*_, _≤_, _<_}
 use native.Mathlib.Omega.{arith}
 use mathlib.Core.Bool.{Bool, true, false, not, _&&_, _||_, cond}
-use mathlib.Core.Path.{_≡_, refl, sym, ap, ap₂, _∙_, subst}
+use mathlib.Core.Path.{_≡_, refl, sym, ap, _∙_}
 use mathlib.Core.List.{List, [], _∷_, _++_, map}
 use mathlib.Core.Option.{Option, none, some, Option·map}
 use mathlib.Core.Logic.{_⊎_, inl, inr}
@@ -11,15 +11,15 @@ use lib.ListN.{length, drop}
 use borrow.Author.Tests.{ltb-true, ltb-false}
 use Rattle.terms.specs.Lists.{elem}
 use Rattle.terms.proofs.Lists.{length-map}
-use Rattle.formulas.specs.Formulas.{Goal, Clause, fact, rule, both, each, freeTs, freeG, freeC, freeB}
+use Rattle.formulas.specs.Formulas.{Goal, Clause, both, each, freeTs, freeG, freeC, freeB}
 use Rattle.formulas.specs.Members.{Member, standsFree, quantify, members}
 use Rattle.tables.specs.Layout.{kindOf, labelOf, childOf, maskOf, bitOf, membersOf}
 use Rattle.tables.specs.Decoding.{argumentsAt, goalAt, clauseAtNode}
-use Rattle.tables.specs.WellMade.{IsClause, ClauseNode}
+use Rattle.tables.specs.WellMade.{ClauseNode}
 use Rattle.tables.proofs.Decoding.{ClauseKind, fact-kind, both-kind, rule-kind, each-kind, clause-kind, clause-fact, clause-both, clause-rule, clause-each}
 use Rattle.machine.specs.declared.Found.{Found}
 use Rattle.machine.specs.Words.{narrow, up}
-use Rattle.machine.specs.Members.{found, hasName, addName, findMember, headOf}
+use Rattle.machine.specs.Members.{found, addName, findMember, headOf}
 use Rattle.machine.proofs.Words.{narrow-small, up-small}
 use Rattle.machine.proofs.Tables.{Table, nodes-are, Applied}
 use Rattle.machine.proofs.Branches.{ClauseOf}
@@ -32,24 +32,28 @@ nth [] k = none
 nth (a ∷ l) zero = some a
 nth (a ∷ l) (suc k) = nth l k
 
+-- of a mapped list
 nth-map : {A B : Type 0} (f : A → B) (l : List A) (k : ℕ) → nth (map f l) k ≡ Option·map f (nth l k)
 unfolding nth
 nth-map f [] k = refl
 nth-map f (a ∷ l) zero = refl
 nth-map f (a ∷ l) (suc k) = nth-map f l k
 
+-- of the first of two lists
 nth-left : {A : Type 0} (x y : List A) (k : ℕ) → k < length x → nth (x ++ y) k ≡ nth x k
 unfolding nth
 nth-left [] y k h = absurd (omega arith)
 nth-left (a ∷ x) y zero h = refl
 nth-left (a ∷ x) y (suc k) h = nth-left x y k (omega arith)
 
+-- of the second
 nth-right : {A : Type 0} (x y : List A) (k : ℕ) → length x ≤ k → nth (x ++ y) k ≡ nth y (k - length x)
 unfolding nth
 nth-right [] y k h = let e : k - 0 ≡ k = omega arith in rw e
 nth-right (a ∷ x) y zero h = absurd (omega arith)
 nth-right (a ∷ x) y (suc k) h = let e : suc k - suc (length x) ≡ k - length x = omega arith in rw e (nth-right x y k (omega arith))
 
+-- the length of two lists
 length-append : {A : Type 0} (x y : List A) → length (x ++ y) ≡ length x + length y
 length-append [] y = omega arith
 length-append (a ∷ x) y = let q = length-append x y in omega arith
@@ -61,6 +65,7 @@ drop-nth [] k a e = absurd (let z : _≡_ {A = ℕ} 0 1 = cc in omega arith)
 drop-nth (b ∷ l) zero a e = let q : b ≡ a = cc in rw q
 drop-nth (b ∷ l) (suc k) a e = drop-nth l k a e
 
+-- Either order of a disjunction.
 or-comm : (a b : Bool) → (a || b) ≡ (b || a)
 or-comm true true = refl
 or-comm true false = refl
@@ -68,6 +73,7 @@ or-comm false true = refl
 or-comm false false = refl
 
 module _ (T : Table) where
+  -- The table.
   abbrev t : List ℕ
   t = T .numbers
 
@@ -84,9 +90,11 @@ module _ (T : Table) where
     pub clause : ClauseOf T n
     pub kind : (kindOf (T .numbers) n ≡ 2) ⊎ (kindOf (T .numbers) n ≡ 6)
 
+  -- What a clause's node satisfies.
   clause-node : (n : ℕ) → ClauseOf T n → ClauseNode (T .numbers) n
   clause-node n h = T .made .clauseNodes n (h .0) (h .1)
 
+  -- Its head has arguments.
   pub head-applied : (n : ℕ) → LeafOf n → Applied T (headOf (T .numbers) n)
   unfolding headOf
   head-applied n h = go (h .kind)
@@ -150,11 +158,13 @@ module _ (T : Table) where
   unfolding memberOf bodyOf headOf digits
   fact-member n e = rw (e)
 
+  -- a rule
   rule-member : (n : ℕ) → kindOf (T .numbers) n ≡ 6
       → memberOf (found n 0 0) ≡ record { prefix = []; predicate = labelOf (T .numbers) (childOf (T .numbers) n 1); arguments = argumentsAt (T .numbers) (childOf (T .numbers) n 1); body = some (goalAt (T .numbers) (childOf (T .numbers) n 0)) }
   unfolding memberOf bodyOf headOf digits
   rule-member n e = rw (e)
 
+  -- The k-th member, by walking down.
   pub member-found : (f n k : ℕ) → n < f → ClauseOf T n → k < length (members (clauseAtNode (T .numbers) n)) → FoundAt n k (findMember f (T .numbers) n k)
   unfolding findMember members
   member-found zero n k l h b = absurd (omega arith)

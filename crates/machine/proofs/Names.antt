@@ -2,15 +2,13 @@
 use Prim.Native.Nat.{ℕ, zero, suc, _+_, _-_, _*_, _/_, _%_, _≤_, _<_}
 use native.Mathlib.Omega.{arith}
 use mathlib.Core.Bool.{Bool, true, false, cond, false≢true}
-use mathlib.Core.Path.{_≡_, refl, sym, ap, ap₂, _∙_}
+use mathlib.Core.Path.{_≡_, refl, sym, ap, _∙_}
 use mathlib.Core.List.{List, [], _∷_}
 use lib.Dec.{eqb}
 use lib.ListN.{length}
-use borrow.Author.Tests.{eqb-true, eqb-false, eq-eqb}
+use borrow.Author.Tests.{eqb-true, eqb-false}
 use Rattle.terms.specs.Lists.{All, elem}
-use Rattle.machine.specs.Words.{narrow}
 use Rattle.machine.specs.Members.{hasName}
-use Rattle.machine.proofs.Words.{narrow-small}
 use Rattle.machine.proofs.Frames.{digits}
 
 -- Different numbers below k are at most k.
@@ -18,6 +16,7 @@ unfoldable pub Different : List ℕ → Type 0
 Different [] = Unit {0}
 Different (a ∷ l) = (elem a l ≡ false) × Different l
 
+-- The list without k.
 unfoldable without : ℕ → List ℕ → List ℕ
 without k [] = []
 without k (a ∷ l) = cond (eqb a k) (without k l) (a ∷ without k l)
@@ -31,6 +30,7 @@ absent a b l h = go (eqb b a) h
     go true h = absurd (false≢true (sym h))
     go false h = (refl, h)
 
+-- What is absent stays absent,
 without-absent : (k a : ℕ) (l : List ℕ) → elem a l ≡ false → elem a (without k l) ≡ false
 unfolding without elem
 without-absent k a [] h = refl
@@ -40,6 +40,7 @@ without-absent k a (b ∷ l) h = let p = absent a b l h in go (eqb b k) (p .0) (
     go true p i = i
     go false p i = rw (elem, p) i
 
+-- different numbers stay different,
 without-different : (k : ℕ) (l : List ℕ) → Different l → Different (without k l)
 unfolding without Different
 without-different k [] h = tt
@@ -49,6 +50,7 @@ without-different k (a ∷ l) h = go (eqb a k) (without-different k l (h .1))
     go true i = i
     go false i = (without-absent k a l (h .0), i)
 
+-- what is left is below k,
 without-below : (k : ℕ) (l : List ℕ) → All (λ a. a < suc k) l → All (λ a. a < k) (without k l)
 unfolding without
 without-below k [] h = tt
@@ -58,11 +60,13 @@ without-below k (a ∷ l) h = go (eqb a k) refl (without-below k l (h .1))
     go true e i = i
     go false e i = (let d = eqb-false a k e in let m = h .0 in omega arith, i)
 
+-- nothing is lost where k is absent,
 without-all : (k : ℕ) (l : List ℕ) → elem k l ≡ false → length (without k l) ≡ length l
 unfolding without
 without-all k [] h = refl
 without-all k (a ∷ l) h = let p = absent k a l h in rw (p .0) (ap suc (without-all k l (p .1)))
 
+-- and at most one is lost.
 without-length : (k : ℕ) (l : List ℕ) → Different l → length l ≤ suc (length (without k l))
 unfolding without Different
 without-length k [] h = omega arith
@@ -75,6 +79,7 @@ without-length k (a ∷ l) h = go (eqb a k) refl (without-length k l (h .1))
         subst-elem p x = ap (λ (z : ℕ). elem z l) (sym p) ∙ x
     go false e i = omega arith
 
+-- So there are at most k.
 pub few-different : (k : ℕ) (l : List ℕ) → Different l → All (λ a. a < k) l → length l ≤ k
 few-different zero [] d h = omega arith
 few-different zero (a ∷ l) d h = absurd (let m = h .0 in omega arith)
@@ -88,6 +93,7 @@ unfoldable pub power : ℕ → ℕ
 power zero = 1
 power (suc c) = 8 * power c
 
+-- Seven digits.
 power-small : (c : ℕ) → c ≤ 7 → power c ≤ 2097152
 unfolding power
 power-small zero h = omega arith
@@ -100,16 +106,19 @@ power-small (suc (suc (suc (suc (suc (suc zero)))))) h = omega arith
 power-small (suc (suc (suc (suc (suc (suc (suc zero))))))) h = omega arith
 power-small (suc (suc (suc (suc (suc (suc (suc (suc c)))))))) h = absurd (omega arith)
 
+-- As many names as digits,
 pub digits-length : (n vs : ℕ) → length (digits n vs) ≡ n
 unfolding digits
 digits-length zero vs = refl
 digits-length (suc n) vs = ap suc (digits-length n (vs / 8))
 
+-- each below 8.
 pub digits-below : (n vs : ℕ) → All (λ v. v < 8) (digits n vs)
 unfolding digits
 digits-below zero vs = tt
 digits-below (suc n) vs = (omega arith, digits-below n (vs / 8))
 
+-- The machine's test is level 1's.
 pub has-name : (n vs v : ℕ) → hasName n vs v ≡ elem v (digits n vs)
 unfolding hasName digits elem
 has-name zero vs v = refl
@@ -124,12 +133,15 @@ pub record Packed (n vs : ℕ) : Type 0 where
   pub different : Different (digits n vs)
   pub low : vs < power n
 
+-- There are at most eight.
 pub packed-few : (n vs : ℕ) → Packed n vs → n ≤ 8
 packed-few n vs p = let q = few-different 8 (digits n vs) (p .different) (digits-below n vs) in let l = digits-length n vs in omega arith
 
+-- The lowest digit,
 mod8 : (v vs : ℕ) → v < 8 → (v + 8 * vs) % 8 ≡ v
 mod8 v vs h = omega arith
 
+-- and the others.
 div8 : (v vs : ℕ) → v < 8 → (v + 8 * vs) / 8 ≡ vs
 div8 v vs h = omega arith
 
@@ -138,6 +150,7 @@ pub digits-more : (n v vs : ℕ) → v < 8 → digits (suc n) (v + 8 * vs) ≡ v
 unfolding digits
 digits-more n v vs h = rw (mod8 v vs h, div8 v vs h)
 
+-- It fits 32 bits, and the digits still differ.
 pub packed-more : (n v vs : ℕ) → v < 8 → elem v (digits n vs) ≡ false → Packed n vs → Packed (suc n) (v + 8 * vs) × (v + 8 * vs < 4294967296) × (n ≤ 7)
 unfolding power Different
 packed-more n v vs h e p =

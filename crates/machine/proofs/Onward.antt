@@ -1,32 +1,32 @@
 -- Going on after an act: with the next goal, with the next pair, or with the verdict.
-use Prim.Native.Nat.{ℕ, zero, suc, _+_, _-_, _*_, _≤_, _<_}
+use Prim.Native.Nat.{ℕ, zero, suc, _+_, _-_}
 use native.Mathlib.Omega.{arith}
-use mathlib.Core.Bool.{Bool, true, false, cond}
-use mathlib.Core.Path.{_≡_, refl, sym, ap, _∙_, subst}
+use mathlib.Core.Bool.{cond}
+use mathlib.Core.Path.{_≡_, refl}
 use mathlib.Core.List.{List, [], _∷_, _++_}
 use mathlib.Core.Option.{Option}
 use lib.Dec.{eqb}
-use lib.ListN.{length}
 use borrow.Author.Tests.{eq-eqb, ne-eqb}
-use Rattle.sequents.specs.Sequents.{Sequent, Line}
+use Rattle.sequents.specs.Sequents.{Sequent}
 use Rattle.unification.specs.Store.{Leaf, Store}
 use Rattle.unification.specs.Matching.{Pair, pairs, comparing}
 use Rattle.search.specs.Configurations.{Branch, Configuration}
 use Rattle.search.specs.Steps.{settle}
 use Rattle.search.specs.Steps as level1
 use Rattle.machine.specs.declared.Registers.{Registers}
-use Rattle.machine.specs.Records.{field, Made, made}
+use Rattle.machine.specs.Records.{made}
 use Rattle.machine.specs.Changes.{onMode, onGoals, onGoal, onPairs}
 use Rattle.machine.specs.Goals.{dueGoal, proceed}
 use Rattle.machine.specs.Matching.{duePairs}
 use Rattle.machine.proofs.Tables.{Table}
 use Rattle.machine.proofs.Places.{PairsAt, Pushed}
-use Rattle.machine.proofs.Branches.{PathAt, GoalsAt, BranchAt}
+use Rattle.machine.proofs.Branches.{GoalsAt, BranchAt}
 use Rattle.machine.proofs.Configurations.{storeOf, CompareAt, ConfigurationAt}
-use Rattle.machine.proofs.Alternatives.{SharedAt, StateAt, ResultAt}
+use Rattle.machine.proofs.Alternatives.{SharedAt, ResultAt}
 
 module _ (T : Table) where
-  pub proceed-result : (n : ℕ) (w : List ℕ) (r : Registers) (s : Store) (b : Branch) (ds : List Configuration) → BranchAt T n w (r .goals) (r .path) (r .line) b
+  -- The next goal, or the end: level 1's `proceed`.
+  pub proceed-result : (n : ℕ) (w : List ℕ) (r : Registers) (s : Store) (b : Branch) (ds : List Configuration) → BranchAt T n (s .next) w (r .goals) (r .path) (r .line) b
       → SharedAt T n w (r .next) (r .trail) (r .choice) s ds → ResultAt T n (made w (proceed w r)) (level1.proceed s (b .goals) (b .path) ++ ds)
   unfolding proceed dueGoal onGoal onGoals onMode level1.proceed GoalsAt ResultAt ConfigurationAt storeOf
   proceed-result n w r s b ds h c = go (b .goals) (r .goals) refl (h .waiting)
@@ -39,14 +39,15 @@ module _ (T : Table) where
           let z : r .goals - 1 ≡ q = omega arith in
           rw (ne-eqb (r .goals) 0 (λ x. omega arith), z) (record { front = (refl, i .1, record { waiting = i .2; taken = h .taken }); shared = c })
 
-  pub pairs-result : (n : ℕ) (w : List ℕ) (r : Registers) (s : Store) (b : Branch) (ds : List Configuration) (ps : List Pair) (a : ℕ) → PairsAt T n ps w a
-      → BranchAt T n w (r .goals) (r .path) (r .line) b → SharedAt T n w (r .next) (r .trail) (r .choice) s ds → ResultAt T n (made w (duePairs w r a)) (settle (pairs s ps) b ++ ds)
+  -- The next pair, or the next goal: level 1's `settle`.
+  pub pairs-result : (n : ℕ) (w : List ℕ) (r : Registers) (s : Store) (b : Branch) (ds : List Configuration) (ps : List Pair) (a : ℕ) → PairsAt T n (s .next) ps w a
+      → BranchAt T n (s .next) w (r .goals) (r .path) (r .line) b → SharedAt T n w (r .next) (r .trail) (r .choice) s ds → ResultAt T n (made w (duePairs w r a)) (settle (pairs s ps) b ++ ds)
   unfolding duePairs onPairs settle PairsAt ResultAt ConfigurationAt CompareAt storeOf
   pairs-result n w r s b ds [] a p h c = rw (eq-eqb a 0 p) (proceed-result n w r s b ds h c)
   pairs-result n w r s b ds (q ∷ ps) a p h c = rw (ne-eqb a 0 (λ x. let e = p .2 in omega arith)) (record { front = (refl, p, h); shared = c })
 
   -- the arguments of two applications
-  pub pushed-result : (n : ℕ) (w : List ℕ) (r : Registers) (s : Store) (b : Branch) (ds : List Configuration) (o : Option (List Pair)) (a : ℕ) → Pushed T n w o a
-      → BranchAt T n w (r .goals) (r .path) (r .line) b → SharedAt T n w (r .next) (r .trail) (r .choice) s ds → ResultAt T n (made w (duePairs w r a)) (settle (comparing s o) b ++ ds)
+  pub pushed-result : (n : ℕ) (w : List ℕ) (r : Registers) (s : Store) (b : Branch) (ds : List Configuration) (o : Option (List Pair)) (a : ℕ) → Pushed T n (s .next) w o a
+      → BranchAt T n (s .next) w (r .goals) (r .path) (r .line) b → SharedAt T n w (r .next) (r .trail) (r .choice) s ds → ResultAt T n (made w (duePairs w r a)) (settle (comparing s o) b ++ ds)
   unfolding comparing
   pushed-result n w r s b ds o a p h c = rw (p .is) (pairs-result n w r s b ds (p .list) a (p .there) h c)

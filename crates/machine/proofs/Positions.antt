@@ -1,13 +1,12 @@
 -- The members left to try, from a position in the program.
-use Prim.Native.Nat.{ℕ, zero, suc, _+_, _-_, _*_, _/_, _%_, _≤_, _<_}
+use Prim.Native.Nat.{ℕ, zero, suc, _+_, _-_, _≤_, _<_}
 use native.Mathlib.Omega.{arith}
 use mathlib.Core.Bool.{Bool, true, false, cond}
-use mathlib.Core.Path.{_≡_, refl, sym, ap, ap₂, _∙_, subst}
+use mathlib.Core.Path.{_≡_, refl, ap, _∙_, subst}
 use mathlib.Core.List.{List, [], _∷_, _++_, map}
-use mathlib.Core.Option.{Option, none, some}
 use lib.Dec.{eqb, ltb}
 use lib.ListN.{length, drop, drop-of-length-le}
-use borrow.Author.Tests.{ltb-true, ltb-false, lt-ltb, le-ltb, eq-eqb, ne-eqb}
+use borrow.Author.Tests.{ltb-true, ltb-false, lt-ltb, le-ltb, ne-eqb}
 use Rattle.formulas.specs.Formulas.{Clause}
 use Rattle.formulas.specs.Members.{Member, members}
 use Rattle.sequents.specs.Sequents.{Environment, Program, hypothesis, Entry, entry, entries}
@@ -28,9 +27,10 @@ use Rattle.machine.proofs.Tables.{Table, node-small}
 use Rattle.machine.proofs.Terms.{FrameAt}
 use Rattle.machine.proofs.Branches.{first-environment, ClauseOf, sheetFrom, ProgramAt, program-sheet, program-more}
 use Rattle.machine.proofs.Configurations.{RestAt, PositionAt}
-use Rattle.machine.proofs.Members.{nth, drop-nth, memberOf, FoundAt, member-found}
+use Rattle.machine.proofs.Members.{drop-nth, memberOf, FoundAt, member-found}
 
 module _ (T : Table) where
+  -- The table.
   abbrev t : List ℕ
   t = T .numbers
 
@@ -39,6 +39,7 @@ module _ (T : Table) where
     some-left : membersLeft (T .clauses) r ≡ true → PositionAt T n w r es → MembersAt n w r es
     none-left : membersLeft (T .clauses) r ≡ false → es ≡ [] → MembersAt n w r es
 
+  -- A clause has 1 to 64 members.
   clause-count : (c : ℕ) → ClauseOf T c → (membersOf (T .numbers) c ≡ length (members (clauseAtNode (T .numbers) c))) × (1 ≤ membersOf (T .numbers) c) × (membersOf (T .numbers) c ≤ 64)
   clause-count c h = let k = T .made .clauseNodes c (h .0) (h .1) in (k .members, h .1, k .few)
 
@@ -58,10 +59,12 @@ module _ (T : Table) where
       some-left (lt-ltb i (T .clauses) l)
       (position-start n w (onMember r 0 i 0 p) (clauseNode t i) 0 startEnvironment (entries (sheetFrom T (T .clauses - suc i) (suc i))) refl refl refl (T .made .clause i l) tt (first-environment w) (l, refl))
 
+  -- past the last clause
   sheet-last : (n : ℕ) (w : List ℕ) (r : Registers) (i p : ℕ) → T .clauses ≤ i → MembersAt n w (onMember r 0 i 0 p) (entries (sheetFrom T 0 i))
   unfolding onMember membersLeft clausesFrom sheetProgram entries
   sheet-last n w r i p l = none-left (le-ltb i (T .clauses) l) refl
 
+  -- either
   pub sheet-members : (n : ℕ) (w : List ℕ) (r : Registers) (i p : ℕ) → MembersAt n w (onMember r 0 i 0 p) (entries (sheetFrom T (T .clauses - i) i))
   sheet-members n w r i p = go (ltb i (T .clauses)) refl
     where
@@ -112,6 +115,7 @@ module _ (T : Table) where
       here zero o = lt-ltb (r .clause) (T .clauses) (o .0)
       here (suc q) o = rw (ne-eqb (suc q) 0 (λ x. omega arith))
 
+  -- either that or the next clause
   next-member : (n : ℕ) (w : List ℕ) (r : Registers) (es : List (Entry Leaf)) (c : PositionAt T n w r es)
       → MembersAt n w (nextMember (T .numbers) w r) (map (entry (environmentAt w (clauseFrame w r))) (drop (suc (r .member)) (members (clauseAtNode (T .numbers) (clauseOf (T .numbers) w r)))) ++ c .rest)
   unfolding nextMember
@@ -133,6 +137,7 @@ module _ (T : Table) where
           let d : drop (suc (r .member)) ms ≡ [] = drop-of-length-le ms {i = suc (r .member)} (omega arith) in
           rw d (next-clause n w r (c .rest) (c .others))
 
+  -- The first of the members left is found by the machine.
   pub position-first : (n : ℕ) (w : List ℕ) (r : Registers) (es : List (Entry Leaf)) → PositionAt T n w r es → FirstAt n w r es
   position-first n w r es p =
       let c = clauseOf t w r in

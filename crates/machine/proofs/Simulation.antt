@@ -15,15 +15,13 @@ use Rattle.unification.specs.Store.{Leaf, Store}
 use Rattle.unification.specs.Matching.{Matching, pairs, check, fail}
 use Rattle.search.specs.Configurations.{Branch, Configuration, take, try, match, done}
 use Rattle.search.specs.Steps.{step}
-use Rattle.search.specs.Search.{status, start, advance, after, searchFrom, search}
+use Rattle.search.specs.Search.{status, start, advance, after, proved, noProof, Outcome, ends, spent, searchFrom, search}
 use Rattle.search.proofs.Invariant.{Invariant, step-keeps, start-invariant, after-invariant}
 use Rattle.tables.specs.Decoding.{clausesFrom, goalAt}
 use Rattle.machine.specs.declared.Registers.{Registers}
 use Rattle.machine.specs.Records.{Made, made}
-use Rattle.machine.specs.Words.{up}
 use Rattle.machine.specs.Changes.{onActs}
 use Rattle.machine.specs.Machine.{act, run, startMemory, startRegisters, runMachine}
-use Rattle.machine.specs.Reading.{Holds}
 use Rattle.machine.specs.Simulation.{StandsAt, Tells, Stands, Simulates, Follows, Resumes}
 use Rattle.machine.proofs.Words.{up-small}
 use Rattle.machine.proofs.Tables.{Table}
@@ -41,11 +39,13 @@ unfolding run
 run-ended zero t c w r h = refl
 run-ended (suc n) t c w r h = rw (run, le-ltb (r .mode) 4 h)
 
+-- An act is due.
 run-due : (n : ℕ) (t : List ℕ) (c : ℕ) (w : List ℕ) (r : Registers) → r .mode < 4 → run (suc n) t c w r ≡ run n t c (act t c w r .memory) (act t c w r .registers)
 unfolding run
 run-due n t c w r h = rw (run, lt-ltb (r .mode) 4 h)
 
-start-length : (w : List ℕ) → length (startMemory w) ≡ length w
+-- The start keeps the length.
+pub start-length : (w : List ℕ) → length (startMemory w) ≡ length w
 unfolding startMemory
 start-length w = length-variables 8 w 0
 
@@ -67,18 +67,20 @@ resumes t c (suc n) m w r = let e : suc n + m ≡ suc (n + m) = omega arith in a
         run-ended (suc (n + m)) t c w r l ∙ sym (run-ended m t c w r l) ∙ ap (λ (x : Made). run m t c (x .memory) (x .registers)) (sym (run-ended (suc n) t c w r l))
 
 module _ (T : Table) where
+  -- The table.
   abbrev t : List ℕ
   t = T .numbers
 
   -- What a state says of a branch.
-  stands-at : (w : List ℕ) (r : Registers) (s : Store) (ds : List Configuration) (ls : List (Line Leaf)) (k : ℕ) → r .mode ≡ k → SharedAt T (r .acts) w (r .next) (r .trail) (r .choice) s ds → PathAt (r .acts) ls w (r .path) (r .line)
+  stands-at : (w : List ℕ) (r : Registers) (s : Store) (ds : List Configuration) (ls : List (Line Leaf)) (k : ℕ) → r .mode ≡ k → SharedAt T (r .acts) w (r .next) (r .trail) (r .choice) s ds → PathAt (r .acts) (s .next) ls w (r .path) (r .line)
       → StandsAt (T .numbers) (made w r) k s ls
   stands-at w r s ds ls k e sh p = record {
     mode = e;
     store = record { next = sh .next; bindings = store-bindings T (r .acts) w s (sh .store); levels = sh .store .levels };
-    path = path-read (r .acts) (r .acts) ls w (r .path) (r .line) (omega arith) p;
+    path = path-read (r .acts) (r .acts) (s .next) ls w (r .path) (r .line) (omega arith) p;
   }
 
+  -- What a state says of the search.
   stands : (w : List ℕ) (r : Registers) (ds : List Configuration) → ResultAt T (r .acts) (made w r) ds → Stands (T .numbers) (made w r) ds
   unfolding Stands ResultAt ConfigurationAt CompareAt storeOf
   stands w r [] h = h
@@ -95,6 +97,7 @@ module _ (T : Table) where
   unfolding act onActs
   act-counts w r h = up-small (r .acts) (omega arith)
 
+  -- u acts having been done
   acted : (u : ℕ) (w : List ℕ) (r : Registers) (c : Configuration) (ds : List Configuration) → r .acts ≡ u → 64 * suc u ≤ length w → u < 50000 → Invariant c → r .mode < 4 → StateAt T u w r c ds
       → ResultAt T (suc u) (act (T .numbers) (T .clauses) w r) (step u c ++ ds)
   acted u w r c ds e l b i d st =
@@ -142,9 +145,11 @@ module _ (T : Table) where
   abbrev clauses : List Clause
   clauses = clausesFrom (T .numbers) (T .clauses) 0
 
+  -- Its goal.
   abbrev goal : Goal
   goal = goalAt (T .numbers) (T .goal)
 
+  -- by induction
   pub following : (n : ℕ) (w : List ℕ) → n ≤ 50000 → 64 ≤ length w → 64 * n ≤ length w
       → Following n (runMachine n (T .numbers) (T .clauses) (T .goal) w) (after (clausesFrom (T .numbers) (T .clauses) 0) (goalAt (T .numbers) (T .goal)) n)
   unfolding runMachine run after startRegisters
@@ -158,13 +163,23 @@ module _ (T : Table) where
       subst (λ (x : Made). Following (suc n) x (advance n (after clauses goal n))) (sym z)
       (follow n (m .memory) (m .registers) (after clauses goal n) (omega arith) (omega arith) (after-invariant clauses goal n) (following n w (omega arith) k (omega arith)))
 
-  -- the parts of what is told
-  proved-at : (u : ℕ) (w : List ℕ) (r : Registers) (s : Store) (ls : List (Line Leaf)) (ds : List Configuration) → r .acts ≡ u → StateAt T u w r (done s ls) ds → StandsAt (T .numbers) (made w r) 4 s ls
-  unfolding ConfigurationAt storeOf
-  proved-at u w r s ls ds e h =
-      let h′ = subst (λ (n : ℕ). StateAt T n w r (done s ls) ds) (sym e) h in
-      stands-at w r s ds ls 4 (h′ .front .0) (h′ .shared) (h′ .front .1)
+  -- What the machine tells, with the whole state at the end of a proved search.
+  unfoldable pub Told : Made → Outcome → Type 0
+  Told m (ends (proved s ls) n) = (ds : List Configuration) × StateAt T n (m .memory) (m .registers) (done s ls) ds × (m .registers .acts ≡ n)
+  Told m (ends noProof n) = (m .registers .mode ≡ 5) × (m .registers .acts ≡ n)
+  Told m spent = m .registers .mode < 4
 
+  -- That is what was stated.
+  told-tells : (m : Made) (o : Outcome) → Told m o → Tells (T .numbers) m o
+  unfolding Told Tells ConfigurationAt storeOf
+  told-tells m (ends (proved s ls) n) h =
+      let e = h .2 in
+      let st = subst (λ (k : ℕ). StateAt T k (m .memory) (m .registers) (done s ls) (h .0)) (sym e) (h .1) in
+      (stands-at (m .memory) (m .registers) s (h .0) ls 4 (st .front .0) (st .shared) (st .front .1), e)
+  told-tells m (ends noProof n) h = h
+  told-tells m spent h = h
+
+  -- a match under way is not the end
   match-due : {u : ℕ} {w : List ℕ} {r : Registers} {ds : List Configuration} (m : Matching) (b : Branch) → StateAt T u w r (match m b) ds → r .mode ≡ 4 → ⊥
   unfolding ConfigurationAt CompareAt
   match-due (pairs s []) b h q = h .front
@@ -175,40 +190,48 @@ module _ (T : Table) where
   -- an act is due
   go-on : (f u : ℕ) (w : List ℕ) (r : Registers) (c : Configuration) (ds : List Configuration) → r .acts ≡ u → u + suc f ≤ 50000 → 64 * (u + suc f) ≤ length w → All Invariant (c ∷ ds) → StateAt T u w r c ds → r .mode < 4
       → ((w′ : List ℕ) (r′ : Registers) (ds′ : List Configuration) → r′ .acts ≡ suc u → suc u + f ≤ 50000 → 64 * (suc u + f) ≤ length w′ → All Invariant ds′ → ResultAt T (suc u) (made w′ r′) ds′
-      → Tells (T .numbers) (run f (T .numbers) (T .clauses) w′ r′) (searchFrom f (suc u) (status (suc u) ds′)))
-      → Tells (T .numbers) (run (suc f) (T .numbers) (T .clauses) w r) (searchFrom f (suc u) (status (suc u) (step u c ++ ds)))
+      → Told (run f (T .numbers) (T .clauses) w′ r′) (searchFrom f (suc u) (status (suc u) ds′)))
+      → Told (run (suc f) (T .numbers) (T .clauses) w r) (searchFrom f (suc u) (status (suc u) (step u c ++ ds)))
   go-on f u w r c ds e b l i h d ih =
       let m = act t (T .clauses) w r in
       let n = length-act t (T .clauses) w r in
       let k = act-counts w r (omega arith) in
-      subst (λ (x : Made). Tells t x (searchFrom f (suc u) (status (suc u) (step u c ++ ds)))) (sym (run-due f t (T .clauses) w r d))
+      subst (λ (x : Made). Told x (searchFrom f (suc u) (status (suc u) (step u c ++ ds)))) (sym (run-due f t (T .clauses) w r d))
       (ih (m .memory) (m .registers) (step u c ++ ds) (k ∙ ap suc e) (omega arith) (omega arith) (all-append Invariant (step u c) ds (step-keeps u c (i .0)) (i .1)) (acted u w r c ds e (omega arith) (omega arith) (i .0) d h))
 
   -- What is told within a budget of f acts more, u having been done.
-  tells : (f u : ℕ) (w : List ℕ) (r : Registers) (ds : List Configuration) → r .acts ≡ u → u + f ≤ 50000 → 64 * (u + f) ≤ length w → All Invariant ds → ResultAt T u (made w r) ds
-      → Tells (T .numbers) (run f (T .numbers) (T .clauses) w r) (searchFrom f u (status u ds))
-  unfolding run searchFrom status Tells ResultAt ConfigurationAt CompareAt storeOf
+  pub tells : (f u : ℕ) (w : List ℕ) (r : Registers) (ds : List Configuration) → r .acts ≡ u → u + f ≤ 50000 → 64 * (u + f) ≤ length w → All Invariant ds → ResultAt T u (made w r) ds
+      → Told (run f (T .numbers) (T .clauses) w r) (searchFrom f u (status u ds))
+  unfolding run searchFrom status Told ResultAt ConfigurationAt CompareAt storeOf
   tells zero u w r [] e b l i h = (h, e)
   tells zero u w r (take s g x ∷ ds) e b l i h = let d = h .front .0 in omega arith
   tells zero u w r (try s a m ms k x ∷ ds) e b l i h = let d = h .front .mode in omega arith
   tells zero u w r (match m x ∷ ds) e b l i h = mode-due T u w r (match m x) (h .front) (λ q. match-due m x h q)
-  tells zero u w r (done s ls ∷ ds) e b l i h = (proved-at u w r s ls ds e h, e)
+  tells zero u w r (done s ls ∷ ds) e b l i h = (ds, h, e)
   tells (suc f) u w r [] e b l i h = subst (λ (m : Made). (m .registers .mode ≡ 5) × (m .registers .acts ≡ u)) (sym (run-ended (suc f) t (T .clauses) w r (omega arith))) (h, e)
   tells (suc f) u w r (take s g x ∷ ds) e b l i h = go-on f u w r (take s g x) ds e b l i h (let d = h .front .0 in omega arith) (λ w′ r′ ds′ a c d j k. tells f (suc u) w′ r′ ds′ a c d j k)
   tells (suc f) u w r (try s a m ms k x ∷ ds) e b l i h = go-on f u w r (try s a m ms k x) ds e b l i h (let d = h .front .mode in omega arith) (λ w′ r′ ds′ a c d j k. tells f (suc u) w′ r′ ds′ a c d j k)
   tells (suc f) u w r (match m x ∷ ds) e b l i h = go-on f u w r (match m x) ds e b l i h (mode-due T u w r (match m x) (h .front) (λ q. match-due m x h q)) (λ w′ r′ ds′ a c d j k. tells f (suc u) w′ r′ ds′ a c d j k)
   tells (suc f) u w r (done s ls ∷ ds) e b l i h =
-      subst (λ (m : Made). StandsAt t m 4 s ls × (m .registers .acts ≡ u)) (sym (run-ended (suc f) t (T .clauses) w r (let d = h .front .0 in omega arith))) (proved-at u w r s ls ds e h, e)
+      subst (λ (m : Made). (cs : List Configuration) × StateAt T u (m .memory) (m .registers) (done s ls) cs × (m .registers .acts ≡ u))
+      (sym (run-ended (suc f) t (T .clauses) w r (let d = h .front .0 in omega arith))) (ds, h, e)
+
+  -- from the start
+  pub told : (budget : ℕ) → budget ≤ 50000 → (w : List ℕ) → 64 * budget ≤ length w
+      → Told (runMachine budget (T .numbers) (T .clauses) (T .goal) w) (search budget (clausesFrom (T .numbers) (T .clauses) 0) (goalAt (T .numbers) (T .goal)))
+  unfolding runMachine search run Told start status searchFrom startRegisters
+  told zero b w l = omega arith
+  told (suc f) b w l =
+      let n = start-length w in
+      tells (suc f) 0 (startMemory w) (startRegisters (T .goal)) (start clauses goal) refl (omega arith) (omega arith) (start-invariant clauses goal) (start-result T w (omega arith))
 
 -- The statements.
 pub simulates : Simulates
-unfolding runMachine search run Tells start status searchFrom startRegisters
-simulates t nodes clauses goal made zero b w l = omega arith
-simulates t nodes clauses goal made (suc f) b w l =
+simulates t nodes clauses goal made budget b w l =
     let T : Table = record { numbers = t; nodes = nodes; clauses = clauses; goal = goal; made = made } in
-    let n = start-length w in
-    tells T (suc f) 0 (startMemory w) (startRegisters goal) (start (clausesFrom t clauses 0) (goalAt t goal)) refl (omega arith) (omega arith) (start-invariant (clausesFrom t clauses 0) (goalAt t goal)) (start-result T w (omega arith))
+    told-tells T (runMachine budget t clauses goal w) (search budget (clausesFrom t clauses 0) (goalAt t goal)) (told T budget b w l)
 
+-- After each number of acts.
 pub follows : Follows
 follows t nodes clauses goal made n b w k l =
     let T : Table = record { numbers = t; nodes = nodes; clauses = clauses; goal = goal; made = made } in

@@ -1,18 +1,17 @@
 -- The store in memory: cells and levels of the variables that have been made; each operation of level 1's store.
-use Prim.Native.Nat.{ℕ, zero, suc, _+_, _-_, _*_, _/_, _%_, _≤_, _<_, min}
+use Prim.Native.Nat.{ℕ, zero, suc, _+_, _-_, _*_, _≤_, _<_, min}
 use native.Mathlib.Omega.{arith}
 use mathlib.Core.Bool.{Bool, true, false, cond}
-use mathlib.Core.Path.{_≡_, refl, sym, ap, _∙_, subst}
+use mathlib.Core.Path.{_≡_, refl, sym, ap, _∙_}
 use mathlib.Core.List.{List, [], _∷_}
 use mathlib.Core.Option.{Option, none, some}
 use lib.Dec.{eqb}
-use lib.ListN.{length}
 use borrow.Author.Tests.{eqb-true, eqb-false, eq-eqb, ne-eqb}
 use Rattle.terms.specs.Lists.{All, update}
-use Rattle.terms.specs.Terms.{Term, leaf, app, Leaves}
-use Rattle.unification.specs.Store.{Leaf, var, con, Binding, Store, look, lower, bind, freshLevels, past, fresh, boundTo}
+use Rattle.terms.specs.Terms.{Term, leaf, Leaves}
+use Rattle.unification.specs.Store.{Leaf, var, Store, look, lower, bind, freshLevels, past, fresh, boundTo}
 use Rattle.unification.specs.Promises.{Below, BelowBinding, WellBound}
-use Rattle.machine.specs.Records.{field, cellOf, levelOf, putCell, putLevel}
+use Rattle.machine.specs.Records.{cellOf, levelOf, putCell, putLevel}
 use Rattle.machine.specs.Words.{tagOf, nameOf, lookWord, termOf}
 use Rattle.machine.specs.Frames.{putVariable}
 use Rattle.machine.specs.Reading.{variableOf}
@@ -20,58 +19,70 @@ use Rattle.machine.proofs.Records.{There, cell-same, level-same, level-
 use Rattle.machine.proofs.Words.{tag-is, name-is}
 use Rattle.machine.proofs.Heap.{Heap, Grow, heap-22, heap-trans, heap-cell, heap-level}
 use Rattle.machine.proofs.Tables.{Table}
-use Rattle.machine.proofs.Terms.{WordAt, word-variable, word-constant, word-closure, word-heap, word-up, word-term}
-use Rattle.machine.proofs.Bindings.{cell, hops, hops-le, hop, stop, look-app, look-con, cell-none, cell-some, cell-below}
+use Rattle.machine.proofs.Terms.{WordAt, word-variable, word-constant, word-closure, word-heap, word-up, word-wider, word-term, word-nonzero}
+use Rattle.machine.proofs.Bindings.{cell, hops, hop, stop, look-app, look-con, cell-none, cell-some, cell-below}
 
 -- One turn of looking through.
 look-unbound : (f : ℕ) (w : List ℕ) (x : ℕ) → cellOf w x ≡ 0 → lookWord (suc f) w (4 * x + 1) ≡ 4 * x + 1
 unfolding lookWord
 look-unbound f w x e = rw (lookWord, tag-is x 1 (omega arith), eq-eqb (cellOf w (nameOf (4 * x + 1))) 0 (ap (cellOf w) (name-is x 1 (omega arith)) ∙ e))
 
+-- A bound variable,
 look-bound : (f : ℕ) (w : List ℕ) (x : ℕ) → (cellOf w x ≡ 0 → ⊥) → lookWord (suc f) w (4 * x + 1) ≡ lookWord f w (cellOf w x)
 unfolding lookWord
 look-bound f w x d =
     let p = ap (cellOf w) (name-is x 1 (omega arith)) in
     rw (lookWord, tag-is x 1 (omega arith), ne-eqb (cellOf w (nameOf (4 * x + 1))) 0 (λ q. d (sym p ∙ q))) (ap (lookWord f w) p)
 
+-- no variable.
 look-other : (f : ℕ) (w : List ℕ) (a : ℕ) → (tagOf a ≡ 1 → ⊥) → lookWord (suc f) w a ≡ a
 unfolding lookWord
 look-other f w a d = rw (lookWord, ne-eqb (tagOf a) 1 d)
 
 module _ (T : Table) where
   -- A cell: 0 for an unbound variable, else the word of what it is bound to.
-  unfoldable pub CellAt : ℕ → List ℕ → ℕ → Option (Term Leaf) → Type 0
-  CellAt n w a none = a ≡ 0
-  CellAt n w a (some t) = WordAt T n w a t
+  unfoldable pub CellAt : ℕ → ℕ → List ℕ → ℕ → Option (Term Leaf) → Type 0
+  CellAt n x w a none = a ≡ 0
+  CellAt n x w a (some t) = WordAt T n x w a t
 
   pub record StoreAt (n : ℕ) (w : List ℕ) (s : Store) : Type 0 where
-    pub cells : (x : ℕ) → x < s .next → CellAt n w (cellOf w x) (cell (s .bindings) x)
+    pub cells : (x : ℕ) → x < s .next → CellAt n (s .next) w (cellOf w x) (cell (s .bindings) x)
     pub levels : (x : ℕ) → x < s .next → levelOf w x ≡ s .level x
 
-  cell-heap : (n : ℕ) (w w′ : List ℕ) (a : ℕ) (o : Option (Term Leaf)) → Heap 22 n w w′ → CellAt n w a o → CellAt n w′ a o
+  -- It stays.
+  cell-heap : (n x : ℕ) (w w′ : List ℕ) (a : ℕ) (o : Option (Term Leaf)) → Heap 22 n w w′ → CellAt n x w a o → CellAt n x w′ a o
   unfolding CellAt
-  cell-heap n w w′ a none e h = h
-  cell-heap n w w′ a (some t) e h = word-heap T n w w′ e h
+  cell-heap n x w w′ a none e h = h
+  cell-heap n x w w′ a (some t) e h = word-heap T n x w w′ e h
 
-  cell-up : (n : ℕ) (w : List ℕ) (a : ℕ) (o : Option (Term Leaf)) → CellAt n w a o → CellAt (suc n) w a o
+  -- An act later.
+  cell-up : (n x : ℕ) (w : List ℕ) (a : ℕ) (o : Option (Term Leaf)) → CellAt n x w a o → CellAt (suc n) x w a o
   unfolding CellAt
-  cell-up n w a none h = h
-  cell-up n w a (some t) h = word-up T n w h
+  cell-up n x w a none h = h
+  cell-up n x w a (some t) h = word-up T n x x w (omega arith) h
 
+  -- more variables
+  cell-wider : (n x y : ℕ) (w : List ℕ) (a : ℕ) (o : Option (Term Leaf)) → x ≤ y → CellAt n x w a o → CellAt n y w a o
+  unfolding CellAt
+  cell-wider n x y w a none l h = h
+  cell-wider n x y w a (some t) l h = word-wider T n x y w l h
+
+  -- The store stays when memory grows,
   pub store-grow : (n k : ℕ) (w w′ : List ℕ) (s : Store) → Grow n k w w′ → s .next ≤ k → StoreAt n w s → StoreAt n w′ s
   store-grow n k w w′ s g l r = record {
-    cells = λ x h. rw (g .cells x (omega arith)) (cell-heap n w w′ (cellOf w x) (cell (s .bindings) x) (heap-22 n w w′ (g .heap)) (r .cells x h));
+    cells = λ x h. rw (g .cells x (omega arith)) (cell-heap n (s .next) w w′ (cellOf w x) (cell (s .bindings) x) (heap-22 n w w′ (g .heap)) (r .cells x h));
     levels = λ x h. g .levels x (omega arith) ∙ r .levels x h;
   }
 
+  -- an act later too.
   pub store-up : (n : ℕ) (w : List ℕ) (s : Store) → StoreAt n w s → StoreAt (suc n) w s
-  store-up n w s r = record { cells = λ x h. cell-up n w (cellOf w x) (cell (s .bindings) x) (r .cells x h); levels = r .levels }
+  store-up n w s r = record { cells = λ x h. cell-up n (s .next) w (cellOf w x) (cell (s .bindings) x) (r .cells x h); levels = r .levels }
 
   -- a level is lowered
   pub store-lower : (n : ℕ) (w : List ℕ) (s : Store) (z k : ℕ) → There z w → z < s .next → StoreAt n w s → StoreAt n (putLevel w z (min (levelOf w z) k)) (lower s z k)
   unfolding lower update
   store-lower n w s z k b l r = record {
-    cells = λ x h. rw (cell-level w z j x) (cell-heap n w (putLevel w z j) (cellOf w x) (cell (s .bindings) x) (heap-22 n w (putLevel w z j) (heap-level n w z j)) (r .cells x h));
+    cells = λ x h. rw (cell-level w z j x) (cell-heap n (s .next) w (putLevel w z j) (cellOf w x) (cell (s .bindings) x) (heap-22 n w (putLevel w z j) (heap-level n w z j)) (r .cells x h));
     levels = λ x h. go x h (eqb x z) refl;
   }
     where
@@ -83,16 +94,16 @@ module _ (T : Table) where
       go x h false q = level-other w z j x (eqb-false x z q) ∙ r .levels x h
 
   -- a variable is bound
-  pub store-bind : (n : ℕ) (w : List ℕ) (s : Store) (y a : ℕ) (t : Term Leaf) → There y w → WordAt T n w a t → StoreAt n w s → StoreAt n (putCell w y a) (bind s y t)
+  pub store-bind : (n : ℕ) (w : List ℕ) (s : Store) (y a : ℕ) (t : Term Leaf) → There y w → WordAt T n (s .next) w a t → StoreAt n w s → StoreAt n (putCell w y a) (bind s y t)
   unfolding bind cell CellAt
   store-bind n w s y a t b g r = record { cells = λ x h. go x h (eqb x y) refl; levels = λ x h. level-cell w y a x ∙ r .levels x h }
     where
       e : Heap 22 n w (putCell w y a)
       e = heap-22 n w (putCell w y a) (heap-cell n w y a)
 
-      go : (x : ℕ) → x < s .next → (c : Bool) → eqb x y ≡ c → CellAt n (putCell w y a) (cellOf (putCell w y a) x) (cond c (some t) (cell (s .bindings) x))
-      go x h true q = rw (eqb-true x y q, cell-same w y a b) (word-heap T n w (putCell w y a) e g)
-      go x h false q = rw (cell-other w y a x (eqb-false x y q)) (cell-heap n w (putCell w y a) (cellOf w x) (cell (s .bindings) x) e (r .cells x h))
+      go : (x : ℕ) → x < s .next → (c : Bool) → eqb x y ≡ c → CellAt n (s .next) (putCell w y a) (cellOf (putCell w y a) x) (cond c (some t) (cell (s .bindings) x))
+      go x h true q = rw (eqb-true x y q, cell-same w y a b) (word-heap T n (s .next) w (putCell w y a) e g)
+      go x h false q = rw (cell-other w y a x (eqb-false x y q)) (cell-heap n (s .next) w (putCell w y a) (cellOf w x) (cell (s .bindings) x) e (r .cells x h))
 
   -- a variable is made
   pub store-fresh : (n : ℕ) (w : List ℕ) (s : Store) (v i : ℕ) → There (s .next) w → cell (s .bindings) (s .next) ≡ none → StoreAt n w s → StoreAt n (putVariable w (s .next) i) (fresh (v ∷ []) i s)
@@ -111,44 +122,39 @@ module _ (T : Table) where
       e : Heap 22 n w w₂
       e = heap-22 n w w₂ (heap-trans 18 n w w₁ w₂ (heap-cell n w y 0) (heap-level n w₁ y i))
 
-      cells : (x : ℕ) → x < suc y → (c : Bool) → eqb x y ≡ c → CellAt n w₂ (cellOf w₂ x) (cell (s .bindings) x)
+      cells : (x : ℕ) → x < suc y → (c : Bool) → eqb x y ≡ c → CellAt n (suc y) w₂ (cellOf w₂ x) (cell (s .bindings) x)
       cells x h true q = rw (eqb-true x y q, u) (cell-level w₁ y i y ∙ cell-same w y 0 b)
       cells x h false q =
           let d = eqb-false x y q in
-          rw (cell-level w₁ y i x ∙ cell-other w y 0 x d) (cell-heap n w w₂ (cellOf w x) (cell (s .bindings) x) e (r .cells x (omega arith)))
+          rw (cell-level w₁ y i x ∙ cell-other w y 0 x d) (cell-wider n y (suc y) w₂ (cellOf w x) (cell (s .bindings) x) (omega arith) (cell-heap n y w w₂ (cellOf w x) (cell (s .bindings) x) e (r .cells x (omega arith))))
 
       levels : (x : ℕ) → x < suc y → (c : Bool) → eqb x y ≡ c → levelOf w₂ x ≡ cond c i (s .level x)
       levels x h true q = rw (eqb-true x y q) (level-same w₁ y i (let l = length-cell w y 0 in omega arith))
       levels x h false q = let d = eqb-false x y q in level-other w₁ y i x d ∙ level-cell w y 0 x ∙ r .levels x (omega arith)
 
-  -- no word is 0
-  pub word-nonzero : {n : ℕ} {w : List ℕ} {a : ℕ} {t : Term Leaf} → WordAt T n w a t → a ≡ 0 → ⊥
-  word-nonzero (word-variable q) e = omega arith
-  word-nonzero (word-constant q l k) e = omega arith
-  word-nonzero (word-closure m f q l k i j) e = omega arith
-
   -- Looking through: f turns suffice.
   module _ (n : ℕ) (w : List ℕ) (s : Store) (r : StoreAt n w s) (wb : WellBound (s .bindings)) (bl : All (BelowBinding (s .next)) (s .bindings)) where
-    pub look-word : (f : ℕ) {a : ℕ} {t : Term Leaf} → WordAt T n w a t → Leaves t (Below (s .next)) → hops (s .bindings) t ≤ f → WordAt T n w (lookWord f w a) (look (s .bindings) t)
+    -- The word that is come to is that of level 1's `look`.
+    pub look-word : (f : ℕ) {a : ℕ} {t : Term Leaf} → WordAt T n (s .next) w a t → Leaves t (Below (s .next)) → hops (s .bindings) t ≤ f → WordAt T n (s .next) w (lookWord f w a) (look (s .bindings) t)
     unfolding lookWord Leaves Below CellAt
-    look-word zero (word-variable {a = a} {x = x} q) b h = go (cell (s .bindings) x) refl
+    look-word zero (word-variable {a = a} {y = x} q) b h = go (cell (s .bindings) x) refl
       where
-        go : (c : Option (Term Leaf)) → cell (s .bindings) x ≡ c → WordAt T n w a (look (s .bindings) (leaf (var x)))
+        go : (c : Option (Term Leaf)) → cell (s .bindings) x ≡ c → WordAt T n (s .next) w a (look (s .bindings) (leaf (var x)))
         go none e = rw (stop (s .bindings) x e) (word-variable q)
         go (some u) e = absurd (let z = hop (s .bindings) x u wb e .1 in omega arith)
     look-word zero (word-constant {c = c} {k = k} q l e) b h = rw (look-con (s .bindings) c k .0) (word-constant q l e)
     look-word zero (word-closure {g = g} {ts = ts} m f q l k e i) b h = rw (look-app (s .bindings) g ts .0) (word-closure m f q l k e i)
-    look-word (suc f) (word-variable {a = a} {x = x} q) b h = rw q (go (cell (s .bindings) x) refl (r .cells x b) (λ u g c l. look-word f g c l))
+    look-word (suc f) (word-variable {a = a} {y = x} q) b h = rw q (go (cell (s .bindings) x) refl (r .cells x b) (λ u g c l. look-word f g c l))
       where
         A : Type 0
-        A = (u : Term Leaf) → WordAt T n w (cellOf w x) u → Leaves u (Below (s .next)) → hops (s .bindings) u ≤ f → WordAt T n w (lookWord f w (cellOf w x)) (look (s .bindings) u)
+        A = (u : Term Leaf) → WordAt T n (s .next) w (cellOf w x) u → Leaves u (Below (s .next)) → hops (s .bindings) u ≤ f → WordAt T n (s .next) w (lookWord f w (cellOf w x)) (look (s .bindings) u)
 
-        go : (c : Option (Term Leaf)) → cell (s .bindings) x ≡ c → CellAt n w (cellOf w x) c → A → WordAt T n w (lookWord (suc f) w (4 * x + 1)) (look (s .bindings) (leaf (var x)))
+        go : (c : Option (Term Leaf)) → cell (s .bindings) x ≡ c → CellAt n (s .next) w (cellOf w x) c → A → WordAt T n (s .next) w (lookWord (suc f) w (4 * x + 1)) (look (s .bindings) (leaf (var x)))
         go none e g ih = rw (look-unbound f w x g, stop (s .bindings) x e) (word-variable refl)
         go (some u) e g ih =
             let z = hop (s .bindings) x u wb e in
             let l = z .1 in
-            rw (look-bound f w x (word-nonzero g), z .0) (ih u g (cell-below (s .bindings) (s .next) x u bl e) (omega arith))
+            rw (look-bound f w x (word-nonzero T g), z .0) (ih u g (cell-below (s .bindings) (s .next) x u bl e) (omega arith))
     look-word (suc f) (word-constant {a = a} {c = c} {k = k} q l e) b h =
         rw (look-other f w a (λ z. let y = ap tagOf q ∙ tag-is c 2 (omega arith) in omega arith), look-con (s .bindings) c k .0) (word-constant q l e)
     look-word (suc f) (word-closure {a = a} {g = g} {ts = ts} m d q l k e i) b h =
@@ -159,6 +165,6 @@ module _ (T : Table) where
   unfolding variableOf CellAt
   store-bindings n w s r x h = go (cell (s .bindings) x) refl (r .cells x h)
     where
-      go : (c : Option (Term Leaf)) → cell (s .bindings) x ≡ c → CellAt n w (cellOf w x) c → cond (eqb (cellOf w x) 0) (leaf (var x)) (termOf (T .numbers) w (cellOf w x)) ≡ boundTo (s .bindings) x
+      go : (c : Option (Term Leaf)) → cell (s .bindings) x ≡ c → CellAt n (s .next) w (cellOf w x) c → cond (eqb (cellOf w x) 0) (leaf (var x)) (termOf (T .numbers) w (cellOf w x)) ≡ boundTo (s .bindings) x
       go none e g = rw (eq-eqb (cellOf w x) 0 g) (sym (cell-none (s .bindings) x e))
-      go (some t) e g = rw (ne-eqb (cellOf w x) 0 (word-nonzero g)) (word-term T n w g ∙ sym (cell-some (s .bindings) x t e))
+      go (some t) e g = rw (ne-eqb (cellOf w x) 0 (word-nonzero T g)) (word-term T n (s .next) w g ∙ sym (cell-some (s .bindings) x t e))

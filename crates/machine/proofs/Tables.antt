@@ -1,9 +1,9 @@
 -- A well-made table, and the laws of it that the simulation uses.
-use Prim.Native.Nat.{ℕ, zero, suc, _+_, _≤_, _<_}
+use Prim.Native.Nat.{ℕ, _<_}
 use native.Mathlib.Omega.{arith}
-use mathlib.Core.Path.{_≡_, refl, sym, ap, _∙_}
+use mathlib.Core.Path.{_≡_, sym, ap, _∙_}
 use mathlib.Core.List.{List}
-use Rattle.terms.specs.Terms.{Term, leaf, app}
+use Rattle.terms.specs.Terms.{leaf, app}
 use Rattle.tables.specs.Layout.{kindOf, childCount, labelOf, childOf, arityOf}
 use Rattle.tables.specs.Decoding.{termAt, argumentsAt}
 use Rattle.tables.specs.WellMade.{IsTerm, Arguments, WellMade}
@@ -17,6 +17,7 @@ pub record Table : Type 0 where
   pub made : WellMade numbers nodes clauses goal
 
 module _ (T : Table) where
+  -- What the reader's laws speak of.
   pub nodes-are : Nodes (T .numbers) (T .nodes)
   nodes-are = nodes-of (T .numbers) (T .nodes) (T .clauses) (T .goal) (T .made)
 
@@ -24,9 +25,11 @@ module _ (T : Table) where
   abbrev pub TermOf : ℕ → Type 0
   TermOf n = (n < T .nodes) × IsTerm (T .numbers) n
 
+  -- A node with arguments.
   abbrev pub Applied : ℕ → Type 0
   Applied n = (n < T .nodes) × Arguments (T .numbers) n
 
+  -- A node of an application.
   abbrev pub ApplicationOf : ℕ → Type 0
   ApplicationOf n = (n < T .nodes) × IsTerm (T .numbers) n × (kindOf (T .numbers) n ≡ 1)
 
@@ -42,6 +45,7 @@ module _ (T : Table) where
   pub few-arguments : (n j : ℕ) → Applied n → j < childCount (T .numbers) n → j < 4
   few-arguments n j a h = let f = a .1 .few in omega arith
 
+  -- Equal symbols have equally many.
   pub same-count : (n m : ℕ) → Applied n → Applied m → labelOf (T .numbers) n ≡ labelOf (T .numbers) m → childCount (T .numbers) n ≡ childCount (T .numbers) m
   same-count n m a b e = a .1 .many ∙ ap (arityOf (T .numbers)) e ∙ sym (b .1 .many)
 
@@ -49,14 +53,18 @@ module _ (T : Table) where
   pub name-small : (n : ℕ) → TermOf n → kindOf (T .numbers) n ≡ 0 → labelOf (T .numbers) n < 8
   name-small n h e = T .made .term n (h .0) (h .1) .variable e
 
+  -- Any other is an application,
   pub not-variable : (n : ℕ) → TermOf n → (kindOf (T .numbers) n ≡ 0 → ⊥) → kindOf (T .numbers) n ≡ 1
   not-variable n h d = let k = T .made .term n (h .0) (h .1) .kind in omega arith
 
+  -- which has arguments.
   pub applied : (n : ℕ) → ApplicationOf n → Applied n
   applied n h = (h .0, T .made .term n (h .0) (h .1) .application (h .2))
 
+  -- The term of a variable's node,
   pub variable-is : (n : ℕ) → TermOf n → kindOf (T .numbers) n ≡ 0 → termAt (T .numbers) n ≡ leaf (labelOf (T .numbers) n)
   variable-is n h e = term-variable (T .numbers) (T .nodes) nodes-are n (h .0) (h .1) e
 
+  -- and of an application's.
   pub application-is : (n : ℕ) → ApplicationOf n → termAt (T .numbers) n ≡ app (labelOf (T .numbers) n) (argumentsAt (T .numbers) n)
   application-is n h = term-application (T .numbers) (T .nodes) nodes-are n (h .0) (h .1) (h .2)

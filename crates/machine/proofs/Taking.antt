@@ -1,16 +1,14 @@
 -- Taking a goal that is no atom is level 1's `takeGoal`.
-use Prim.Native.Nat.{ℕ, zero, suc, _+_, _-_, _*_, _/_, _%_, _≤_, _<_}
+use Prim.Native.Nat.{ℕ, suc, _+_, _-_, _*_, _%_, _≤_, _<_}
 use native.Mathlib.Omega.{arith}
-use mathlib.Core.Bool.{Bool, true, false, cond}
-use mathlib.Core.Path.{_≡_, refl, sym, ap, ap₂, _∙_, subst}
+use mathlib.Core.Path.{_≡_, refl, sym, ap, _∙_, subst}
 use mathlib.Core.List.{List, [], _∷_, _++_}
 use mathlib.Core.Logic.{_⊎_, inl, inr}
-use lib.Dec.{eqb, ltb}
 use lib.ListN.{length, getD}
 use Rattle.terms.specs.Lists.{update}
-use Rattle.terms.specs.Terms.{Term, leaf}
-use Rattle.formulas.specs.Formulas.{Goal, and, or, implies, exists, forall, truth}
-use Rattle.sequents.specs.Sequents.{Environment, Program, hypothesis, Sequent, sequent, Line, plain, Dtrue, Dand, Dleft, Dright, Dassume, Dsome, Dall, assign}
+use Rattle.terms.specs.Terms.{leaf}
+use Rattle.formulas.specs.Formulas.{and, or, implies, exists, forall}
+use Rattle.sequents.specs.Sequents.{hypothesis, Sequent, sequent, Line, plain, Dtrue, Dand, Dleft, Dright, Dassume, Dsome, Dall, assign}
 use Rattle.unification.specs.Store.{Leaf, var, con, Store, fresh, past, freshLevels, freshVariables}
 use Rattle.unification.specs.Promises.{Formed}
 use Rattle.search.specs.Configurations.{Branch, branch, Configuration, take}
@@ -20,31 +18,35 @@ use Rattle.tables.specs.Decoding.{goalAt, clauseAtNode}
 use Rattle.tables.specs.WellMade.{IsGoal, GoalNode}
 use Rattle.tables.proofs.Decoding.{goal-true, goal-and, goal-or, goal-implies, goal-exists, goal-forall}
 use Rattle.machine.specs.declared.Registers.{Registers}
-use Rattle.machine.specs.Records.{field, put, Made, made, putGoal, putAssumption, putPath}
+use Rattle.machine.specs.Records.{field, put, made, putGoal, putAssumption, putPath}
 use Rattle.machine.specs.Changes.{onMode, onNext, onTrail, onChoice, onGoals, onPath, onGoal, onMember}
-use Rattle.machine.specs.Words.{up, slotOf, environmentAt}
+use Rattle.machine.specs.Words.{slotOf, environmentAt}
 use Rattle.machine.specs.Frames.{copyFrame, putFresh}
 use Rattle.machine.specs.Reading.{lineAt}
 use Rattle.machine.specs.Goals.{proceed, takeTrue, takeAnd, rightBranch, takeOr, takeImplies, takeExists, putConstant, takeForall}
 use Rattle.machine.specs.Choices.{saveChoice}
 use Rattle.machine.proofs.Records.{field-same, field-other, puts, puts-at, puts-out, length-puts}
 use Rattle.machine.proofs.Words.{up-small, constant-small}
-use Rattle.machine.proofs.Heap.{Heap, Grow, heap-22, grow-trans, grow-less, grow-put, grow-puts}
+use Rattle.machine.proofs.Heap.{Heap, Grow, heap-22, grow-trans, grow-put, grow-puts}
 use Rattle.machine.proofs.Tables.{Table, nodes-are}
-use Rattle.machine.proofs.Terms.{FrameAt, constant-at, constant-leaf}
-use Rattle.machine.proofs.Stores.{StoreAt, store-up, store-grow}
-use Rattle.machine.proofs.Branches.{PathAt, path-heap, GoalOf, ProgramAt, program-more, SequentAt, sequent-heap, sequent-up, GoalsAt, goals-heap, goals-up, BranchAt}
+use Rattle.machine.proofs.Terms.{constant-at, constant-leaf}
+use Rattle.machine.proofs.Stores.{store-up, store-grow}
+use Rattle.machine.proofs.Branches.{LineBelow, PathAt, path-heap, path-wider, GoalOf, ProgramAt, program-more, SequentAt, sequent-heap, sequent-up, GoalsAt, goals-heap, goals-up, BranchAt}
 use Rattle.machine.proofs.Configurations.{storeOf, ConfigurationAt}
-use Rattle.machine.proofs.Alternatives.{Bounded, alternatives-up, alternatives-grow, alternatives-wider, SharedAt, shared-grow, StateAt, ResultAt}
+use Rattle.machine.proofs.Alternatives.{bounded-next, alternatives-wider, SharedAt, shared-grow, ResultAt}
 use Rattle.machine.proofs.Onward.{proceed-result}
 use Rattle.machine.proofs.Choosing.{saved, save-is, saved-length, resumed, SavedAt, choice-opened}
 use Rattle.machine.proofs.Frames.{SameFrames, same-trans, same-puts, FrameMade, copy-grow, copy-at, copy-made, made-held, slot-made, made-same, digits, FreshMade, fresh-made}
 
 -- A line in front of the path.
-pub path-pushed : (u : ℕ) (w w′ : List ℕ) (p l k : ℕ) (x : Line Leaf) (ls : List (Line Leaf)) → Heap 22 u w w′ → field w′ u 39 ≡ p → field w′ u 40 ≡ l → lineAt w′ u k ≡ x → PathAt u ls w p l
-    → PathAt (suc u) (x ∷ ls) w′ (suc u) k
+pub path-pushed : (u v : ℕ) (w w′ : List ℕ) (p l k : ℕ) (x : Line Leaf) (ls : List (Line Leaf)) → Heap 22 u w w′ → field w′ u 39 ≡ p → field w′ u 40 ≡ l → lineAt w′ u k ≡ x → LineBelow v w′ u k → PathAt u v ls w p l
+    → PathAt (suc u) v (x ∷ ls) w′ (suc u) k
 unfolding PathAt
-path-pushed u w w′ p l k x ls h e₀ e₁ i c = (omega arith, i, rw (e₀, e₁) (path-heap u ls w w′ p l h c))
+path-pushed u v w w′ p l k x ls h e₀ e₁ i b c = (omega arith, i, b, rw (e₀, e₁) (path-heap u v ls w w′ p l h c))
+
+-- A line that has no variable.
+line-plain : (v : ℕ) (w : List ℕ) (r k : ℕ) → k ≤ 6 → (k ≡ 5 → ⊥) → LineBelow v w r k
+line-plain v w r k h d = record { kind = omega arith; some = λ q. absurd (d q); clause = λ q. absurd (omega arith) }
 
 -- Two groups of fields of one record: l₁ from f₁ on, then l₂ from f₂ on, beside it.
 pub first-at : (w : List ℕ) (u : ℕ) (l₁ : List ℕ) (f₁ : ℕ) (l₂ : List ℕ) (f₂ i : ℕ) → f₁ + length l₁ ≤ 64 → f₂ + length l₂ ≤ 64 → 64 * suc u ≤ length w → (f₁ + length l₁ ≤ f₂ ⊎ f₂ + length l₂ ≤ f₁) → i < length l₁
@@ -52,18 +54,22 @@ pub first-at : (w : List ℕ) (u : ℕ) (l₁ : List ℕ) (f₁ : ℕ) (l₂ : L
 first-at w u l₁ f₁ l₂ f₂ i b₁ b₂ room (inl d) h = puts-out l₂ (puts l₁ w u f₁) u f₂ u (f₁ + i) b₂ (omega arith) (inl (omega arith)) ∙ puts-at l₁ w u f₁ i b₁ (omega arith) h
 first-at w u l₁ f₁ l₂ f₂ i b₁ b₂ room (inr d) h = puts-out l₂ (puts l₁ w u f₁) u f₂ u (f₁ + i) b₂ (omega arith) (inr (omega arith)) ∙ puts-at l₁ w u f₁ i b₁ (omega arith) h
 
+-- The second group.
 pub second-at : (w : List ℕ) (u : ℕ) (l₁ : List ℕ) (f₁ : ℕ) (l₂ : List ℕ) (f₂ i : ℕ) → f₂ + length l₂ ≤ 64 → 64 * suc u ≤ length w → i < length l₂ → field (puts l₂ (puts l₁ w u f₁) u f₂) u (f₂ + i) ≡ getD l₂ i 0
 second-at w u l₁ f₁ l₂ f₂ i b₂ room h = puts-at l₂ (puts l₁ w u f₁) u f₂ i b₂ (let e = length-puts l₁ w u f₁ in omega arith) h
 
+-- Older records stay.
 pub two-grow : (w : List ℕ) (u k : ℕ) (l₁ : List ℕ) (f₁ : ℕ) (l₂ : List ℕ) (f₂ : ℕ) → 18 ≤ f₁ → 18 ≤ f₂ → f₁ + length l₁ ≤ 64 → f₂ + length l₂ ≤ 64 → Grow u k w (puts l₂ (puts l₁ w u f₁) u f₂)
 two-grow w u k l₁ f₁ l₂ f₂ a b b₁ b₂ = grow-trans u k w (puts l₁ w u f₁) (puts l₂ (puts l₁ w u f₁) u f₂) (grow-puts l₁ w u k u f₁ (omega arith) a b₁) (grow-puts l₂ (puts l₁ w u f₁) u k u f₂ (omega arith) b b₂)
 
 module _ (T : Table) (w : List ℕ) (r : Registers) (s : Store) (g : Sequent Leaf) (b : Branch) (ds : List Configuration) (room : 64 * suc (r .acts) ≤ length w) (small : r .acts < 50000)
-    (goal : SequentAt T (r .acts) w (r .node) (r .frame) (r .program) (r .level) g) (branch₀ : BranchAt T (r .acts) w (r .goals) (r .path) (r .line) b)
+    (goal : SequentAt T (r .acts) w (r .node) (r .frame) (r .program) (r .level) g) (branch₀ : BranchAt T (r .acts) (s .next) w (r .goals) (r .path) (r .line) b)
     (shared : SharedAt T (r .acts) w (r .next) (r .trail) (r .choice) s ds) where
+  -- The act's number.
   abbrev u : ℕ
   u = r .acts
 
+  -- The table.
   abbrev t : List ℕ
   t = T .numbers
 
@@ -74,6 +80,7 @@ module _ (T : Table) (w : List ℕ) (r : Registers) (s : Store) (g : Sequent Lea
       let c = sequent-up T u w′ (r .node) (r .frame) (r .program) (r .level) g (sequent-heap T u w w′ (r .node) (r .frame) (r .program) (r .level) g h goal) in
       record { node = n; goal = refl; frame = c .frame; environment = c .environment; program = c .program; level = c .level; low = c .low }
 
+  -- The goals that wait.
   pub waiting-later : (w′ : List ℕ) → Heap 22 (r .acts) w w′ → GoalsAt T (suc (r .acts)) (b .goals) w′ (r .goals)
   waiting-later w′ h = goals-up T u (b .goals) w′ (r .goals) (goals-heap T u (b .goals) w w′ (r .goals) h (branch₀ .waiting))
 
@@ -81,6 +88,7 @@ module _ (T : Table) (w : List ℕ) (r : Registers) (s : Store) (g : Sequent Lea
   pub goal-child : (j : ℕ) → (childOf (T .numbers) (r .node) j < r .node) → IsGoal (T .numbers) (childOf (T .numbers) (r .node) j) → GoalOf T (childOf (T .numbers) (r .node) j)
   goal-child j l i = let n = goal .node .0 in (omega arith, i)
 
+  -- What its node satisfies.
   goal-node : GoalNode (T .numbers) (r .node)
   goal-node = T .made .goalNode (r .node) (goal .node .0) (goal .node .1)
 
@@ -93,9 +101,10 @@ module _ (T : Table) (w : List ℕ) (r : Registers) (s : Store) (g : Sequent Lea
       let h = heap-22 u w w′ (gr .heap) in
       let e : (i : ℕ) → i < 2 → field w′ u (39 + i) ≡ getD l₁ i 0 = λ i k. rw z (puts-at l₁ w u 39 i (omega arith) (omega arith) k) in
       proceed-result T (suc u) w′ (onPath r (suc u) 0) s (branch (b .goals) (plain Dtrue ∷ b .path)) ds
-      (record { waiting = waiting-later w′ h; taken = path-pushed u w w′ (r .path) (r .line) 0 (plain Dtrue) (b .path) h (e 0 (omega arith)) (e 1 (omega arith)) refl (branch₀ .taken) })
+      (record { waiting = waiting-later w′ h; taken = path-pushed u (s .next) w w′ (r .path) (r .line) 0 (plain Dtrue) (b .path) h (e 0 (omega arith)) (e 1 (omega arith)) refl (line-plain (s .next) w′ u 0 (omega arith) (λ q. omega arith)) (branch₀ .taken) })
       (shared-grow T u w w′ (r .next) (r .trail) (r .choice) s ds gr shared)
 
+  -- Taking Y.
   pub take-true : kindOf (T .numbers) (r .node) ≡ 3 → ResultAt T (suc (r .acts)) (takeTrue w r) (level1.takeGoal (r .acts) s (g .goal) (g .environment) (g .program) (g .level) b ++ ds)
   unfolding takeTrue putPath puts level1.takeGoal
   take-true k = rw (← goal .goal, goal-true t (T .nodes) (nodes-are T) (r .node) (goal .node .0) k, up-small u (omega arith)) (true-held (puts (r .path ∷ r .line ∷ []) w u 39) refl)
@@ -121,12 +130,13 @@ module _ (T : Table) (w : List ℕ) (r : Registers) (s : Store) (g : Sequent Lea
           goal-later w′ (childOf t (r .node) 0) h (goal-child 0 (a .0) (a .1)),
           record {
             waiting = rw (f 0 (omega arith), f 1 (omega arith), f 2 (omega arith), f 3 (omega arith), f 4 (omega arith)) (omega arith, right, waiting-later w′ h);
-            taken = path-pushed u w w′ (r .path) (r .line) 1 (plain Dand) (b .path) h (e 0 (omega arith)) (e 1 (omega arith)) refl (branch₀ .taken);
+            taken = path-pushed u (s .next) w w′ (r .path) (r .line) 1 (plain Dand) (b .path) h (e 0 (omega arith)) (e 1 (omega arith)) refl (line-plain (s .next) w′ u 1 (omega arith) (λ q. omega arith)) (branch₀ .taken);
           },
         );
         shared = shared-grow T u w w′ (r .next) (r .trail) (r .choice) s ds gr shared;
       }
 
+  -- Taking &.
   pub take-and : kindOf (T .numbers) (r .node) ≡ 4 → ResultAt T (suc (r .acts)) (takeAnd (T .numbers) w r) (level1.takeGoal (r .acts) s (g .goal) (g .environment) (g .program) (g .level) b ++ ds)
   unfolding takeAnd putPath putGoal puts level1.takeGoal
   take-and k = rw (← goal .goal, goal-and t (T .nodes) (nodes-are T) (r .node) (goal .node .0) (goal .node .1) k, up-small u (omega arith)) (and-held _ k refl)
@@ -165,12 +175,13 @@ module _ (T : Table) (w : List ℕ) (r : Registers) (s : Store) (g : Sequent Lea
           },
           record {
             waiting = waiting-later w′ h;
-            taken = path-pushed u w w′ (r .path) (r .line) 4 (plain Dassume) (b .path) h (e 0 (omega arith)) (e 1 (omega arith)) refl (branch₀ .taken);
+            taken = path-pushed u (s .next) w w′ (r .path) (r .line) 4 (plain Dassume) (b .path) h (e 0 (omega arith)) (e 1 (omega arith)) refl (line-plain (s .next) w′ u 4 (omega arith) (λ q. omega arith)) (branch₀ .taken);
           },
         );
         shared = shared-grow T u w w′ (r .next) (r .trail) (r .choice) s ds gr shared;
       }
 
+  -- Taking >.
   pub take-implies : kindOf (T .numbers) (r .node) ≡ 6 → ResultAt T (suc (r .acts)) (takeImplies (T .numbers) w r) (level1.takeGoal (r .acts) s (g .goal) (g .environment) (g .program) (g .level) b ++ ds)
   unfolding takeImplies putPath putAssumption puts level1.takeGoal
   take-implies k = rw (← goal .goal, goal-implies t (T .nodes) (nodes-are T) (r .node) (goal .node .0) (goal .node .1) k, up-small u (omega arith)) (implies-held _ k refl)
@@ -180,10 +191,12 @@ module _ (T : Table) (w : List ℕ) (r : Registers) (s : Store) (g : Sequent Lea
   unfolding onPath onGoal onMember
   right = onMember (onGoal (onPath r (suc (r .acts)) 3) (childOf (T .numbers) (r .node) 1) (r .frame) (r .program) (r .level)) 0 0 0 0
 
+  -- The machine saves these.
   right-is : right ≡ rightBranch (T .numbers) r
   unfolding right rightBranch
   right-is = rw (up-small u (omega arith))
 
+  -- both branches
   or-held : (w′ : List ℕ) → kindOf (T .numbers) (r .node) ≡ 5 → w′ ≡ puts (saved right) (puts (r .path ∷ r .line ∷ []) w (r .acts) 39) (r .acts) 43
       → ResultAt T (suc (r .acts)) (made w′ (onGoal (onChoice (onPath r (suc (r .acts)) 2) (suc (r .acts))) (childOf (T .numbers) (r .node) 0) (r .frame) (r .program) (r .level)))
       (take s (sequent (goalAt (T .numbers) (childOf (T .numbers) (r .node) 0)) (g .environment) (g .program) (g .level)) (branch (b .goals) (plain Dleft ∷ b .path))
@@ -205,7 +218,7 @@ module _ (T : Table) (w : List ℕ) (r : Registers) (s : Store) (g : Sequent Lea
           goal-later w′ (childOf t (r .node) 0) h (goal-child 0 (a .0) (a .1)),
           record {
             waiting = waiting-later w′ h;
-            taken = path-pushed u w w′ (r .path) (r .line) 2 (plain Dleft) (b .path) h (e 0 (omega arith)) (e 1 (omega arith)) refl (branch₀ .taken);
+            taken = path-pushed u (s .next) w w′ (r .path) (r .line) 2 (plain Dleft) (b .path) h (e 0 (omega arith)) (e 1 (omega arith)) refl (line-plain (s .next) w′ u 2 (omega arith) (λ q. omega arith)) (branch₀ .taken);
           },
         );
         shared = record {
@@ -219,12 +232,13 @@ module _ (T : Table) (w : List ℕ) (r : Registers) (s : Store) (g : Sequent Lea
                 goal-later w′ (childOf t (r .node) 1) h (goal-child 1 (a .2) (a .3)),
                 record {
                   waiting = waiting-later w′ h;
-                  taken = path-pushed u w w′ (r .path) (r .line) 3 (plain Dright) (b .path) h (e 0 (omega arith)) (e 1 (omega arith)) refl (branch₀ .taken);
+                  taken = path-pushed u (s .next) w w′ (r .path) (r .line) 3 (plain Dright) (b .path) h (e 0 (omega arith)) (e 1 (omega arith)) refl (line-plain (s .next) w′ u 3 (omega arith) (λ q. omega arith)) (branch₀ .taken);
                 },
               )) (sh .next) (omega arith) (sh .bounded) (sh .store) (sh .alternatives);
         };
       }
 
+  -- Taking |.
   pub take-or : kindOf (T .numbers) (r .node) ≡ 5 → ResultAt T (suc (r .acts)) (takeOr (T .numbers) w r) (level1.takeGoal (r .acts) s (g .goal) (g .environment) (g .program) (g .level) b ++ ds)
   unfolding takeOr putPath puts level1.takeGoal
   take-or k =
@@ -252,7 +266,7 @@ module _ (T : Table) (w : List ℕ) (r : Registers) (s : Store) (g : Sequent Lea
       let M₁ : FrameMade w₁ u (environmentAt w (r .frame)) = rw z₁ (copy-made w u (r .frame) room (goal .frame)) in
       let st₁ = store-grow T u x w w₁ s gr₁ (omega arith) (shared .store) in
       let d : v % 8 ≡ v = omega arith in
-      let F₀ = fresh-made 1 T w₁ u v (r .level) s (environmentAt w (r .frame)) fm (omega arith) small (one-there (shared .bounded)) st₁ M₁ in
+      let F₀ = fresh-made 1 T w₁ u v (r .level) s (environmentAt w (r .frame)) fm (omega arith) small (let q = bounded-next u s (shared .bounded) .0 in omega arith) st₁ M₁ in
       let F : FreshMade T w₁ w₂ u s (fresh (v ∷ []) (g .level) s) (update (g .environment) v (leaf (var x))) =
       rw (z₂, ← goal .level, ← goal .environment) (subst (λ (j : ℕ). FreshMade T w₁ (putFresh 1 w₁ u v x (r .level)) u s (fresh (j ∷ []) (r .level) s) (update (environmentAt w (r .frame)) j (leaf (var x)))) d F₀) in
       let l₁ : List ℕ = r .path ∷ r .line ∷ [] in
@@ -274,32 +288,24 @@ module _ (T : Table) (w : List ℕ) (r : Registers) (s : Store) (g : Sequent Lea
           record { node = c .node; goal = refl; frame = M .frame; environment = M .environment; program = c .program; level = c .level; low = c .low },
           record {
             waiting = waiting-later w′ h;
-            taken = path-pushed u w w′ (r .path) (r .line) 5 (Dsome (leaf (var x))) (b .path) h (e 0 (omega arith)) (e 1 (omega arith)) (ap (λ (j : ℕ). Dsome (leaf (var j))) f) (branch₀ .taken);
+            taken = path-pushed u (suc x) w w′ (r .path) (r .line) 5 (Dsome (leaf (var x))) (b .path) h (e 0 (omega arith)) (e 1 (omega arith)) (ap (λ (j : ℕ). Dsome (leaf (var j))) f) (record { kind = omega arith; some = λ q. omega arith; clause = λ q. absurd (omega arith) }) (path-wider u x (suc x) (b .path) w (r .path) (r .line) (omega arith) (branch₀ .taken));
           },
         );
         shared = record {
           store = store-up T u w′ (fresh (v ∷ []) (g .level) s) (store-grow T u (suc x) w₂ w′ (fresh (v ∷ []) (g .level) s) (gr₃ (suc x)) (omega arith) (F .store));
-          bounded = one-more (shared .bounded);
+          bounded = record {
+            bindings = sh .bounded .bindings;
+            least = let q = sh .bounded .least in omega arith;
+            variables = let q = shared .bounded .variables in omega arith;
+            later = λ q. bounded-next u s (shared .bounded) .1;
+          };
           next = refl;
           trail = sh .trail;
           alternatives = alternatives-wider T (suc u) (suc x) (omega arith) (sh .alternatives);
         };
       }
-    where
-      one-there : Bounded (r .acts) s → s .next + 1 ≤ 9 * suc (r .acts)
-      one-there bd = go (r .acts) (bd .variables) (bd .later)
-        where
-          go : (n : ℕ) → s .next ≤ 8 * n + 8 → (1 ≤ n → s .next ≤ 8 * n + 1) → s .next + 1 ≤ 9 * suc n
-          go zero p q = omega arith
-          go (suc n) p q = let j = q (omega arith) in omega arith
 
-      one-more : Bounded (r .acts) s → Bounded (suc (r .acts)) (fresh (labelOf (T .numbers) (r .node) ∷ []) (g .level) s)
-      one-more bd = let y = bd .bindings in let v = bd .variables in record { bindings = omega arith; variables = omega arith; later = λ q. go (r .acts) (bd .variables) (bd .later) }
-        where
-          go : (n : ℕ) → s .next ≤ 8 * n + 8 → (1 ≤ n → s .next ≤ 8 * n + 1) → suc (s .next) ≤ 8 * suc n + 1
-          go zero p q = omega arith
-          go (suc n) p q = let j = q (omega arith) in omega arith
-
+  -- Taking E.
   pub take-exists : Formed s → kindOf (T .numbers) (r .node) ≡ 7 → ResultAt T (suc (r .acts)) (takeExists (T .numbers) w r) (level1.takeGoal (r .acts) s (g .goal) (g .environment) (g .program) (g .level) b ++ ds)
   unfolding takeExists putPath puts level1.takeGoal onPath onNext
   take-exists fm k =
@@ -346,12 +352,13 @@ module _ (T : Table) (w : List ℕ) (r : Registers) (s : Store) (g : Sequent Lea
           record { node = d .node; goal = refl; frame = M .frame; environment = M .environment; program = d .program; level = ap suc (goal .level); low = let l = goal .low in omega arith },
           record {
             waiting = waiting-later w′ h;
-            taken = path-pushed u w w′ (r .path) (r .line) 6 (Dall (leaf (con u (suc (g .level))))) (b .path) h (e 0 (omega arith)) (e 1 (omega arith)) (ap (λ (j : ℕ). Dall (leaf (con u j))) c) (branch₀ .taken);
+            taken = path-pushed u (s .next) w w′ (r .path) (r .line) 6 (Dall (leaf (con u (suc (g .level))))) (b .path) h (e 0 (omega arith)) (e 1 (omega arith)) (ap (λ (j : ℕ). Dall (leaf (con u j))) c) (line-plain (s .next) w′ u 6 (omega arith) (λ q. omega arith)) (branch₀ .taken);
           },
         );
         shared = shared-grow T u w w′ (r .next) (r .trail) (r .choice) s ds gr shared;
       }
 
+  -- Taking U.
   pub take-forall : kindOf (T .numbers) (r .node) ≡ 8 → ResultAt T (suc (r .acts)) (takeForall (T .numbers) w r) (level1.takeGoal (r .acts) s (g .goal) (g .environment) (g .program) (g .level) b ++ ds)
   unfolding takeForall putConstant putPath puts level1.takeGoal
   take-forall k =

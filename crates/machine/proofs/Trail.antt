@@ -2,7 +2,7 @@
 use Prim.Native.Nat.{ℕ, zero, suc, _+_, _-_, _*_, _/_, _%_, _≤_, _<_}
 use native.Mathlib.Omega.{arith}
 use mathlib.Core.Bool.{Bool, true, false, cond}
-use mathlib.Core.Path.{_≡_, refl, sym, ap, _∙_}
+use mathlib.Core.Path.{_≡_, refl, sym, _∙_}
 use mathlib.Core.List.{List, [], _∷_}
 use lib.Dec.{eqb}
 use lib.ListN.{length, getD}
@@ -11,8 +11,8 @@ use Rattle.terms.specs.Lists.{All}
 use Rattle.machine.specs.Records.{field, put, cellOf, levelOf, putCell, putLevel, putEntry}
 use Rattle.machine.specs.Words.{nameOf}
 use Rattle.machine.specs.Trail.{lowerTo, bindTo, oldLevel, effect, undoEntry, undo}
-use Rattle.machine.proofs.Records.{length-put, field-same, field-other, field-agree, There, cell-same, level-same, cell-put, level-put, level-cell, cell-other, cell-level, level-other, puts, puts-at}
-use Rattle.machine.proofs.Heap.{Heap, Grow, heap-refl, heap-trans, heap-put, heap-low, heap-22, heap-cell, heap-level, heap-both, grow-refl, grow-puts}
+use Rattle.machine.proofs.Records.{field-agree, There, cell-same, level-same, level-cell, cell-other, cell-level, level-other, puts, puts-at}
+use Rattle.machine.proofs.Heap.{Heap, Grow, heap-refl, heap-trans, heap-low, heap-22, heap-cell, heap-level, heap-both, grow-puts}
 
 -- The writes by a variable's word: what they leave as it was.
 pub heap-lowerTo : (n : ℕ) (w : List ℕ) (a k : ℕ) → Heap 18 n w (lowerTo w a k)
@@ -23,6 +23,7 @@ heap-lowerTo n w a k = go (eqb a 0)
     go true = heap-refl 18 n w
     go false = heap-level n w (nameOf a) k
 
+-- Binding leaves records,
 pub heap-bindTo : (n : ℕ) (w : List ℕ) (a v : ℕ) → Heap 18 n w (bindTo w a v)
 unfolding bindTo
 heap-bindTo n w a v = go (eqb a 0)
@@ -31,6 +32,7 @@ heap-bindTo n w a v = go (eqb a 0)
     go true = heap-refl 18 n w
     go false = heap-cell n w (nameOf a) v
 
+-- lowering leaves cells,
 pub cell-lowerTo : (w : List ℕ) (a k x : ℕ) → cellOf (lowerTo w a k) x ≡ cellOf w x
 unfolding lowerTo
 cell-lowerTo w a k x = go (eqb a 0)
@@ -39,6 +41,7 @@ cell-lowerTo w a k x = go (eqb a 0)
     go true = refl
     go false = cell-level w (nameOf a) k x
 
+-- binding leaves levels.
 pub level-bindTo : (w : List ℕ) (a v x : ℕ) → levelOf (bindTo w a v) x ≡ levelOf w x
 unfolding bindTo
 level-bindTo w a v x = go (eqb a 0)
@@ -63,6 +66,7 @@ grow-lowerTo n k a i w w′ g = go (eqb a 0)
       levels = λ y h. field-agree w w′ (x / 9) (9 + x % 9) i (y / 9) (9 + y % 9) (g .heap .len) (g .levels y h);
     }
 
+-- Binding.
 grow-bindTo : (n k a v : ℕ) (w w′ : List ℕ) → Grow n k w w′ → Grow n k (bindTo w a v) (bindTo w′ a v)
 unfolding bindTo putCell cellOf
 grow-bindTo n k a v w w′ g = go (eqb a 0)
@@ -83,16 +87,19 @@ unfoldable pub undoAll : List ℕ → List ℕ → List ℕ
 undoAll [] w = w
 undoAll (r ∷ rs) w = undoAll rs (undoEntry w r)
 
+-- One entry leaves records,
 heap-undoEntry : (n : ℕ) (w : List ℕ) (r : ℕ) → Heap 18 n w (undoEntry w r)
 unfolding undoEntry
 heap-undoEntry n w r =
     heap-trans 18 n w (bindTo w (field w r 20) 0) (undoEntry w r) (heap-bindTo n w (field w r 20) 0) (heap-lowerTo n (bindTo w (field w r 20) 0) (field w r 18) (field w r 19))
 
+-- and so do all.
 pub heap-undoAll : (n : ℕ) (rs : List ℕ) (w : List ℕ) → Heap 18 n w (undoAll rs w)
 unfolding undoAll
 heap-undoAll n [] w = heap-refl 18 n w
 heap-undoAll n (r ∷ rs) w = heap-trans 18 n w (undoEntry w r) (undoAll rs (undoEntry w r)) (heap-undoEntry n w r) (heap-undoAll n rs (undoEntry w r))
 
+-- One entry keeps the order of two memories.
 grow-undoEntry : (n k r : ℕ) (w w′ : List ℕ) → r < n → Grow n k w w′ → Grow n k (undoEntry w r) (undoEntry w′ r)
 unfolding undoEntry
 grow-undoEntry n k r w w′ l g =
@@ -108,10 +115,12 @@ grow-undoAll n k (r ∷ rs) w w′ l g = grow-undoAll n k rs (undoEntry w r) (un
 
 -- An entry
 
+-- Its fields are written in a row.
 entry-is : (w : List ℕ) (u z k y h : ℕ) → putEntry w u z k y h ≡ puts (z ∷ k ∷ y ∷ h ∷ []) w u 18
 unfolding putEntry puts
 entry-is w u z k y h = refl
 
+-- It leaves older records.
 pub grow-entry : (n k : ℕ) (w : List ℕ) (u z i y h : ℕ) → n ≤ u → Grow n k w (putEntry w u z i y h)
 grow-entry n k w u z i y h l = rw (entry-is w u z i y h) (grow-puts (z ∷ i ∷ y ∷ h ∷ []) w n k u 18 l (omega arith) (omega arith))
 
@@ -134,9 +143,11 @@ heap-entry n w u z k y h =
 abbrev pub LowerAt : ℕ → List ℕ → Type 0
 LowerAt a w = eqb a 0 ≡ false → There (nameOf a) w
 
+-- The same, and the variable is unbound.
 abbrev pub FreeAt : ℕ → List ℕ → Type 0
 FreeAt a w = eqb a 0 ≡ false → (cellOf w (nameOf a) ≡ 0) × There (nameOf a) w
 
+-- Unbinding gives back the cells,
 cell-back : (y a x : ℕ) (w v : List ℕ) → FreeAt y w → length v ≡ length w → ((x : ℕ) → cellOf v x ≡ cellOf (bindTo w y a) x) → cellOf (bindTo v y 0) x ≡ cellOf w x
 unfolding bindTo
 cell-back y a x w v f e h = go (eqb y 0) f h (eqb x (nameOf y)) refl
@@ -150,6 +161,7 @@ cell-back y a x w v f e h = go (eqb y 0) f h (eqb x (nameOf y)) refl
     go false f h true q = let l = f refl .1 in rw (eqb-true x z q, cell-same v z 0 (omega arith)) (sym (f refl .0))
     go false f h false q = let n = eqb-false x z q in cell-other v z 0 x n ∙ h x ∙ cell-other w z a x n
 
+-- and the old level the levels.
 level-back : (z i x : ℕ) (w v : List ℕ) → LowerAt z w → length v ≡ length w → ((x : ℕ) → levelOf v x ≡ levelOf (lowerTo w z i) x) → levelOf (lowerTo v z (oldLevel w z)) x ≡ levelOf w x
 unfolding lowerTo oldLevel
 level-back z i x w v f e h = go (eqb z 0) f h (eqb x (nameOf z)) refl
@@ -165,6 +177,7 @@ level-back z i x w v f e h = go (eqb z 0) f h (eqb x (nameOf z)) refl
 
 -- An act that lowers and binds
 
+-- Older records stay.
 pub heap-effect : (n : ℕ) (w : List ℕ) (u z i y a h : ℕ) → n ≤ u → Heap 18 n w (effect w u z i y a h)
 unfolding effect
 heap-effect n w u z i y a h l =
@@ -225,12 +238,14 @@ unfoldable pub Chain : List ℕ → List ℕ → ℕ → ℕ → Type 0
 Chain [] w h mark = h ≡ mark
 Chain (r ∷ rs) w h mark = (h ≡ suc r) × (mark ≤ r) × (field w r 21 ≤ r) × Chain rs w (field w r 21) mark
 
+-- It stays.
 pub chain-heap : (n : ℕ) (rs : List ℕ) (w w′ : List ℕ) (h mark : ℕ) → All (λ r. r < n) rs → Heap 18 n w w′ → Chain rs w h mark → Chain rs w′ h mark
 unfolding Chain
 chain-heap n [] w w′ h mark l g c = c
 chain-heap n (r ∷ rs) w w′ h mark l g c =
     rw (g .old r 21 (l .0) (omega arith) (omega arith)) (c .0, c .1, c .2, chain-heap n rs w w′ (field w r 21) mark (l .1) g (c .3))
 
+-- The mark is not above the head.
 pub chain-le : (rs : List ℕ) (w : List ℕ) (h mark : ℕ) → Chain rs w h mark → mark ≤ h
 unfolding Chain
 chain-le [] w h mark k = omega arith

@@ -1,74 +1,60 @@
 -- The act of trying a member, and taking an atom, from state to state.
-use Prim.Native.Nat.{ℕ, zero, suc, _+_, _-_, _*_, _/_, _%_, _≤_, _<_}
+use Prim.Native.Nat.{ℕ, suc, _+_, _-_, _*_, _≤_, _<_}
 use native.Mathlib.Omega.{arith}
-use mathlib.Core.Bool.{Bool, true, false, cond, false≢true}
-use mathlib.Core.Path.{_≡_, refl, sym, ap, ap₂, _∙_, subst}
-use mathlib.Core.List.{List, [], _∷_, _++_, map}
-use mathlib.Core.Option.{Option, none, some}
-use mathlib.Core.Logic.{_⊎_, inl, inr}
-use lib.Dec.{eqb, ltb}
-use lib.ListN.{length, getD}
-use borrow.Author.Tests.{eqb-true, eqb-false, eq-eqb, ne-eqb}
-use Rattle.terms.specs.Lists.{All}
-use Rattle.terms.specs.Terms.{Term, leaf, Terms, substitutes}
-use Rattle.formulas.specs.Formulas.{Goal}
-use Rattle.formulas.specs.Members.{Member}
-use Rattle.sequents.specs.Sequents.{Environment, Program, Entry, entry, entries, Sequent, sequent, assign, bodySequent, Line, Dclause}
-use Rattle.unification.specs.Store.{Leaf, var, con, Store, fresh, past, freshLevels, freshVariables}
-use Rattle.unification.specs.Matching.{Pair, pairs, pushPairs, comparing}
+use mathlib.Core.Bool.{Bool, true, false, cond}
+use mathlib.Core.Path.{_≡_, refl, sym, ap, _∙_, subst}
+use mathlib.Core.List.{List, [], _∷_, _++_}
+use lib.Dec.{eqb}
+use lib.ListN.{length}
+use borrow.Author.Tests.{eqb-true}
+use Rattle.terms.specs.Terms.{leaf, substitutes}
+use Rattle.sequents.specs.Sequents.{Entry, entry, entries, Sequent}
+use Rattle.unification.specs.Store.{Leaf, Store}
 use Rattle.unification.specs.Promises.{Formed}
 use Rattle.search.specs.Configurations.{Branch, branch, Atom, Configuration, try}
-use Rattle.search.specs.Steps.{settle}
 use Rattle.search.specs.Steps as level1
-use Rattle.tables.specs.Layout.{kindOf, labelOf, childOf, membersOf}
-use Rattle.tables.specs.Decoding.{argumentsAt, goalAt, clauseAtNode}
+use Rattle.search.proofs.Invariant.{EnvironmentBelow}
+use Rattle.tables.specs.Layout.{kindOf, labelOf}
+use Rattle.tables.specs.Decoding.{argumentsAt}
 use Rattle.tables.proofs.Decoding.{goal-atom}
 use Rattle.machine.specs.declared.Registers.{Registers}
 use Rattle.machine.specs.declared.Found.{Found}
-use Rattle.machine.specs.Records.{field, Made, made, putGoal, putPath, putUse, putChoice, putChosen, putPosition, putPairs}
-use Rattle.machine.specs.Changes.{onMode, onNext, onTrail, onChoice, onGoals, onPath, onGoal, onMember}
-use Rattle.machine.specs.Words.{narrow, up, environmentAt}
-use Rattle.machine.specs.Frames.{copyFrame, putFresh}
-use Rattle.machine.specs.Reading.{lineAt, variablesFrom}
+use Rattle.machine.specs.Records.{made}
+use Rattle.machine.specs.Changes.{onMember}
+use Rattle.machine.specs.Words.{environmentAt}
 use Rattle.machine.specs.Members.{findMember, headOf}
-use Rattle.machine.specs.Choices.{saveChoice, failed}
-use Rattle.machine.specs.Goals.{membersLeft, tryFrom, takeAtom}
-use Rattle.machine.specs.Matching.{pairsFrom, duePairs}
-use Rattle.machine.specs.Trying.{clauseOf, clauseFrame, nextClause, nextMember, putPrefix, leaveOthers, putBody, putTry, tried, tryMember, tryFound, tryNext}
-use Rattle.machine.proofs.Records.{puts, puts-at, puts-out, length-puts}
-use Rattle.machine.proofs.Words.{narrow-small, up-small}
-use Rattle.machine.proofs.Heap.{Heap, Grow, heap-22, grow-refl, grow-trans, grow-less, grow-puts}
-use Rattle.machine.proofs.Tables.{Table, nodes-are, Applied}
-use Rattle.machine.proofs.Terms.{FrameAt, frame-up, frame-heap, environment-heap}
-use Rattle.machine.proofs.Stores.{StoreAt, store-up, store-grow}
-use Rattle.machine.proofs.Places.{PairsAt, Pushed}
-use Rattle.machine.proofs.Branches.{PathAt, ProgramAt, program-heap, program-up, SequentAt, sequent-up, GoalsAt, goals-heap, goals-up, BranchAt, branch-heap, branch-up}
-use Rattle.machine.proofs.Configurations.{storeOf, AtomAt, atom-heap, atom-up, PositionAt, position-heap, position-up, position-same, TryAt, ConfigurationAt}
-use Rattle.machine.proofs.Alternatives.{Bounded, bounded-up, AlternativesAt, alternatives-up, alternatives-grow, alternatives-wider, SharedAt, shared-up, shared-grow, StateAt, ResultAt, failed-result}
-use Rattle.machine.proofs.Onward.{pushed-result}
-use Rattle.machine.proofs.Comparing.{push-held}
-use Rattle.machine.proofs.Frames.{SameFrames, same-trans, same-puts, FrameMade, copy-grow, copy-made, made-same, digits, FreshMade, fresh-made}
-use Rattle.machine.proofs.Choosing.{saved, save-is, saved-length, resumed, SavedAt, choice-opened}
-use Rattle.machine.proofs.Taking.{path-pushed}
-use Rattle.machine.proofs.Names.{digits-length, Packed, packed-few}
-use Rattle.machine.proofs.Members.{bodyOf, memberOf, LeafOf, head-applied, FoundAt}
-use Rattle.machine.proofs.Positions.{MembersAt, some-left, none-left, program-members, FirstAt, position-first}
+use Rattle.machine.specs.Goals.{tryFrom, takeAtom}
+use Rattle.machine.specs.Trying.{clauseOf, clauseFrame, nextMember, tryMember, tryFound, tryNext}
+use Rattle.machine.proofs.Words.{up-small}
+use Rattle.machine.proofs.Tables.{Table, nodes-are}
+use Rattle.machine.proofs.Terms.{FrameIn}
+use Rattle.machine.proofs.Branches.{SequentAt, sequent-up, BranchAt, branch-up}
+use Rattle.machine.proofs.Configurations.{storeOf, atom-up, position-up, ConfigurationAt}
+use Rattle.machine.proofs.Alternatives.{SharedAt, shared-up, StateAt, ResultAt}
+use Rattle.machine.proofs.Names.{Packed}
+use Rattle.machine.proofs.Members.{memberOf, LeafOf}
+use Rattle.machine.proofs.Positions.{MembersAt, some-left, none-left, program-members, position-first}
 use Rattle.machine.proofs.Trying.{try-from, next-is, try-member}
 
+-- The first elements of equal lists,
 head-is : {A : Type 0} (a b : A) (x y : List A) → a ∷ x ≡ b ∷ y → a ≡ b
 head-is a b x y e = cc
 
+-- and the others.
 tail-is : {A : Type 0} (a b : A) (x y : List A) → a ∷ x ≡ b ∷ y → x ≡ y
 tail-is a b x y e = cc
 
+-- Three lists.
 pub append-assoc : {A : Type 0} (x y z : List A) → (x ++ y) ++ z ≡ x ++ (y ++ z)
 append-assoc [] y z = refl
 append-assoc (a ∷ x) y z = ap (a ∷_) (append-assoc x y z)
 
 module _ (T : Table) (w : List ℕ) (r : Registers) (b : Branch) (ds : List Configuration) (room : 64 * suc (r .acts) ≤ length w) (small : r .acts < 50000) where
+  -- The table.
   abbrev t : List ℕ
   t = T .numbers
 
+  -- Members left, an act later.
   members-up : (q : Registers) (es : List (Entry Leaf)) → MembersAt T (r .acts) w q es → MembersAt T (suc (r .acts)) w q es
   members-up q es (some-left e p) = some-left e (position-up T (r .acts) w q es p)
   members-up q es (none-left e z) = none-left e z
@@ -82,11 +68,11 @@ module _ (T : Table) (w : List ℕ) (r : Registers) (b : Branch) (ds : List Conf
       let p = f .place in
       let l = f .low in
       try-from T (suc (r .acts)) w (onMember r h i j (suc (r .place))) s a others (suc k) b ds (members-up (onMember r h i j (suc (r .place))) others left)
-      (atom-up T (r .acts) w (r .node) (r .frame) (r .program) (r .level) a (f .atom)) (ap suc p) (omega arith) (omega arith) (branch-up T (r .acts) w (r .goals) (r .path) (r .line) b (f .branch))
+      (atom-up T (r .acts) (s .next) w (r .node) (r .frame) (r .program) (r .level) a (f .atom)) (ap suc p) (omega arith) (omega arith) (branch-up T (r .acts) (s .next) w (r .goals) (r .path) (r .line) b (f .branch))
       (shared-up T (r .acts) w (r .next) (r .trail) (r .choice) s ds (st .shared))
 
   -- The member m that was found, with the position of the next.
-  tried-found : (s : Store) (a : Atom) (x : Entry Leaf) (xs others : List (Entry Leaf)) (k h i j : ℕ) (m : Found) → Formed s → StateAt T (r .acts) w r (try s a x xs k b) ds → FrameAt (r .acts) w (clauseFrame w r)
+  tried-found : (s : Store) (a : Atom) (x : Entry Leaf) (xs others : List (Entry Leaf)) (k h i j : ℕ) (m : Found) → Formed s → StateAt T (r .acts) w r (try s a x xs k b) ds → FrameIn (r .acts) (s .next) w (clauseFrame w r)
       → LeafOf T (m .leaf) → Packed (m .count) (m .names) → nextMember (T .numbers) w r ≡ onMember r h i j (suc (r .place)) → MembersAt T (r .acts) w (onMember r h i j (suc (r .place))) others
       → ResultAt T (suc (r .acts)) (tryFound (T .numbers) (T .clauses) w r m)
       ((cond (eqb (a .predicate) (memberOf T m .predicate)) (level1.tryMember s a (entry (environmentAt w (clauseFrame w r)) (memberOf T m)) k b) [] ++ level1.tryFrom s a others (suc k) b) ++ ds)
@@ -110,10 +96,10 @@ module _ (T : Table) (w : List ℕ) (r : Registers) (b : Branch) (ds : List Conf
       go false e = subst (λ (z : Registers). ResultAt T (suc (r .acts)) (tryFrom (T .clauses) w z) (B ++ ds)) (sym Q) (others-tried s a x xs others k h i j st left)
 
   -- One act.
-  pub try-act : (s : Store) (a : Atom) (x : Entry Leaf) (xs : List (Entry Leaf)) (k : ℕ) → Formed s → StateAt T (r .acts) w r (try s a x xs k b) ds
+  pub try-act : (s : Store) (a : Atom) (x : Entry Leaf) (xs : List (Entry Leaf)) (k : ℕ) → Formed s → EnvironmentBelow (s .next) (x .environment) → StateAt T (r .acts) w r (try s a x xs k b) ds
       → ResultAt T (suc (r .acts)) (tryNext (T .numbers) (T .clauses) w r) (level1.step (r .acts) (try s a x xs k b) ++ ds)
   unfolding tryNext level1.step ConfigurationAt storeOf
-  try-act s a x xs k fm st =
+  try-act s a x xs k fm bl st =
       let f = st .front in
       let F = position-first T (r .acts) w r (x ∷ xs) (f .position) in
       let N = next-is T w r in
@@ -127,15 +113,15 @@ module _ (T : Table) (w : List ℕ) (r : Registers) (b : Branch) (ds : List Conf
       λ (y : Entry Leaf) (ys : List (Entry Leaf)).
       ResultAt T (suc (r .acts)) (tryFound t (T .clauses) w r m) ((cond (eqb (a .predicate) (y .member .predicate)) (level1.tryMember s a y k b) [] ++ level1.tryFrom s a ys (suc k) b) ++ ds) in
       let base : R (entry (environmentAt w (clauseFrame w r)) (memberOf T m)) (F .others) =
-      tried-found s a x xs (F .others) k (N .0) (N .1) (N .2) m fm st (f .position .frame) (F .found .leaf) (F .found .packed) Q (subst (λ (z : Registers). MembersAt T (r .acts) w z (F .others)) Q (F .left)) in
+      tried-found s a x xs (F .others) k (N .0) (N .1) (N .2) m fm st (record { frame = f .position .frame; below = subst (λ (y : Entry Leaf). EnvironmentBelow (s .next) (y .environment)) X bl }) (F .found .leaf) (F .found .packed) Q (subst (λ (z : Registers). MembersAt T (r .acts) w z (F .others)) Q (F .left)) in
       subst (λ (y : Entry Leaf). R y xs) (sym X) (subst (λ (ys : List (Entry Leaf)). R (entry (environmentAt w (clauseFrame w r)) (memberOf T m)) ys) (sym Y) base)
 
   -- Taking an atom.
-  pub take-atom : (s : Store) (g : Sequent Leaf) → kindOf (T .numbers) (r .node) ≡ 2 → SequentAt T (r .acts) w (r .node) (r .frame) (r .program) (r .level) g → BranchAt T (r .acts) w (r .goals) (r .path) (r .line) b
+  pub take-atom : (s : Store) (g : Sequent Leaf) → kindOf (T .numbers) (r .node) ≡ 2 → SequentAt T (r .acts) w (r .node) (r .frame) (r .program) (r .level) g → EnvironmentBelow (s .next) (g .environment) → BranchAt T (r .acts) (s .next) w (r .goals) (r .path) (r .line) b
       → SharedAt T (r .acts) w (r .next) (r .trail) (r .choice) s ds
       → ResultAt T (suc (r .acts)) (takeAtom (T .clauses) w r) (level1.takeGoal (r .acts) s (g .goal) (g .environment) (g .program) (g .level) b ++ ds)
   unfolding takeAtom level1.takeGoal onMember
-  take-atom s g k sq br sh =
+  take-atom s g k sq bl br sh =
       let u = r .acts in
       let n = sq .node .0 in
       let Q = sequent-up T u w (r .node) (r .frame) (r .program) (r .level) g sq in
@@ -144,9 +130,9 @@ module _ (T : Table) (w : List ℕ) (r : Registers) (b : Branch) (ds : List Conf
       (program-members T (suc u) w r 1 (Q .program)) (record {
         node = (n, T .made .goalNode (r .node) n (sq .node .1) .atom k);
         predicate = refl;
-        frame = Q .frame;
+        frame = record { frame = Q .frame; below = subst (EnvironmentBelow (s .next)) (sym (Q .environment)) bl };
         arguments = ap (substitutes (argumentsAt t (r .node))) (Q .environment);
         program = Q .program;
         level = Q .level;
         low = Q .low;
-      }) refl (omega arith) (omega arith) (branch-up T u w (r .goals) (r .path) (r .line) b br) (shared-up T u w (r .next) (r .trail) (r .choice) s ds sh))
+      }) refl (omega arith) (omega arith) (branch-up T u (s .next) w (r .goals) (r .path) (r .line) b br) (shared-up T u w (r .next) (r .trail) (r .choice) s ds sh))

@@ -1,27 +1,25 @@
 -- Trying a member is level 1's `tryMember`, with the members left as the alternative.
-use Prim.Native.Nat.{ℕ, zero, suc, _+_, _-_, _*_, _/_, _%_, _≤_, _<_}
+use Prim.Native.Nat.{ℕ, suc, _+_, _-_, _*_, _≤_, _<_}
 use native.Mathlib.Omega.{arith}
-use mathlib.Core.Bool.{Bool, true, false, cond, false≢true}
+use mathlib.Core.Bool.{Bool, true, false, cond}
 use mathlib.Core.Path.{_≡_, refl, sym, ap, ap₂, _∙_, subst}
-use mathlib.Core.List.{List, [], _∷_, _++_, map}
-use mathlib.Core.Option.{Option, none, some}
+use mathlib.Core.List.{List, [], _∷_, _++_}
+use mathlib.Core.Option.{none, some}
 use mathlib.Core.Logic.{_⊎_, inl, inr}
 use lib.Dec.{eqb, ltb}
 use lib.ListN.{length, getD}
-use borrow.Author.Tests.{eqb-true, eqb-false, eq-eqb, ne-eqb}
-use Rattle.terms.specs.Lists.{All}
-use Rattle.terms.specs.Terms.{Term, leaf, Terms, substitutes}
-use Rattle.formulas.specs.Formulas.{Goal}
-use Rattle.formulas.specs.Members.{Member}
-use Rattle.sequents.specs.Sequents.{Environment, Program, Entry, entry, entries, Sequent, sequent, assign, bodySequent, Line, Dclause}
-use Rattle.unification.specs.Store.{Leaf, var, con, Store, fresh, past, freshLevels, freshVariables}
-use Rattle.unification.specs.Matching.{Pair, pairs, pushPairs, comparing}
+use borrow.Author.Tests.{eqb-true, ne-eqb}
+use Rattle.terms.specs.Terms.{leaf, Terms, substitutes}
+use Rattle.sequents.specs.Sequents.{Environment, Entry, entry, assign, bodySequent, Dclause}
+use Rattle.unification.specs.Store.{Leaf, var, Store, fresh, past, freshVariables}
+use Rattle.unification.specs.Matching.{pushPairs, comparing}
 use Rattle.unification.specs.Promises.{Formed}
 use Rattle.search.specs.Configurations.{Branch, branch, Atom, Configuration, try}
 use Rattle.search.specs.Steps.{settle}
 use Rattle.search.specs.Steps as level1
+use Rattle.search.proofs.Invariant.{EnvironmentBelow, prefix-below}
 use Rattle.tables.specs.Layout.{kindOf, labelOf, childOf, membersOf}
-use Rattle.tables.specs.Decoding.{argumentsAt, goalAt, clauseAtNode}
+use Rattle.tables.specs.Decoding.{argumentsAt, goalAt}
 use Rattle.machine.specs.declared.Registers.{Registers}
 use Rattle.machine.specs.declared.Found.{Found}
 use Rattle.machine.specs.Records.{field, Made, made, putGoal, putPath, putUse, putChoice, putChosen, putPosition, putPairs}
@@ -29,37 +27,38 @@ use Rattle.machine.specs.Changes.{onMode, onNext, onTrail, onChoice, onG
 use Rattle.machine.specs.Words.{narrow, up, environmentAt}
 use Rattle.machine.specs.Frames.{copyFrame, putFresh}
 use Rattle.machine.specs.Reading.{lineAt, variablesFrom}
-use Rattle.machine.specs.Members.{findMember, headOf}
-use Rattle.machine.specs.Choices.{saveChoice, failed}
+use Rattle.machine.specs.Members.{headOf}
+use Rattle.machine.specs.Choices.{saveChoice}
 use Rattle.machine.specs.Goals.{membersLeft, tryFrom}
 use Rattle.machine.specs.Matching.{pairsFrom, duePairs}
-use Rattle.machine.specs.Trying.{clauseOf, clauseFrame, nextClause, nextMember, putPrefix, leaveOthers, putBody, putTry, tried, tryMember, tryFound, tryNext}
+use Rattle.machine.specs.Trying.{clauseOf, clauseFrame, nextClause, nextMember, putPrefix, leaveOthers, putBody, putTry, tried, tryMember}
 use Rattle.machine.proofs.Records.{puts, puts-at, puts-out, length-puts}
 use Rattle.machine.proofs.Words.{narrow-small, up-small}
-use Rattle.machine.proofs.Heap.{Heap, Grow, heap-22, grow-refl, grow-trans, grow-less, grow-puts}
-use Rattle.machine.proofs.Tables.{Table, Applied}
-use Rattle.machine.proofs.Terms.{FrameAt, frame-up, frame-heap, environment-heap}
-use Rattle.machine.proofs.Stores.{StoreAt, store-up, store-grow}
+use Rattle.machine.proofs.Heap.{Heap, Grow, heap-22, grow-refl, grow-trans, grow-puts}
+use Rattle.machine.proofs.Tables.{Table}
+use Rattle.machine.proofs.Terms.{FrameIn, framed-heap, framed-up, environment-heap}
+use Rattle.machine.proofs.Stores.{store-up, store-grow}
 use Rattle.machine.proofs.Places.{PairsAt, Pushed}
-use Rattle.machine.proofs.Branches.{PathAt, ProgramAt, program-heap, program-up, SequentAt, GoalsAt, goals-heap, goals-up, BranchAt, branch-heap, branch-up}
-use Rattle.machine.proofs.Configurations.{storeOf, AtomAt, atom-heap, atom-up, PositionAt, position-heap, position-up, position-same, TryAt, ConfigurationAt}
-use Rattle.machine.proofs.Alternatives.{Bounded, bounded-up, AlternativesAt, alternatives-up, alternatives-grow, alternatives-wider, SharedAt, shared-up, shared-grow, StateAt, ResultAt, failed-result}
+use Rattle.machine.proofs.Branches.{path-wider, GoalsAt, goals-heap, goals-up, BranchAt, branch-heap, branch-up}
+use Rattle.machine.proofs.Configurations.{storeOf, AtomAt, atom-heap, atom-up, PositionAt, position-heap, position-up, position-same, ConfigurationAt}
+use Rattle.machine.proofs.Alternatives.{Bounded, AlternativesAt, alternatives-wider, SharedAt, shared-grow, ResultAt, failed-result}
 use Rattle.machine.proofs.Onward.{pushed-result}
 use Rattle.machine.proofs.Comparing.{push-held}
 use Rattle.machine.proofs.Frames.{SameFrames, same-trans, same-puts, FrameMade, copy-grow, copy-made, made-same, digits, FreshMade, fresh-made}
-use Rattle.machine.proofs.Choosing.{saved, save-is, saved-length, resumed, SavedAt, choice-opened}
+use Rattle.machine.proofs.Choosing.{saved, saved-length, resumed, SavedAt, choice-opened}
 use Rattle.machine.proofs.Taking.{path-pushed}
 use Rattle.machine.proofs.Names.{digits-length, Packed, packed-few}
-use Rattle.machine.proofs.Members.{bodyOf, memberOf, LeafOf, head-applied, FoundAt}
-use Rattle.machine.proofs.Positions.{MembersAt, some-left, none-left, program-members, FirstAt, position-first}
+use Rattle.machine.proofs.Members.{bodyOf, memberOf, LeafOf, head-applied}
+use Rattle.machine.proofs.Positions.{MembersAt, some-left, none-left, position-first}
 
+-- An empty list has no first element.
 not-empty : {A : Type 0} (a : A) (l : List A) → _≡_ {A = List A} [] (a ∷ l) → ⊥
 not-empty a l e = let z : 0 ≡ suc (length l) = ap length e in omega arith
 
 module _ (T : Table) where
   -- The member that the registers name is due, or the atom fails.
   pub try-from : (n : ℕ) (w : List ℕ) (r : Registers) (s : Store) (a : Atom) (es : List (Entry Leaf)) (k : ℕ) (b : Branch) (ds : List Configuration) → MembersAt T n w r es
-      → AtomAt T n w (r .node) (r .frame) (r .program) (r .level) a → r .place ≡ k → 1 ≤ k → k ≤ n → BranchAt T n w (r .goals) (r .path) (r .line) b
+      → AtomAt T n (s .next) w (r .node) (r .frame) (r .program) (r .level) a → r .place ≡ k → 1 ≤ k → k ≤ n → BranchAt T n (s .next) w (r .goals) (r .path) (r .line) b
       → SharedAt T n w (r .next) (r .trail) (r .choice) s ds → ResultAt T n (tryFrom (T .clauses) w r) (level1.tryFrom s a es k b ++ ds)
   unfolding tryFrom level1.tryFrom onMode ResultAt ConfigurationAt storeOf
   try-from n w r s a es k b ds (none-left e z) at p l m br sh = rw (e, z) (failed-result T n (s .next) w r ds (sh .trail) (sh .alternatives))
@@ -89,6 +88,7 @@ unfolding variablesFrom freshVariables
 variables-are [] x = refl
 variables-are (v ∷ l) x = ap (leaf (var x) ∷_) (variables-are l (suc x))
 
+-- The number after them.
 past-is : (l : List ℕ) (x : ℕ) → past l x ≡ x + length l
 unfolding past
 past-is [] x = omega arith
@@ -98,60 +98,74 @@ past-is (v ∷ l) x = let e = past-is l (suc x) in omega arith
 unfoldable putsIf : Bool → List ℕ → List ℕ → ℕ → ℕ → List ℕ
 putsIf b l w u f = cond b (puts l w u f) w
 
+-- Older records stay,
 if-grow : (b : Bool) (l w : List ℕ) (n k u f : ℕ) → n ≤ u → 18 ≤ f → f + length l ≤ 64 → Grow n k w (putsIf b l w u f)
 unfolding putsIf
 if-grow true l w n k u f h a c = grow-puts l w n k u f h a c
 if-grow false l w n k u f h a c = grow-refl n k w
 
+-- frames stay,
 if-same : (b : Bool) (l w : List ℕ) (u f : ℕ) → 31 ≤ f → f + length l ≤ 64 → SameFrames w (putsIf b l w u f)
 unfolding putsIf
 if-same true l w u f h k = same-puts l w u f h k
 if-same false l w u f h k = λ r g a c. refl
 
+-- other fields stay,
 if-out : (b : Bool) (l w : List ℕ) (u f v g : ℕ) → f + length l ≤ 64 → g < 64 → (g < f ⊎ f + length l ≤ g) → field (putsIf b l w u f) v g ≡ field w v g
 unfolding putsIf
 if-out true l w u f v g h k o = puts-out l w u f v g h k o
 if-out false l w u f v g h k o = refl
 
+-- and what was written is read.
 if-at : (b : Bool) (l w : List ℕ) (u f i : ℕ) → b ≡ true → f + length l ≤ 64 → 64 * suc u ≤ length w → i < length l → field (putsIf b l w u f) u (f + i) ≡ getD l i 0
 unfolding putsIf
 if-at b l w u f i e h k o = rw e (puts-at l w u f i h (omega arith) o)
 
 -- The records of a try: path, choice point (if c), body (if d), pairs. l₂ begins with the number of variables x, as the path's group ends.
 module _ (w : List ℕ) (u p l k n x : ℕ) (c : Bool) (l₂ : List ℕ) (d : Bool) (l₃ l₄ : List ℕ) (room : 64 * suc u ≤ length w) (n₂ : length l₂ ≡ 14) (h₂ : getD l₂ 0 0 ≡ x) (n₃ : length l₃ ≡ 5) (n₄ : length l₄ ≡ 5) where
+  -- The path's group.
   abbrev l₁ : List ℕ
   l₁ = p ∷ l ∷ k ∷ n ∷ x ∷ []
 
+  -- Memory after the path,
   abbrev a₁ : List ℕ
   a₁ = puts (p ∷ l ∷ k ∷ n ∷ x ∷ []) w u 39
 
+  -- after the choice point,
   abbrev a₂ : List ℕ
   a₂ = putsIf c l₂ (puts (p ∷ l ∷ k ∷ n ∷ x ∷ []) w u 39) u 43
 
+  -- after the body,
   abbrev a₃ : List ℕ
   a₃ = putsIf d l₃ (putsIf c l₂ (puts (p ∷ l ∷ k ∷ n ∷ x ∷ []) w u 39) u 43) u 31
 
+  -- after the pairs.
   abbrev a₄ : List ℕ
   a₄ = puts l₄ (putsIf d l₃ (putsIf c l₂ (puts (p ∷ l ∷ k ∷ n ∷ x ∷ []) w u 39) u 43) u 31) u 57
 
+  -- Older records stay,
   try-grow : (j : ℕ) → Grow u j w a₄
   try-grow j =
       grow-trans u j w a₁ a₄ (grow-puts l₁ w u j u 39 (omega arith) (omega arith) (omega arith))
       (grow-trans u j a₁ a₂ a₄ (if-grow c l₂ a₁ u j u 43 (omega arith) (omega arith) (omega arith))
       (grow-trans u j a₂ a₃ a₄ (if-grow d l₃ a₂ u j u 31 (omega arith) (omega arith) (omega arith)) (grow-puts l₄ a₃ u j u 57 (omega arith) (omega arith) (omega arith))))
 
+  -- and frames do.
   try-same : SameFrames w a₄
   try-same =
       same-trans w a₁ a₄ (same-puts l₁ w u 39 (omega arith) (omega arith))
       (same-trans a₁ a₂ a₄ (if-same c l₂ a₁ u 43 (omega arith) (omega arith))
       (same-trans a₂ a₃ a₄ (if-same d l₃ a₂ u 31 (omega arith) (omega arith)) (same-puts l₄ a₃ u 57 (omega arith) (omega arith))))
 
+  -- Its length, after the path,
   len₁ : length a₁ ≡ length w
   len₁ = length-puts l₁ w u 39
 
+  -- after the choice point,
   len₂ : length a₂ ≡ length w
   len₂ = if-grow c l₂ a₁ u 0 u 43 (omega arith) (omega arith) (omega arith) .heap .len ∙ len₁
 
+  -- after the body.
   len₃ : length a₃ ≡ length w
   len₃ = if-grow d l₃ a₂ u 0 u 31 (omega arith) (omega arith) (omega arith) .heap .len ∙ len₂
 
@@ -174,6 +188,7 @@ module _ (w : List ℕ) (u p l k n x : ℕ) (c : Bool) (l₂ : List ℕ) (d : Bo
       puts-out l₄ a₃ u 57 u 43 (omega arith) (omega arith) (inl (omega arith)) ∙ if-out d l₃ a₂ u 31 u 43 (omega arith) (omega arith) (inr (omega arith))
       ∙ ap (λ (b : Bool). field (putsIf b l₂ a₁ u 43) u 43) e ∙ puts-at l₁ w u 39 4 (omega arith) (omega arith) (omega arith)
 
+  -- either way
   next-at : field a₄ u 43 ≡ x
   next-at = go c refl
     where
@@ -185,27 +200,33 @@ module _ (w : List ℕ) (u p l k n x : ℕ) (c : Bool) (l₂ : List ℕ) (d : Bo
   body-at : d ≡ true → (i : ℕ) → i < 5 → field a₄ u (31 + i) ≡ getD l₃ i 0
   body-at e i h = let m = len₂ in puts-out l₄ a₃ u 57 u (31 + i) (omega arith) (omega arith) (inl (omega arith)) ∙ if-at d l₃ a₂ u 31 i e (omega arith) (omega arith) (omega arith)
 
+  -- of the pairs
   pairs-at : (i : ℕ) → i < 5 → field a₄ u (57 + i) ≡ getD l₄ i 0
   pairs-at i h = let m = len₃ in puts-at l₄ a₃ u 57 i (omega arith) (omega arith) (omega arith)
 
 -- A try whose predicates agree: h, i and j are the position of the next member.
 module _ (T : Table) (w : List ℕ) (r : Registers) (s : Store) (a : Atom) (k : ℕ) (b : Branch) (ds : List Configuration) (room : 64 * suc (r .acts) ≤ length w) (small : r .acts < 50000)
-    (atom : AtomAt T (r .acts) w (r .node) (r .frame) (r .program) (r .level) a) (place : r .place ≡ k) (first : 1 ≤ k) (low : k ≤ r .acts)
-    (branch₀ : BranchAt T (r .acts) w (r .goals) (r .path) (r .line) b) (shared : SharedAt T (r .acts) w (r .next) (r .trail) (r .choice) s ds) (formed : Formed s)
-    (frame₀ : FrameAt (r .acts) w (clauseFrame w r)) (m : Found) (leaf₀ : LeafOf T (m .leaf)) (packed : Packed (m .count) (m .names)) (same : labelOf (T .numbers) (r .node) ≡ labelOf (T .numbers) (headOf (T .numbers) (m .leaf)))
+    (atom : AtomAt T (r .acts) (s .next) w (r .node) (r .frame) (r .program) (r .level) a) (place : r .place ≡ k) (first : 1 ≤ k) (low : k ≤ r .acts)
+    (branch₀ : BranchAt T (r .acts) (s .next) w (r .goals) (r .path) (r .line) b) (shared : SharedAt T (r .acts) w (r .next) (r .trail) (r .choice) s ds) (formed : Formed s)
+    (frame₀ : FrameIn (r .acts) (s .next) w (clauseFrame w r)) (m : Found) (leaf₀ : LeafOf T (m .leaf)) (packed : Packed (m .count) (m .names)) (same : labelOf (T .numbers) (r .node) ≡ labelOf (T .numbers) (headOf (T .numbers) (m .leaf)))
     (h i j : ℕ) (others : List (Entry Leaf)) (left : MembersAt T (r .acts) w (onMember r h i j (suc (r .place))) others) where
+  -- The act's number.
   abbrev u : ℕ
   u = r .acts
 
+  -- The table.
   abbrev t : List ℕ
   t = T .numbers
 
+  -- The registers at the next member.
   abbrev q : Registers
   q = onMember r h i j (suc (r .place))
 
+  -- The member's prefix.
   abbrev prefix : List ℕ
   prefix = digits (m .count) (m .names)
 
+  -- What its names stand for.
   abbrev env : Environment Leaf
   env = assign (digits (m .count) (m .names)) (freshVariables (digits (m .count) (m .names)) (s .next)) (environmentAt w (clauseFrame w r))
 
@@ -216,14 +237,15 @@ module _ (T : Table) (w : List ℕ) (r : Registers) (s : Store) (a : Atom) (k : 
   choice-open w′ x xs e f p sh =
       choice-opened T (suc u) w′ u (s .next) q (try s a x xs (suc k) b) ds (omega arith) f (λ r₀. record {
         mode = rw (ne-eqb (suc (r .place)) 0 (λ z. omega arith));
-        atom = atom-up T u w′ (r .node) (r .frame) (r .program) (r .level) a (atom-heap T u w w′ (r .node) (r .frame) (r .program) (r .level) a e atom);
+        atom = atom-up T u (s .next) w′ (r .node) (r .frame) (r .program) (r .level) a (atom-heap T u (s .next) w w′ (r .node) (r .frame) (r .program) (r .level) a e atom);
         position = position-same T (suc u) w′ q (resumed r₀ q) (x ∷ xs) refl refl refl (position-up T u w′ q (x ∷ xs) (position-heap T u w w′ q (x ∷ xs) e p));
         place = ap suc place;
         first = omega arith;
         low = omega arith;
-        branch = branch-up T u w′ (r .goals) (r .path) (r .line) b (branch-heap T u w w′ (r .goals) (r .path) (r .line) b e branch₀);
+        branch = branch-up T u (s .next) w′ (r .goals) (r .path) (r .line) b (branch-heap T u (s .next) w w′ (r .goals) (r .path) (r .line) b e branch₀);
       }) (sh .next) (omega arith) (sh .bounded) (sh .store) (sh .alternatives)
 
+  -- as many as there are
   others-open : (w′ : List ℕ) → Heap 22 (r .acts) w w′ → (membersLeft (T .clauses) (onMember r h i j (suc (r .place))) ≡ true → SavedAt w′ (r .acts) (onMember r h i j (suc (r .place))))
       → SharedAt T (suc (r .acts)) w′ (r .next) (r .trail) (r .choice) s ds
       → AlternativesAt T (suc (r .acts)) (s .next) w′ (cond (membersLeft (T .clauses) (onMember r h i j (suc (r .place)))) (suc (r .acts)) (r .choice)) (r .trail) (level1.tryFrom s a others (suc k) b ++ ds)
@@ -253,7 +275,7 @@ module _ (T : Table) (w : List ℕ) (r : Registers) (s : Store) (a : Atom) (k : 
           let x = T .made .clauseNodes (m .leaf) (leaf₀ .clause .0) (leaf₀ .clause .1) .implies k in
           let l = x .0 in
           let n = leaf₀ .clause .0 in
-          let A = atom-up T u w′ (r .node) (r .frame) (r .program) (r .level) a (atom-heap T u w w′ (r .node) (r .frame) (r .program) (r .level) a e atom) in
+          let A = atom-up T u (s .next) w′ (r .node) (r .frame) (r .program) (r .level) a (atom-heap T u (s .next) w w′ (r .node) (r .frame) (r .program) (r .level) a e atom) in
           rw (f refl 0 (omega arith), f refl 1 (omega arith), f refl 2 (omega arith), f refl 3 (omega arith), f refl 4 (omega arith)) (
             omega arith,
             record { node = (omega arith, x .1); goal = refl; frame = M .frame; environment = M .environment; program = A .program; level = A .level; low = A .low },
@@ -271,12 +293,14 @@ module _ (T : Table) (w : List ℕ) (r : Registers) (s : Store) (a : Atom) (k : 
       let n = shared .bounded .later (omega arith) in
       let x = shared .bounded .bindings in
       let e : past prefix (s .next) ≡ s .next + m .count = omega arith in
-      (record { bindings = omega arith; variables = omega arith; later = λ z. omega arith }, omega arith, e)
+      (record { bindings = omega arith; least = let y = shared .bounded .least in omega arith; variables = omega arith; later = λ z. omega arith }, omega arith, e)
 
+  -- The first field of a choice point.
   first-saved : getD (saved (onMember r h i j (suc (r .place)))) 0 0 ≡ r .next
   unfolding saved onMember
   first-saved = refl
 
+  -- The result, over memories given by equations.
   try-held : (w₁ w₂ w′ : List ℕ) → w₁ ≡ copyFrame 8 w (r .acts) (clauseFrame w r) 0 → w₂ ≡ putFresh (m .count) w₁ (r .acts) (m .names) (s .next) (a .level)
       → w′ ≡ puts (r .node ∷ r .frame ∷ headOf (T .numbers) (m .leaf) ∷ suc (r .acts) ∷ 0 ∷ []) (putsIf (eqb (kindOf (T .numbers) (m .leaf)) 6) (childOf (T .numbers) (m .leaf) 0 ∷ suc (r .acts) ∷ r .program ∷ r .level ∷ r .goals ∷ [])
       (putsIf (membersLeft (T .clauses) (onMember r h i j (suc (r .place)))) (saved (onMember r h i j (suc (r .place)))) (puts (r .path ∷ r .line ∷ r .place ∷ m .count ∷ s .next ∷ []) w₂ (r .acts) 39) (r .acts) 43) (r .acts) 31) (r .acts) 57
@@ -299,7 +323,7 @@ module _ (T : Table) (w : List ℕ) (r : Registers) (s : Store) (a : Atom) (k : 
       let h₂ : getD l₂ 0 0 ≡ x = first-saved ∙ shared .next in
       let gr₁ : (n : ℕ) → Grow u n w w₁ = λ n. rw z₁ (copy-grow u (clauseFrame w r) 8 w 0 n (omega arith)) in
       let e₁ = gr₁ 0 .heap .len in
-      let M₁ : FrameMade w₁ u (environmentAt w (clauseFrame w r)) = rw z₁ (copy-made w u (clauseFrame w r) room frame₀) in
+      let M₁ : FrameMade w₁ u (environmentAt w (clauseFrame w r)) = rw z₁ (copy-made w u (clauseFrame w r) room (frame₀ .frame)) in
       let F : FreshMade T w₁ w₂ u s (fresh prefix (a .level) s) env =
       rw z₂ (fresh-made (m .count) T w₁ u (m .names) (a .level) s (environmentAt w (clauseFrame w r)) formed (omega arith) small (nb .1) (store-grow T u x w w₁ s (gr₁ x) (omega arith) (shared .store)) M₁) in
       let e₂ = F .grow .heap .len in
@@ -314,24 +338,29 @@ module _ (T : Table) (w : List ℕ) (r : Registers) (s : Store) (a : Atom) (k : 
       let ca : c ≡ true → SavedAt w′ u q = λ y n b. rw z (choice-at w₂ u (r .path) (r .line) (r .place) (m .count) x c l₂ d l₃ l₄ room₂ n₂ h₂ refl refl y n b) in
       let ba : d ≡ true → (n : ℕ) → n < 5 → field w′ u (31 + n) ≡ getD l₃ n 0 = λ y n b. rw z (body-at w₂ u (r .path) (r .line) (r .place) (m .count) x c l₂ d l₃ l₄ room₂ n₂ h₂ refl refl y n b) in
       let qa : (n : ℕ) → n < 5 → field w′ u (57 + n) ≡ getD l₄ n 0 = λ n b. rw z (pairs-at w₂ u (r .path) (r .line) (r .place) (m .count) x c l₂ d l₃ l₄ room₂ n₂ h₂ refl refl n b) in
-      let P = push-held T (suc u) w′ [] u (r .node) (r .frame) hd (suc u) 0 (environmentAt w (r .frame)) env (omega arith) (omega arith) (atom .node) (head-applied T (m .leaf) leaf₀)
-      (frame-up u w′ (r .frame) (frame-heap u w w′ (r .frame) e (atom .frame))) (M .frame) (environment-heap u w w′ (r .frame) e (atom .frame)) (M .environment) same
+      let s₂ = fresh prefix (a .level) s in
+      let wider : x ≤ s₂ .next = (let y = nb .2 in omega arith) in
+      let P = push-held T (suc u) (s₂ .next) w′ [] u (r .node) (r .frame) hd (suc u) 0 (environmentAt w (r .frame)) env (omega arith) (omega arith) (atom .node) (head-applied T (m .leaf) leaf₀)
+      (framed-up u x (s₂ .next) w′ (r .frame) wider (framed-heap u x w w′ (r .frame) e (atom .frame))) (record { frame = M .frame; below = subst (EnvironmentBelow (s₂ .next)) (sym (M .environment)) (prefix-below prefix x (environmentAt w (clauseFrame w r)) (frame₀ .below)) }) (environment-heap u w w′ (r .frame) e (atom .frame .frame)) (M .environment) same
       (qa 0 (omega arith)) (qa 1 (omega arith)) (qa 2 (omega arith)) (qa 3 (omega arith)) (qa 4 (omega arith)) refl in
       let sh = shared-grow T u w w′ (r .next) (r .trail) (r .choice) s ds gr shared in
       let ln : lineAt w′ u 7 ≡ Dclause k (freshVariables prefix x) =
       ap₂ Dclause (pa 2 (omega arith) ∙ place) (ap₂ variablesFrom (pa 3 (omega arith) ∙ sym (digits-length (m .count) (m .names))) na ∙ variables-are prefix x) in
-      let s₂ = fresh prefix (a .level) s in
       pushed-result T (suc u) w′ (onGoals (onChoice (onNext (onPath r (suc u) 7) (x + m .count)) (cond c (suc u) (r .choice))) (cond d (suc u) (r .goals))) s₂
       (branch (bodySequent (bodyOf T (m .leaf)) env (a .program) (a .level) ++ b .goals) (Dclause k (freshVariables prefix x) ∷ b .path)) (level1.tryFrom s a others (suc k) b ++ ds) _
       (pairsFrom t w′ (suc u) 0)
-      (subst (λ (ts : Terms Leaf). Pushed T (suc u) w′ (pushPairs ts (substitutes (argumentsAt t hd) env) []) (pairsFrom t w′ (suc u) 0)) (atom .arguments) P)
-      (record { waiting = body-waits w′ e M ba; taken = path-pushed u w w′ (r .path) (r .line) 7 (Dclause k (freshVariables prefix x)) (b .path) e (pa 0 (omega arith)) (pa 1 (omega arith)) ln (branch₀ .taken) })
+      (subst (λ (ts : Terms Leaf). Pushed T (suc u) (s₂ .next) w′ (pushPairs ts (substitutes (argumentsAt t hd) env) []) (pairsFrom t w′ (suc u) 0)) (atom .arguments) P)
+      (record {
+        waiting = body-waits w′ e M ba;
+        taken = path-pushed u (s₂ .next) w w′ (r .path) (r .line) 7 (Dclause k (freshVariables prefix x)) (b .path) e (pa 0 (omega arith)) (pa 1 (omega arith)) ln
+            (record { kind = omega arith; some = λ y. absurd (omega arith); clause = λ y. rw (pa 3 (omega arith), na) (let p = nb .2 in omega arith) }) (path-wider u x (s₂ .next) (b .path) w (r .path) (r .line) wider (branch₀ .taken));
+      })
       (record {
         store = store-up T u w′ s₂ (store-grow T u (s₂ .next) w₂ w′ s₂ (gr₃ (s₂ .next)) (omega arith) (F .store));
         bounded = nb .0;
         next = sym (nb .2);
         trail = sh .trail;
-        alternatives = alternatives-wider T (suc u) (s₂ .next) (let y = nb .2 in omega arith) (others-open w′ e ca sh);
+        alternatives = alternatives-wider T (suc u) (s₂ .next) wider (others-open w′ e ca sh);
       })
 
   -- What the machine makes of it, over the numbers that are the same by the invariant.
@@ -342,10 +371,12 @@ module _ (T : Table) (w : List ℕ) (r : Registers) (s : Store) (a : Atom) (k : 
       (putsIf (membersLeft (T .clauses) q′) (saved q′) (puts (r .path ∷ r .line ∷ r .place ∷ m .count ∷ x ∷ []) w₂ (r .acts) 39) (r .acts) 43) (r .acts) 31) (r .acts) 57 in
       made w′ (duePairs w′ (onGoals (onChoice (onNext (onPath r v 7) n) (cond (membersLeft (T .clauses) q′) v (r .choice))) (cond (eqb (kindOf (T .numbers) (m .leaf)) 6) v (r .goals))) (pairsFrom (T .numbers) w′ v 0))
 
+  -- It is what the machine does.
   outcome-is : tryMember (T .numbers) (T .clauses) w r m ≡ tryOutcome (putPrefix w r m) (r .next) (narrow (r .next + m .count)) (up (r .acts)) (nextMember (T .numbers) w r)
   unfolding tryOutcome tryMember putTry leaveOthers putBody tried putUse putPath putGoal putPairs puts putsIf saveChoice putChoice putChosen putPosition saved
   outcome-is = refl
 
+  -- The whole try.
   pub try-member : nextMember (T .numbers) w r ≡ onMember r h i j (suc (r .place))
       → ResultAt T (suc (r .acts)) (tryMember (T .numbers) (T .clauses) w r m) (level1.tryMember s a (entry (environmentAt w (clauseFrame w r)) (memberOf T m)) k b ++ (level1.tryFrom s a others (suc k) b ++ ds))
   unfolding tryOutcome level1.tryMember memberOf putPrefix

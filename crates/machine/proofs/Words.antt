@@ -1,66 +1,89 @@
 -- Numbers of 32 bits, and the parts of words. Nothing after this file looks at `/`, `%` or the width.
-use Prim.Native.Nat.{ℕ, zero, suc, _+_, _-_, _*_, _/_, _%_, _≤_, _<_}
+use Prim.Native.Nat.{ℕ, suc, _+_, _-_, _*_, _/_, _%_, _≤_, _<_}
 use native.Mathlib.Omega.{arith}
-use mathlib.Core.Path.{_≡_, refl, sym, ap, _∙_}
+use mathlib.Core.Path.{_≡_, ap, _∙_}
 use Rattle.machine.specs.Words.{narrow, up, variableWord, constantWord, closureWord, tagOf, nameOf, nodeOf, frameOf}
 use Rattle.machine.specs.Matching.{placeWord}
 
+-- Numbers that fit stay as they are:
 pub narrow-small : (a : ℕ) → a < 4294967296 → narrow a ≡ a
 unfolding narrow
 narrow-small a h = omega arith
 
+-- the next number,
 pub up-small : (a : ℕ) → a < 4294967295 → up a ≡ suc a
 unfolding up
 up-small a h = narrow-small (a + 1) (omega arith) ∙ (omega arith)
 
+-- a variable's word,
 pub variable-small : (x : ℕ) → x < 1000000000 → variableWord x ≡ 4 * x + 1
 unfolding variableWord
 variable-small x h = narrow-small (4 * x + 1) (omega arith)
 
+-- a constant's,
 pub constant-small : (c : ℕ) → c ≤ 50000 → constantWord c ≡ 4 * c + 2
 unfolding constantWord
 constant-small c h = narrow-small (4 * c + 2) (omega arith)
 
+-- a closure's,
 pub closure-small : (n f : ℕ) → n < 1024 → f ≤ 50001 → closureWord n f ≡ 4 * (1024 * f + n) + 3
 unfolding closureWord
 closure-small n f h k = narrow-small (4 * (1024 * f + n) + 3) (omega arith)
 
+-- a place.
 pub place-small : (p i : ℕ) → p ≤ 50001 → i < 4 → placeWord p i ≡ 4 * p + i
 unfolding placeWord
 place-small p i h k = narrow-small (4 * p + i) (omega arith)
 
+-- Two bits for the tag,
 mod4 : (p t : ℕ) → t < 4 → (4 * p + t) % 4 ≡ t
 mod4 p t h = omega arith
 
+-- the rest above them,
 div4 : (p t : ℕ) → t < 4 → (4 * p + t) / 4 ≡ p
 div4 p t h = omega arith
 
+-- ten bits for a node,
 mod1024 : (p t : ℕ) → t < 1024 → (1024 * p + t) % 1024 ≡ t
 mod1024 p t h = omega arith
 
+-- the frame above them.
 div1024 : (p t : ℕ) → t < 1024 → (1024 * p + t) / 1024 ≡ p
 div1024 p t h = omega arith
 
+-- The tag,
 pub tag-is : (p t : ℕ) → t < 4 → tagOf (4 * p + t) ≡ t
 unfolding tagOf
 tag-is p t h = mod4 p t h
 
+-- the name,
 pub name-is : (p t : ℕ) → t < 4 → nameOf (4 * p + t) ≡ p
 unfolding nameOf
 name-is p t h = div4 p t h
 
+-- the node,
 pub node-is : (n f : ℕ) → n < 1024 → nodeOf (4 * (1024 * f + n) + 3) ≡ n
 unfolding nodeOf
 node-is n f h = rw (div4 (1024 * f + n) 3 (omega arith)) (mod1024 f n h)
 
+-- the frame.
 pub frame-is : (n f : ℕ) → n < 1024 → frameOf (4 * (1024 * f + n) + 3) ≡ f
 unfolding frameOf
 frame-is n f h = rw (div4 (1024 * f + n) 3 (omega arith)) (div1024 f n h)
+
+-- The same of a word given by an equation.
+pub tag-of : (a p t : ℕ) → t < 4 → a ≡ 4 * p + t → tagOf a ≡ t
+tag-of a p t h e = ap tagOf e ∙ tag-is p t h
+
+-- The name.
+pub name-of : (a p t : ℕ) → t < 4 → a ≡ 4 * p + t → nameOf a ≡ p
+name-of a p t h e = ap nameOf e ∙ name-is p t h
 
 -- The parts of a place.
 pub place-record : (p i : ℕ) → i < 4 → (4 * p + i) / 4 ≡ p
 place-record p i h = div4 p i h
 
+-- The argument.
 pub place-argument : (p i : ℕ) → i < 4 → (4 * p + i) % 4 ≡ i
 place-argument p i h = mod4 p i h
 

@@ -1,7 +1,7 @@
 -- Choice points: saving the registers to go on with later, and going on with the latest ones saved ("On failure the latest open
 -- alternative is taken up, with all bindings and levels as they were").
-use Prim.Native.Nat.{ℕ, suc, _-_}
-use mathlib.Core.Bool.{Bool, true, false, cond}
+use Prim.Native.Nat.{ℕ, _-_}
+use mathlib.Core.Bool.{cond}
 use mathlib.Core.List.{List}
 use lib.Dec.{eqb}
 use Rattle.machine.specs.declared.Registers.{Registers}

@@ -1,6 +1,6 @@
 -- Frames and fresh variables.
 use Prim.Native.Nat.{ℕ, zero, suc, _+_, _/_, _%_}
-use mathlib.Core.List.{List, [], _∷_}
+use mathlib.Core.List.{List}
 use Rattle.machine.specs.Records.{put, putCell, putLevel}
 use Rattle.machine.specs.Words.{up, variableWord, slotOf}
 

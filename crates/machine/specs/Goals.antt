@@ -1,6 +1,6 @@
 -- Taking a goal (document 01, "The walk", first list), and going on with the next one.
-use Prim.Native.Nat.{ℕ, suc, _+_, _-_}
-use mathlib.Core.Bool.{Bool, true, false, cond}
+use Prim.Native.Nat.{ℕ, _+_, _-_}
+use mathlib.Core.Bool.{Bool, true, cond}
 use mathlib.Core.List.{List}
 use lib.Dec.{eqb, ltb}
 use Rattle.tables.specs.Layout.{kindOf, labelOf, childOf}

@@ -1,8 +1,8 @@
 -- Matching (document 01, "The walk", third paragraph): comparing a pair, looking at one node in a range check. Pairs and nodes
 -- wait as the arguments of linked records; a place is a pointer and the number of an argument, in one number, 0 for none. No
 -- place is ever past the last argument: what comes then is the place that the record keeps.
-use Prim.Native.Nat.{ℕ, suc, _+_, _-_, _*_, _/_, _%_, min}
-use mathlib.Core.Bool.{Bool, true, false, cond}
+use Prim.Native.Nat.{ℕ, _+_, _-_, _*_, _/_, _%_, min}
+use mathlib.Core.Bool.{cond}
 use mathlib.Core.List.{List}
 use lib.Dec.{eqb, ltb, leb}
 use Rattle.tables.specs.Layout.{childCount, labelOf, childOf}

@@ -1,7 +1,7 @@
 -- The k-th member of a clause's node, found by walking down the table. A leaf is the node of an atom or of an implication.
 use Prim.Native.Nat.{ℕ, zero, suc, _+_, _-_, _*_, _/_, _%_}
-use mathlib.Core.Bool.{Bool, true, false, not, _&&_, cond}
-use mathlib.Core.List.{List, [], _∷_}
+use mathlib.Core.Bool.{Bool, true, false, cond}
+use mathlib.Core.List.{List}
 use lib.Dec.{eqb, ltb}
 use Rattle.tables.specs.Layout.{kindOf, labelOf, childOf, maskOf, bitOf, membersOf}
 use Rattle.machine.specs.Words.{narrow, up}

@@ -16,7 +16,7 @@
 --   62, 63    free
 --
 -- A pointer is the number of a record plus 1, 0 for none. Nothing is read that was not written: a lent buffer may hold anything.
-use Prim.Native.Nat.{ℕ, suc, _+_, _*_, _/_, _%_}
+use Prim.Native.Nat.{ℕ, _+_, _*_, _/_, _%_}
 use mathlib.Core.List.{List}
 use lib.ListN.{getD, set}
 use Rattle.machine.specs.declared.Registers.{Registers}

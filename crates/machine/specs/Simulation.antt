@@ -5,9 +5,9 @@ use mathlib.Core.List.{List, [], _∷_}
 use lib.ListN.{length}
 use Rattle.sequents.specs.Sequents.{Line}
 use Rattle.unification.specs.Store.{Leaf, Store}
-use Rattle.unification.specs.Matching.{Matching, pairs, check, fail}
+use Rattle.unification.specs.Matching.{pairs, check, fail}
 use Rattle.search.specs.Configurations.{Configuration, take, try, match, done}
-use Rattle.search.specs.Search.{Verdict, proved, noProof, Outcome, ends, spent, search, after}
+use Rattle.search.specs.Search.{proved, noProof, Outcome, ends, spent, search, after}
 use Rattle.tables.specs.Decoding.{clausesFrom, goalAt}
 use Rattle.tables.specs.WellMade.{WellMade}
 use Rattle.machine.specs.declared.Registers.{Registers}

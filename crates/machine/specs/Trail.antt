@@ -1,7 +1,7 @@
 -- The trail: an act that lowers a level or binds a variable notes it in its record, so that taking up an alternative can undo it.
 use Prim.Native.Nat.{ℕ, zero, suc, _-_}
-use mathlib.Core.Bool.{Bool, true, false, cond}
-use mathlib.Core.List.{List, [], _∷_}
+use mathlib.Core.Bool.{true, false, cond}
+use mathlib.Core.List.{List}
 use lib.Dec.{eqb}
 use Rattle.machine.specs.Records.{field, levelOf, putCell, putLevel, putEntry}
 use Rattle.machine.specs.Words.{nameOf}

@@ -1,6 +1,6 @@
 -- Trying a member (document 01, "The walk", "atom").
-use Prim.Native.Nat.{ℕ, suc, _+_, _-_}
-use mathlib.Core.Bool.{Bool, true, false, cond}
+use Prim.Native.Nat.{ℕ, _+_, _-_}
+use mathlib.Core.Bool.{cond}
 use mathlib.Core.List.{List}
 use lib.Dec.{eqb, ltb}
 use Rattle.tables.specs.Layout.{kindOf, labelOf, childOf, membersOf, clauseNode}

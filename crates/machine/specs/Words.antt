@@ -1,8 +1,8 @@
 -- Packed words: a variable (tag 1), a made constant (tag 2, by the act that made it), or a closure (tag 3): the node of an
 -- application with the frame that its names are read in. Every word and pointer of a search within 50,000 acts is below 2 ^ 32.
 use Prim.Native.Nat.{ℕ, zero, suc, _+_, _-_, _*_, _/_, _%_}
-use mathlib.Core.Bool.{Bool, true, false, cond}
-use mathlib.Core.List.{List, [], _∷_}
+use mathlib.Core.Bool.{true, false, cond}
+use mathlib.Core.List.{List}
 use lib.Dec.{eqb, ltb}
 use Rattle.terms.specs.Terms.{Term, leaf, app, nil, substitute}
 use Rattle.unification.specs.Store.{Leaf, var, con}

@@ -2,13 +2,13 @@
 -- cleared. After them: the numbers of variables are cleared, so that the search may go on. All in fields that the search leaves
 -- free (62, 63) and in bindings that it left at 0.
 use Prim.Native.Nat.{ℕ, zero, suc, _+_, _-_, _*_}
-use mathlib.Core.Bool.{Bool, true, false, cond}
+use mathlib.Core.Bool.{true, false, cond}
 use mathlib.Core.List.{List}
 use lib.Dec.{eqb}
 use Rattle.machine.specs.Records.{field, put, cellOf, putCell}
 use Rattle.machine.specs.Words.{narrow, tagOf}
 
--- A link: a pointer to the record of a line, and which line it is; 0 for none.
+-- A link: a pointer to the record of a line, and which of the eight lines it is; 0 for none.
 unfoldable pub linkWord : ℕ → ℕ → ℕ
 linkWord p k = narrow (8 * p + k)
 

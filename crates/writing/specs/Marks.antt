@@ -1,14 +1,14 @@
 -- Numbering by first showing, in memory. The number of a leftover variable, plus 1, stands in its own binding as a word of tag 0;
 -- that of a made constant, plus 1, in field 63 of the record of the act that made it. 0 is: not shown yet.
-use Prim.Native.Nat.{ℕ, zero, suc, _+_, _-_, _*_, _/_}
+use Prim.Native.Nat.{ℕ, zero, suc, _-_, _*_, _/_}
 use Prim.Native.Char.{code}
-use mathlib.Core.Bool.{Bool, true, false, cond}
+use mathlib.Core.Bool.{true, false, cond}
 use mathlib.Core.List.{List}
 use lib.Dec.{eqb}
 use Rattle.machine.specs.Records.{field, put, cellOf, levelOf, putCell}
 use Rattle.machine.specs.Words.{narrow, up, tagOf, nameOf}
 use Rattle.writing.specs.declared.Pen.{Pen}
-use Rattle.writing.specs.Output.{Written, emit, writeSymbol}
+use Rattle.writing.specs.Output.{Written, writeSymbol}
 
 -- Changes of the pen.
 unfoldable pub onAt : Pen → ℕ → Pen

@@ -1,12 +1,12 @@
 -- Document 01, "The answer text": the lines. "Tabs and LF stand as on the sheet."
-use Prim.Native.Nat.{ℕ, zero, suc, _+_, _-_, _/_, _%_}
-use mathlib.Core.Bool.{Bool, true, false, cond}
-use mathlib.Core.List.{List, [], _∷_}
+use Prim.Native.Nat.{ℕ, zero, suc, _-_, _/_, _%_}
+use mathlib.Core.Bool.{true, false, cond}
+use mathlib.Core.List.{List}
 use lib.Dec.{eqb, ltb}
 use Rattle.sheets.specs.Bytes.{ascii, tab, lf}
 use Rattle.machine.specs.Records.{field}
 use Rattle.machine.specs.Words.{variableWord, constantWord}
-use Rattle.writing.specs.Output.{Written, writeBytes, writeNumber}
+use Rattle.writing.specs.Output.{writeBytes, writeNumber}
 use Rattle.writing.specs.Marks.{Page, wrote}
 use Rattle.writing.specs.WriteTerms.{emitTo, termTo}
 

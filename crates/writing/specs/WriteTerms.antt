@@ -3,12 +3,12 @@
 -- is met only then: before each call of itself it writes a bracket or a comma.
 use Prim.Native.Nat.{ℕ, zero, suc}
 use Prim.Native.Char.{code}
-use mathlib.Core.Bool.{Bool, true, false, cond}
+use mathlib.Core.Bool.{true, false, cond}
 use mathlib.Core.List.{List}
 use lib.Dec.{eqb, ltb}
 use Rattle.tables.specs.Layout.{childCount, labelOf, childOf, nameStart, nameLength}
 use Rattle.machine.specs.Words.{up, tagOf, nameOf, nodeOf, frameOf, wordOf}
-use Rattle.writing.specs.Output.{Written, emit, copyBytes}
+use Rattle.writing.specs.Output.{emit, copyBytes}
 use Rattle.writing.specs.Marks.{Page, wrote, seek, showVariable, showConstant}
 
 unfoldable pub emitTo : ℕ → Page → ℕ → Page

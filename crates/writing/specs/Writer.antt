@@ -1,8 +1,8 @@
 -- The writer: a first pass counts and numbers and writes no byte; where the text fits, a second one writes it. So a text that does
 -- not fit (refusal 12) leaves the answer buffer alone.
-use Prim.Native.Nat.{ℕ, zero, suc, min}
-use mathlib.Core.Bool.{Bool, true, false}
-use mathlib.Core.List.{List, [], _∷_}
+use Prim.Native.Nat.{ℕ, min}
+use mathlib.Core.Bool.{true, false}
+use mathlib.Core.List.{List, []}
 use lib.Dec.{ltb}
 use lib.ListN.{length}
 use Rattle.sheets.specs.Limits.{maxTextBytes}

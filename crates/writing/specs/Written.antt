@@ -1,8 +1,8 @@
 -- What is proved of the writer: it writes the answer text of document 01 if it fits, and otherwise no byte.
 use Prim.Native.Nat.{ℕ, zero, suc, _+_, _-_, _*_, _≤_, _<_}
 use mathlib.Core.Path.{_≡_}
-use mathlib.Core.Bool.{Bool, true, false, cond}
-use mathlib.Core.List.{List, [], _∷_, _++_}
+use mathlib.Core.Bool.{cond}
+use mathlib.Core.List.{List, _++_}
 use mathlib.Core.Logic.{_⊎_}
 use lib.Dec.{leb}
 use lib.ListN.{length, drop}
@@ -10,36 +10,38 @@ use Rattle.sequents.specs.Sequents.{Line}
 use Rattle.unification.specs.Store.{Leaf, Store}
 use Rattle.unification.specs.Promises.{Unbound, Formed}
 use Rattle.tables.specs.Layout.{kindOf, labelOf}
-use Rattle.tables.specs.Decoding.{decodeSheet}
+use Rattle.search.specs.Search.{proved, ends, search}
+use Rattle.tables.specs.Decoding.{clausesFrom, goalAt, decodeSheet}
 use Rattle.tables.specs.WellMade.{IsTerm, WellMade}
 use Rattle.machine.specs.Records.{field, cellOf, levelOf, Made}
 use Rattle.machine.specs.Words.{tagOf, nameOf, nodeOf, frameOf, slotOf}
+use Rattle.machine.specs.Machine.{runMachine}
 use Rattle.machine.specs.Simulation.{StandsAt}
 use Rattle.texts.specs.Spelling.{noText, spentText}
 use Rattle.texts.specs.Promises.{searchText}
 use Rattle.writing.specs.Output.{Written, written}
 use Rattle.writing.specs.Links.{clearVariables}
-use Rattle.writing.specs.Writer.{textLimit, noRoom, Answered, writeProof, writeNo, writeSpent}
+use Rattle.writing.specs.Writer.{textLimit, noRoom, writeProof, writeNo, writeSpent}
 
 -- What holds of the machine's memory after a proved search, beside `StandsAt`. All of it is part of the simulation's invariant.
 
--- A word of a leaf: a variable that was made, or the constant of an act done.
-pub data LeafWord (next acts a : ℕ) : Type 0 where
-  variable : tagOf a ≡ 1 → nameOf a < next → LeafWord next acts a
-  constant : tagOf a ≡ 2 → nameOf a < acts → LeafWord next acts a
+-- A word of a leaf: a variable, or the constant of an act done.
+pub data LeafWord (acts a : ℕ) : Type 0 where
+  variable : tagOf a ≡ 1 → LeafWord acts a
+  constant : tagOf a ≡ 2 → nameOf a < acts → LeafWord acts a
 
 -- A closure's: an application's node, and a frame that was made, in which every name stands for a leaf.
-pub record Closure (t w : List ℕ) (nodes next acts a : ℕ) : Type 0 where
+pub record Closure (t w : List ℕ) (nodes acts a : ℕ) : Type 0 where
   pub tag : tagOf a ≡ 3
   pub there : nodeOf a < nodes
   pub term : IsTerm t (nodeOf a)
   pub application : kindOf t (nodeOf a) ≡ 1
   pub frame : frameOf a ≤ acts
-  pub slots : (v : ℕ) → v < 8 → LeafWord next acts (slotOf w (frameOf a) v)
+  pub slots : (v : ℕ) → v < 8 → LeafWord acts (slotOf w (frameOf a) v)
 
-pub data TermWord (t w : List ℕ) (nodes next acts a : ℕ) : Type 0 where
-  ofLeaf : LeafWord next acts a → TermWord t w nodes next acts a
-  ofClosure : Closure t w nodes next acts a → TermWord t w nodes next acts a
+pub data TermWord (t w : List ℕ) (nodes acts a : ℕ) : Type 0 where
+  ofLeaf : LeafWord acts a → TermWord t w nodes acts a
+  ofClosure : Closure t w nodes acts a → TermWord t w nodes acts a
 
 -- The line of kind k in record q: its variables were made.
 pub record LineMade (w : List ℕ) (next q k : ℕ) : Type 0 where
@@ -62,7 +64,7 @@ pub record Orderly (t : List ℕ) (nodes : ℕ) (m : Made) (s : Store) : Type 0 
   pub formed : Formed s
   pub bindings : length (s .bindings) ≤ m .registers .acts
   pub unbound : (x : ℕ) → x < s .next → Unbound (s .bindings) x → cellOf (m .memory) x ≡ 0
-  pub words : (x : ℕ) → x < s .next → (cellOf (m .memory) x ≡ 0) ⊎ TermWord t (m .memory) nodes (s .next) (m .registers .acts) (cellOf (m .memory) x)
+  pub words : (x : ℕ) → x < s .next → (cellOf (m .memory) x ≡ 0) ⊎ TermWord t (m .memory) nodes (m .registers .acts) (cellOf (m .memory) x)
   pub pointer : m .registers .path ≤ m .registers .acts
   pub path : PathMade (m .registers .acts) (m .memory) (s .next) (m .registers .path) (m .registers .line)
 
@@ -79,6 +81,14 @@ WritesProof = (sheet t : List ℕ) (symbols nodes clauses goal : ℕ) → WellMa
     → (m : Made) (s : Store) (path : List (Line Leaf)) → StandsAt t m 4 s path → Orderly t nodes m s → (units : ℕ) (out : List ℕ)
     → written (writeProof sheet t goal m units out .buffer) (writeProof sheet t goal m units out .length)
     ≡ told (searchText (decodeSheet sheet t symbols clauses goal) s path units) out
+
+-- So after every run of the machine that ends with a proof.
+abbrev pub WritesAnswer : Type 0
+WritesAnswer = (sheet t : List ℕ) (symbols nodes clauses goal : ℕ) → WellMade t nodes clauses goal → Named t nodes symbols
+    → (budget : ℕ) → budget ≤ 50000 → (w : List ℕ) → 64 * budget ≤ length w
+    → (s : Store) (path : List (Line Leaf)) (n : ℕ) → search budget (clausesFrom t clauses 0) (goalAt t goal) ≡ ends (proved s path) n → (out : List ℕ)
+    → written (writeProof sheet t goal (runMachine budget t clauses goal w) n out .buffer) (writeProof sheet t goal (runMachine budget t clauses goal w) n out .length)
+    ≡ told (searchText (decodeSheet sheet t symbols clauses goal) s path n) out
 
 abbrev pub WritesNo : Type 0
 WritesNo = (units : ℕ) (out : List ℕ) → writeNo units out ≡ told (noText units) out

@@ -1,0 +1,18 @@
+-- Laws of the checker's work on flat memory.
+pub mod Lines
+pub mod Holds
+pub mod Keeps
+pub mod Results
+pub mod Terms
+pub mod Bindings
+pub mod Derivations
+pub mod Rules
+pub mod Prefixes
+pub mod Members
+pub mod Programs
+pub mod PrefixTerms
+pub mod Clauses
+pub mod Writes
+pub mod Stages
+pub mod Judging
+pub mod Simulation

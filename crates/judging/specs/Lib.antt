@@ -1,0 +1,8 @@
+-- The checker's judgement of an answer text on flat memory, line by line.
+pub mod Sequents
+pub mod Members
+pub mod Bindings
+pub mod Rules
+pub mod Clauses
+pub mod Judging
+pub mod Simulation

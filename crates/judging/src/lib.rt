@@ -1,0 +1,31 @@
+// The checker's judgement of an answer text on flat memory: see specs/ for the definitions, proofs/ for the simulation.
+
+// All of the checker's state that is not in the work buffer. A pointer is the number of a record plus 1, and 0 for none.
+pub struct Registers {
+    // what is due (specs/Sequents.antt)
+    pub stage: u32,
+    // the node of the sequent's goal, or the variable of the B line that is due
+    pub node: u32,
+    // its frame, its hypotheses, its level
+    pub frame: u32,
+    pub hypotheses: u32,
+    pub level: u32,
+    // the sequents left after it
+    pub rest: u32,
+    // how many made constants and leftover variables have shown
+    pub made: u32,
+    pub leftover: u32,
+}
+
+// A clause of a program and the number of one of its members.
+pub enum Place {
+    At(u32, u32, u32),
+    Nowhere,
+}
+
+// A member of a clause: its node in the table, and the names of its prefix, outermost first, as digits to base 8, lowest first.
+pub struct Found {
+    pub leaf: u32,
+    pub names: u32,
+    pub count: u32,
+}

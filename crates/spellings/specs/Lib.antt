@@ -1,0 +1,6 @@
+-- Terms as places in an answer text: scanning them, comparing them with instances of sheet terms, and their numbering by first showing.
+pub mod Ranges
+pub mod Scanning
+pub mod Frames
+pub mod Instances
+pub mod Showing

@@ -1,0 +1,19 @@
+-- The text that the writer writes.
+pub mod Bytes
+pub mod Pages
+pub mod Tokens
+pub mod Alike
+pub mod Steps
+pub mod Words
+pub mod Finals
+pub mod Values
+pub mod TermSteps
+pub mod LineSteps
+pub mod PathSteps
+pub mod FirstShowings
+pub mod Firsts
+pub mod Numbered
+pub mod Passes
+pub mod Restored
+pub mod Ordered
+pub mod Cases
