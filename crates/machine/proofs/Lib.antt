@@ -28,3 +28,4 @@ pub mod Acts
 pub mod Start
 pub mod Simulation
 pub mod Proved
+pub mod Promises

@@ -14,3 +14,4 @@ pub mod Trying
 pub mod Machine
 pub mod Reading
 pub mod Simulation
+pub mod Promises

@@ -2,14 +2,14 @@
 -- there, whatever the fuel above its number; and its tree by its kind.
 use Prim.Native.Nat.{ℕ, zero, suc, _+_, _<_, _≤_}
 use native.Mathlib.Omega.{arith}
-use mathlib.Core.Path.{_≡_, refl, sym, ap, ap₂, _∙_, subst}
+use mathlib.Core.Path.{_≡_, refl, sym, ap, ap₂, _∙_}
 use mathlib.Core.Bool.{Bool, true, false}
 use mathlib.Core.List.{List}
 use lib.Dec.{eqb}
 use borrow.Author.Tests.{eqb-true, eqb-false}
-use Rattle.terms.specs.Terms.{Term, leaf, app, Terms, nil, cons}
-use Rattle.formulas.specs.Formulas.{Goal, atom, truth, and, or, implies, exists, forall, Clause, fact, rule, both, each}
-use Rattle.tables.specs.Layout.{kindOf, childCount, labelOf, childOf, goalBit, membersOf, sizeOf, arityOf}
+use Rattle.terms.specs.Terms.{Term, leaf, app, cons}
+use Rattle.formulas.specs.Formulas.{Goal, atom, truth, and, or, implies, exists, forall, fact, rule, both, each}
+use Rattle.tables.specs.Layout.{kindOf, childCount, labelOf, childOf}
 use Rattle.tables.specs.Decoding.{childrenBy, termBy, termAt, argumentsAt, goalBy, clauseBy, goalAt, clauseAtNode}
 use Rattle.tables.specs.WellMade.{IsTerm, IsGoal, IsClause, Arguments, TermNode, GoalNode, ClauseNode, WellMade}
 use Rattle.tables.proofs.Same.{Same, same-self, same-kind, same-count, same-label, same-child}

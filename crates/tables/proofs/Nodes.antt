@@ -1,7 +1,7 @@
 -- What is known of a node stays when the table changes elsewhere: in symbols, nodes and clauses that come after.
-use Prim.Native.Nat.{ℕ, suc, _+_, _<_, _≤_}
+use Prim.Native.Nat.{ℕ, _+_, _<_, _≤_}
 use native.Mathlib.Omega.{arith}
-use mathlib.Core.Path.{_≡_, refl, sym, ap, ap₂, _∙_, subst}
+use mathlib.Core.Path.{_≡_, sym, ap, ap₂, _∙_, subst}
 use mathlib.Core.Bool.{Bool}
 use mathlib.Core.List.{List}
 use lib.Dec.{eqb}
@@ -9,7 +9,7 @@ use lib.ListN.{length}
 use Rattle.terms.specs.Terms.{Term, size}
 use Rattle.formulas.specs.Formulas.{Goal, Clause, freeT, freeG, freeC}
 use Rattle.formulas.specs.Members.{members}
-use Rattle.tables.specs.Layout.{kindOf, childCount, labelOf, childOf, maskOf, bitOf, goalBit, membersOf, sizeOf, arityOf}
+use Rattle.tables.specs.Layout.{kindOf, labelOf, childOf, maskOf, bitOf, membersOf, arityOf}
 use Rattle.tables.specs.Decoding.{termAt, goalAt, clauseAtNode}
 use Rattle.tables.specs.WellMade.{IsTerm, IsGoal, IsClause, Arguments, TermNode, GoalNode, ClauseNode}
 use Rattle.tables.proofs.Same.{Same, same-kind, same-count, same-label, same-child, same-mask, same-goal, same-members, same-size, same-arity}

@@ -1,11 +1,10 @@
 -- Two tables with the same symbols and nodes up to given numbers: every field that is read there is the same.
-use Prim.Native.Nat.{ℕ, suc, _+_, _*_, _/_, _%_, _<_, _≤_}
+use Prim.Native.Nat.{ℕ, _+_, _/_, _%_, _<_}
 use native.Mathlib.Omega.{arith}
-use mathlib.Core.Path.{_≡_, refl, sym, ap, _∙_, subst}
+use mathlib.Core.Path.{_≡_, refl, ap}
 use mathlib.Core.List.{List}
 use lib.ListN.{getD}
 use Rattle.tables.specs.Layout.{symbolAt, nodeAt, kindOf, childCount, labelOf, childOf, infoOf, maskOf, goalBit, membersOf, sizeOf, nameStart, nameLength, isFunctionBit, arityOf}
-use Rattle.tables.specs.WellMade.{IsTerm, IsGoal, IsClause}
 
 pub record Same (t u : List ℕ) (symbols nodes : ℕ) : Type 0 where
   pub symbol : (i f : ℕ) → i < symbols → f < 3 → getD u (symbolAt i f) 0 ≡ getD t (symbolAt i f) 0

@@ -4,7 +4,7 @@ use memory::wide;
 ghost use mathlib.Core.Path.{_≡_};
 ghost use Prim.Native.Nat.{_+_, _*_, _<_, _≤_};
 ghost use lib.Dec.{eqb};
-ghost use lib.ListN.{length, getD};
+ghost use lib.ListN.{getD};
 ghost use Rattle.tables.specs.Layout.{symbolAt, nodeAt, kindOf, childCount, labelOf, childOf, infoOf, maskOf, goalBit, membersOf, sizeOf, nameStart, nameLength, isFunctionBit, arityOf, clauseNode};
 
 // Field f of node n.

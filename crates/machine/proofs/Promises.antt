@@ -1,0 +1,23 @@
+-- The promises of `specs/Promises.antt`, kept.
+use Prim.Native.Nat.{ℕ}
+use mathlib.Core.Path.{_≡_, ap, subst}
+use mathlib.Core.List.{List}
+use Rattle.search.specs.Search.{search, after}
+use Rattle.sheets.specs.Sheets.{Sheet}
+use Rattle.tables.specs.Decoding.{decodeSheet}
+use Rattle.machine.specs.Machine.{runMachine}
+use Rattle.machine.specs.Simulation.{Tells, Stands}
+use Rattle.machine.specs.Promises.{StandsFor, MachineTells, MachineFollows}
+use Rattle.machine.proofs.Simulation.{simulates, follows}
+
+pub machineTells : MachineTells
+unfolding decodeSheet
+machineTells bytes t symbols nodes clauses goal s h budget few work room =
+    subst (λ (q : Sheet). Tells t (runMachine budget t clauses goal work) (search budget (q .clauses) (q .goal))) (h .decoded)
+    (simulates t nodes clauses goal (h .made) budget few work room)
+
+pub machineFollows : MachineFollows
+unfolding decodeSheet
+machineFollows bytes t symbols nodes clauses goal s h n few work some room =
+    subst (λ (q : Sheet). Stands t (runMachine n t clauses goal work) (after (q .clauses) (q .goal) n)) (h .decoded)
+    (follows t nodes clauses goal (h .made) n few work some room)

@@ -1,0 +1,30 @@
+-- The machine's part of demands 2 and 3: for every sheet that stands in the table, every permitted budget and whatever the work
+-- buffer held before, it tells what the search of document 01 tells: outcome, units, and, if proved, bindings, levels and path.
+use Prim.Native.Nat.{ℕ, _*_, _≤_}
+use mathlib.Core.Path.{_≡_}
+use mathlib.Core.List.{List}
+use lib.ListN.{length}
+use Rattle.search.specs.Search.{search, after}
+use Rattle.sheets.specs.Limits.{maxBudget, numbersPerUnit}
+use Rattle.sheets.specs.Sheets.{Sheet}
+use Rattle.tables.specs.Decoding.{decodeSheet}
+use Rattle.tables.specs.WellMade.{WellMade}
+use Rattle.machine.specs.Machine.{runMachine}
+use Rattle.machine.specs.Simulation.{Tells, Stands}
+
+-- The table is one that the reader makes, and it stands for the sheet.
+pub record StandsFor (bytes t : List ℕ) (symbols nodes clauses goal : ℕ) (s : Sheet) : Type 0 where
+  pub made : WellMade t nodes clauses goal
+  pub decoded : decodeSheet bytes t symbols clauses goal ≡ s
+
+-- Within a budget.
+abbrev pub MachineTells : Type 0
+MachineTells = (bytes t : List ℕ) (symbols nodes clauses goal : ℕ) (s : Sheet) → StandsFor bytes t symbols nodes clauses goal s
+    → (budget : ℕ) → budget ≤ maxBudget → (work : List ℕ) → numbersPerUnit * budget ≤ length work
+    → Tells t (runMachine budget t clauses goal work) (search budget (s .clauses) (s .goal))
+
+-- After each number of acts.
+abbrev pub MachineFollows : Type 0
+MachineFollows = (bytes t : List ℕ) (symbols nodes clauses goal : ℕ) (s : Sheet) → StandsFor bytes t symbols nodes clauses goal s
+    → (n : ℕ) → n ≤ maxBudget → (work : List ℕ) → numbersPerUnit ≤ length work → numbersPerUnit * n ≤ length work
+    → Stands t (runMachine n t clauses goal work) (after (s .clauses) (s .goal) n)
