@@ -1,0 +1,28 @@
+use Rattle.making.specs.Making.{ruledMembers}
+use borrow.Author.Tests.{eq-eqb, ne-eqb}
+use borrow.Author.Needs.{needs}
+use Rattle.making.proofs.ruled_members.Statement.{statement}
+use Rattle.making.proofs.ruled_members.Tie as tie
+use Rattle.making.proofs.ruled_members.Reads as reads
+use Rattle.making.proofs.ruled_members.Lts as lts
+use Rattle.making.proofs.both_goals.Reads as both-goals-reads
+use Rattle.tables.proofs.kind.Reads as kind-reads
+
+kind-requires : tie.Need-kind-requires
+kind-requires c κs = search needs
+
+both-goals-requires : tie.Need-both-goals-requires
+both-goals-requires c κs = search needs
+
+returns : tie.Need-returns
+unfolding ruledMembers
+returns c =
+    (simp (ruledMembers, ← c .both-goals .ensures .0, eq-eqb _ _ (c .before .if1 .taken), ← c .before .before .kind .ensures), search needs)
+
+returns-2 : tie.Need-returns-2
+unfolding ruledMembers
+returns-2 c =
+    (simp (ruledMembers, ne-eqb _ _ (c .if1 .left), ← c .before .kind .ensures), search needs)
+
+pub ruled-members-spec : {M : Type 1} → statement M
+ruled-members-spec = tie.close (tie.spec kind-requires both-goals-requires returns returns-2)

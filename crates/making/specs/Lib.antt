@@ -1,0 +1,2 @@
+-- The nodes, clauses and the goal that lines make in the table.
+pub mod Making

@@ -1,0 +1,2 @@
+-- Symbols: declaring them, and applying them.
+pub mod Symbols
