@@ -17,6 +17,7 @@ use Rattle.machine.proofs.Records.{length-put, field-other, There, cell-same, c
 pub there-from : (n x : ℕ) (w : List ℕ) → 64 * n ≤ length w → x < 9 * n → There x w
 there-from n x w r h = let d : x / 9 < n = omega arith in omega arith
 
+-- Two memories that read alike.
 pub record Alike (hi : ℕ) (w w′ : List ℕ) : Type 0 where
   pub long : length w′ ≡ length w
   pub fields : (u f : ℕ) → 18 ≤ f → f < hi → field w′ u f ≡ field w u f
@@ -24,9 +25,11 @@ pub record Alike (hi : ℕ) (w w′ : List ℕ) : Type 0 where
   pub free : (x : ℕ) → tagOf (cellOf w x) ≡ 0 → tagOf (cellOf w′ x) ≡ 0
   pub bound : (x : ℕ) → (tagOf (cellOf w x) ≡ 0 → ⊥) → cellOf w′ x ≡ cellOf w x
 
+-- A memory is like itself,
 pub alike-refl : (hi : ℕ) (w : List ℕ) → Alike hi w w
 alike-refl hi w = record { long = refl; fields = λ u f p q. refl; levels = λ x. refl; free = λ x e. e; bound = λ x n. refl }
 
+-- likeness goes from one to the next,
 pub alike-trans : (hi : ℕ) (w w′ w″ : List ℕ) → Alike hi w w′ → Alike hi w′ w″ → Alike hi w w″
 alike-trans hi w w′ w″ a b = record {
   long = b .long ∙ a .long;
@@ -36,6 +39,7 @@ alike-trans hi w w′ w″ a b = record {
   bound = λ x n. b .bound x (λ e. n (ap tagOf (sym (a .bound x n)) ∙ e)) ∙ a .bound x n;
 }
 
+-- and is likeness in fewer fields.
 pub alike-fewer : (hi lo : ℕ) (w w′ : List ℕ) → lo ≤ hi → Alike hi w w′ → Alike lo w w′
 alike-fewer hi lo w w′ h a = record { long = a .long; fields = λ u f p q. a .fields u f p (omega arith); levels = a .levels; free = a .free; bound = a .bound }
 
@@ -86,6 +90,7 @@ pub slot-alike : (hi : ℕ) (w w′ : List ℕ) (f v : ℕ) → 31 ≤ hi → v 
 unfolding slotOf
 slot-alike hi w w′ f v h l a = rw (a .fields (f - 1) (23 + v) (omega arith) (omega arith))
 
+-- the word of a node
 pub word-alike : (hi : ℕ) (t w w′ : List ℕ) (n f : ℕ) → 31 ≤ hi → (kindOf t n ≡ 0 → labelOf t n < 8) → Alike hi w w′ → wordOf t w′ n f ≡ wordOf t w n f
 unfolding wordOf
 word-alike hi t w w′ n f h l a = go (eqb (kindOf t n) 0) refl

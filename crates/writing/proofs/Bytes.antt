@@ -19,6 +19,7 @@ pub emit-over : (out : List ℕ) (limit at b : ℕ) → limit < at → emit out 
 unfolding emit
 emit-over out limit at b h = rw (lt-ltb limit at h)
 
+-- within it
 pub emit-within : (out : List ℕ) (limit at b : ℕ) → limit ≤ 65535 → at ≤ limit → emit out limit at b ≡ written (set out at b) (suc at)
 unfolding emit
 emit-within out limit at b l h = rw (le-ltb limit at h, up-small at (omega arith))
@@ -51,6 +52,7 @@ digits-bytes (suc f) n ds out limit at = go (ltb n 10) (digits-bytes f (n / 10) 
     go true h = refl
     go false h = h
 
+-- all of them,
 pub number-bytes : (n : ℕ) (out : List ℕ) (limit at : ℕ) → writeNumber out limit at n ≡ writeBytes (decimal n) out limit at
 unfolding writeNumber decimal writeBytes
 number-bytes n out limit at = sym (digits-bytes (suc n) n [] out limit at)

@@ -34,12 +34,14 @@ constants : List ℕ
 unfolding ascii
 constants = ascii "P\tp\t2\nV\t0\nV\t1\nA\t0\t0\t0\nU\t0\t2\nA\t0\t0\t1\nE\t0\t4\nU\t1\t5\nC\t3\nQ\t6\n"
 
+-- its table
 constants-table : List ℕ
 constants-table =
     (2 ∷ 1 ∷ 4 ∷ []) ++ (replicate 765 0
     ++ ((0 ∷ 0 ∷ 0 ∷ 0 ∷ 0 ∷ 0 ∷ 65537 ∷ 0 ∷ 1 ∷ 0 ∷ 0 ∷ 0 ∷ 0 ∷ 65538 ∷ 34 ∷ 0 ∷ 0 ∷ 0 ∷ 0 ∷ 0 ∷ 769 ∷ 24 ∷ 0 ∷ 2 ∷ 0 ∷ 0 ∷ 0 ∷ 768 ∷ 34 ∷ 0 ∷ 0 ∷ 1 ∷ 0 ∷ 0 ∷ 771 ∷ 23 ∷ 0 ∷ 4 ∷ 0 ∷ 0 ∷ 0 ∷ 258 ∷ 24 ∷ 1 ∷ 5 ∷ 0 ∷ 0 ∷ 0 ∷ 256 ∷ [])
     ++ (replicate 7119 0 ++ (3 ∷ []))))
 
+-- its text, and ten bytes that stay
 constants-written : computeAnswer constants constants-table 1 6 8 (replicate 512 7) (replicate 60 0) .buffer ≡ ascii "R\tproved\t8\nD\tall\t!0@1\nD\tsome\t!0@1\nD\tclause\t1\t!0@1\n" ++ replicate 10 0
 unfolding computeAnswer constants constants-table ascii
 constants-written = refl
@@ -54,12 +56,14 @@ variables : List ℕ
 unfolding ascii
 variables = ascii "P\tp\t1\nF\tf\t1\nV\t0\nA\t1\t0\nA\t0\t1\nU\t0\t2\nA\t0\t0\nC\t3\nQ\t4\n"
 
+-- its table
 variables-table : List ℕ
 variables-table =
     (2 ∷ 1 ∷ 2 ∷ 8 ∷ 1 ∷ 3 ∷ []) ++ (replicate 762 0
     ++ ((0 ∷ 0 ∷ 0 ∷ 0 ∷ 0 ∷ 0 ∷ 65537 ∷ 17 ∷ 1 ∷ 0 ∷ 0 ∷ 0 ∷ 0 ∷ 131073 ∷ 18 ∷ 0 ∷ 1 ∷ 0 ∷ 0 ∷ 0 ∷ 769 ∷ 24 ∷ 0 ∷ 2 ∷ 0 ∷ 0 ∷ 0 ∷ 768 ∷ 18 ∷ 0 ∷ 0 ∷ 0 ∷ 0 ∷ 0 ∷ 769 ∷ [])
     ++ (replicate 7133 0 ++ (3 ∷ []))))
 
+-- its text
 variables-written : computeAnswer variables variables-table 1 4 5 (replicate 320 7) (replicate 39 0) .buffer ≡ ascii "R\tproved\t5\nB\t0\tf(_0@0)\nD\tclause\t1\t_0@0\n"
 unfolding computeAnswer variables variables-table ascii
 variables-written = refl

@@ -33,6 +33,7 @@ has-again z y l h = has-snoc z y l ∙ go (sameSymbol y z) refl (has z l) refl
     go true e false q = absurd (true≢false (sym h ∙ ap (λ (x : Symbol). has x l) (sameSymbol-true y z e) ∙ q))
     go false e false q = refl
 
+-- it does not count,
 count-again : (y : Symbol) (l : List Symbol) → has y l ≡ true → length (firsts (l ++ (y ∷ []))) ≡ length (firsts l)
 unfolding fresh
 count-again y l h = ap length (firsts-snoc l y ∙ ap (λ (b : Bool). firsts l ++ cond b [] (y ∷ [])) (has-firsts y l ∙ h) ∙ append-nil (firsts l))
@@ -45,6 +46,7 @@ has-self y l = has-snoc y y l ∙ ap (has y l ||_) (sameSymbol-refl y) ∙ go (h
     go true = refl
     go false = refl
 
+-- another symbol is there or not as before,
 has-other : (z y : Symbol) (l : List Symbol) → sameSymbol y z ≡ false → has z (l ++ (y ∷ [])) ≡ has z l
 has-other z y l h = has-snoc z y l ∙ ap (has z l ||_) h ∙ go (has z l)
   where
@@ -52,10 +54,12 @@ has-other z y l h = has-snoc z y l ∙ ap (has z l ||_) h ∙ go (has z l)
     go true = refl
     go false = refl
 
+-- it comes last among the first showings,
 first-new : (y : Symbol) (l : List Symbol) → has y l ≡ false → firsts (l ++ (y ∷ [])) ≡ firsts l ++ (y ∷ [])
 unfolding fresh
 first-new y l h = firsts-snoc l y ∙ ap (λ (b : Bool). firsts l ++ cond b [] (y ∷ [])) (has-firsts y l ∙ h)
 
+-- and counts.
 count-new : (y : Symbol) (l : List Symbol) → has y l ≡ false → length (firsts (l ++ (y ∷ []))) ≡ suc (length (firsts l))
 count-new y l h = ap length (first-new y l h) ∙ length-append (firsts l) (y ∷ []) ∙ (let e : length (firsts l) + 1 ≡ suc (length (firsts l)) = omega arith in e)
 
@@ -69,6 +73,7 @@ has-more z (x ∷ l) m h = go (sameSymbol x z) h (has-more z l m)
     go true k f = refl
     go false k f = f k
 
+-- in the middle
 pub has-middle : (y : Symbol) (l m : List Symbol) → has y (l ++ (y ∷ m)) ≡ true
 has-middle y l m = ap (has y) (sym (append-assoc l (y ∷ []) m)) ∙ has-more y (l ++ (y ∷ [])) m (has-self y l)
 

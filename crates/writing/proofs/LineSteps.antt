@@ -47,10 +47,12 @@ module _ (sheet t : List ℕ) (symbols nodes : ℕ) (w : List ℕ) (acts : ℕ) 
     pub is : g′ ≡ steps limit ks g
     pub right : All (Right w (s .next) acts) (signs ks)
 
+  -- The memory stays alike,
   pub reach-alike : (ks : List Token) (g g′ : Page) → Reached ks g g′ → Alike 62 w (g .memory) → Alike 63 (g .memory) (g′ .memory)
   reach-alike ks g g′ r a =
       subst (λ (h : Page). Alike 63 (g .memory) (h .memory)) (sym (r .is)) (steps-alike w (s .next) acts (b .room) (b .variables) limit ks g (r .right) a)
 
+  -- from the first on.
   pub reach-kept : (ks : List Token) (g g′ : Page) → Reached ks g g′ → Alike 62 w (g .memory) → Alike 62 w (g′ .memory)
   reach-kept ks g g′ r a = alike-trans 62 w (g .memory) (g′ .memory) a (alike-fewer 63 62 (g .memory) (g′ .memory) (omega arith) (reach-alike ks g g′ r a))
 
@@ -59,12 +61,14 @@ module _ (sheet t : List ℕ) (symbols nodes : ℕ) (w : List ℕ) (acts : ℕ) 
   unfolding steps signs
   reach-none g = record { is = refl; right = tt }
 
+  -- one piece and then another
   pub reach-then : (x y : List Token) (f g h : Page) → Reached x f g → Reached y g h → Reached (x ++ y) f h
   reach-then x y f g h p q = record {
     is = q .is ∙ ap (steps limit y) (p .is) ∙ sym (steps-append limit x y f);
     right = subst (All (Right w (s .next) acts)) (sym (signs-append x y)) (all-append (Right w (s .next) acts) (signs x) (signs y) (p .right) (q .right));
   }
 
+  -- the same tokens
   pub reach-as : (x y : List Token) (f g : Page) → x ≡ y → Reached x f g → Reached y f g
   reach-as x y f g e r = subst (λ (ks : List Token). Reached ks f g) e r
 
@@ -72,9 +76,11 @@ module _ (sheet t : List ℕ) (symbols nodes : ℕ) (w : List ℕ) (acts : ℕ) 
   pub reach-bytes : (bs : List ℕ) (g : Page) → Reached (map byte bs) g (bytesTo limit g bs)
   reach-bytes bs g = record { is = sym (steps-bytes limit bs g); right = subst (All (Right w (s .next) acts)) (sym (none-signs bs)) tt }
 
+  -- one byte
   pub reach-byte : (c : ℕ) (g : Page) → Reached (byte c ∷ []) g (emitTo limit g c)
   reach-byte c g = subst (Reached (byte c ∷ []) g) (sym (emitted limit g c)) (reach-bytes (c ∷ []) g)
 
+  -- a number
   pub reach-number : (n : ℕ) (g : Page) → Reached (map byte (decimal n)) g (numberTo limit g n)
   reach-number n g = subst (Reached (map byte (decimal n)) g) (sym (number-then limit g n)) (reach-bytes (decimal n) g)
 
@@ -89,6 +95,7 @@ module _ (sheet t : List ℕ) (symbols nodes : ℕ) (w : List ℕ) (acts : ℕ) 
         right = word-right sheet t symbols nodes w acts s b limit low a (h, i);
       })
 
+  -- that of a variable
   pub reach-variable : (x : ℕ) (g : Page) → x < s .next → Alike 62 w (g .memory) → Reached (termTokens (final s (var x)) ds) g (termTo sheet t acts limit g (variableWord x))
   unfolding substitute Leaves Below
   reach-variable x g l k =
@@ -98,6 +105,7 @@ module _ (sheet t : List ℕ) (symbols nodes : ℕ) (w : List ℕ) (acts : ℕ) 
       reach-word (variableWord x) (leaf (var x)) g (ofLeaf (variable (variable-tag x (omega arith)))) l
       (variable-term t nodes (b .table) (b .size) w acts (b .few) s (variableWord x) (variable-tag x (omega arith)) ∙ ap (λ (y : ℕ). leaf (var y)) e) k
 
+  -- that of a constant
   pub reach-constant : (c : ℕ) (g : Page) → c < acts → Alike 62 w (g .memory)
       → Reached (termTokens (final s (con c (field w c 22))) ds) g (termTo sheet t acts limit g (constantWord c))
   unfolding substitute Leaves Below
@@ -134,6 +142,7 @@ module _ (sheet t : List ℕ) (symbols nodes : ℕ) (w : List ℕ) (acts : ℕ) 
   unfolding finalEnvironment startEnvironment substitute
   start-value v h = rw (lt-ltb v 8 h)
 
+  -- one of them
   reach-binding : (v : ℕ) (g : Page) → v < 8 → 8 ≤ s .next → Alike 62 w (g .memory)
       → Reached (textTokens ds (bindingLine v (finalEnvironment s v))) g (termLine sheet t acts limit (numberTo limit (bytesTo limit g (ascii "B\t")) v) (ascii "\t") (variableWord v))
   unfolding textTokens numberTo bytesTo wrote ascii
@@ -151,6 +160,7 @@ module _ (sheet t : List ℕ) (symbols nodes : ℕ) (w : List ℕ) (acts : ℕ) 
       (reach-then (map byte (ascii "B\t")) _ g h _ (reach-bytes (ascii "B\t") g)
       (reach-then (map byte (decimal v)) _ h i _ (reach-number v h) line))
 
+  -- all of them
   pub reach-bindings : (goal : Goal) (n mask v : ℕ) (g : Page) → n + v ≤ 8 → 8 ≤ s .next → ((j : ℕ) → j < n → eqb (bitOf mask j) 1 ≡ freeG goal (v + j)) → Alike 62 w (g .memory)
       → Reached (tokens ds (map (λ v. bindingLine v (finalEnvironment s v)) (freeFrom n v goal))) g (bindingsTo sheet t acts limit n mask v g)
   unfolding bindingsTo freeFrom tokens bitOf

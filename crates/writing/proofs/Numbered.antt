@@ -49,6 +49,7 @@ variable-old limit g x n e =
     (ap (wrote g) (ap (λ (m : ℕ). writeSymbol (g .buffer) limit (g .pen .at) (code "_") m (levelOf (g .memory) x)) (number-in (cellOf (g .memory) x) n e)
     ∙ symbol-bytes (g .buffer) limit (g .pen .at) (code "_") n (levelOf (g .memory) x)))
 
+-- one that gets it
 variable-new : (limit : ℕ) (g : Page) (x : ℕ) → cellOf (g .memory) x ≡ 0 → There x (g .memory) → g .pen .variables ≤ 1000000
     → showVariable limit g x
     ≡ bytesTo limit (page (putCell (g .memory) x (4 * suc (g .pen .variables))) (g .buffer) (onVariables (g .pen) (suc (g .pen .variables)))) (spellSymbol (leftover (g .pen .variables) (levelOf (g .memory) x)))
@@ -69,6 +70,7 @@ constant-old limit g c n e =
     (ap (wrote g) (ap (λ (m : ℕ). writeSymbol (g .buffer) limit (g .pen .at) (code "!") m (field (g .memory) c 22)) (let z : field (g .memory) c 63 - 1 ≡ n = omega arith in z)
     ∙ symbol-bytes (g .buffer) limit (g .pen .at) (code "!") n (field (g .memory) c 22)))
 
+-- one that gets it
 constant-new : (limit : ℕ) (g : Page) (c : ℕ) → field (g .memory) c 63 ≡ 0 → 64 * c + 63 < length (g .memory) → g .pen .constants ≤ 1000000
     → showConstant limit g c
     ≡ bytesTo limit (page (put (g .memory) c 63 (suc (g .pen .constants))) (g .buffer) (onConstants (g .pen) (suc (g .pen .constants)))) (spellSymbol (made (g .pen .constants) (field (g .memory) c 22)))
@@ -86,14 +88,17 @@ made-variable : (x k : ℕ) (h : List Symbol) → madeOnly (h ++ (leftover x k �
 unfolding madeOnly isMade
 made-variable x k h = madeOnly-append h (leftover x k ∷ []) ∙ append-nil (madeOnly h)
 
+-- a variable among the leftover ones
 leftover-variable : (x k : ℕ) (h : List Symbol) → leftoverOnly (h ++ (leftover x k ∷ [])) ≡ leftoverOnly h ++ (leftover x k ∷ [])
 unfolding leftoverOnly isMade
 leftover-variable x k h = leftoverOnly-append h (leftover x k ∷ [])
 
+-- a constant among the made ones
 made-constant : (c k : ℕ) (h : List Symbol) → madeOnly (h ++ (made c k ∷ [])) ≡ madeOnly h ++ (made c k ∷ [])
 unfolding madeOnly isMade
 made-constant c k h = madeOnly-append h (made c k ∷ [])
 
+-- a constant is no leftover variable
 leftover-constant : (c k : ℕ) (h : List Symbol) → leftoverOnly (h ++ (made c k ∷ [])) ≡ leftoverOnly h
 unfolding leftoverOnly isMade
 leftover-constant c k h = leftoverOnly-append h (made c k ∷ []) ∙ append-nil (leftoverOnly h)
@@ -108,6 +113,7 @@ unfoldable pub seen : Symbol → List Symbol → Bool
 seen (made c k) h = has (made c k) (madeOnly h)
 seen (leftover x k) h = has (leftover x k) (leftoverOnly h)
 
+-- How many of its kind have shown.
 unfoldable pub countOf : Symbol → List Symbol → ℕ
 countOf (made c k) h = length (firsts (madeOnly h))
 countOf (leftover x k) h = length (firsts (leftoverOnly h))
@@ -136,15 +142,18 @@ unfolding seen
 seen-more (made c k) h m e = ap (has (made c k)) (madeOnly-append h m) ∙ has-more (made c k) (madeOnly h) (madeOnly m) e
 seen-more (leftover x k) h m e = ap (has (leftover x k)) (leftoverOnly-append h m) ∙ has-more (leftover x k) (leftoverOnly h) (leftoverOnly m) e
 
+-- what stands in the middle has shown
 seen-middle : (y : Symbol) (h m : List Symbol) → seen y (h ++ (y ∷ m)) ≡ true
 unfolding seen madeOnly leftoverOnly isMade
 seen-middle (made c k) h m = ap (has (made c k)) (madeOnly-append h (made c k ∷ m)) ∙ has-middle (made c k) (madeOnly h) (madeOnly m)
 seen-middle (leftover x k) h m = ap (has (leftover x k)) (leftoverOnly-append h (leftover x k ∷ m)) ∙ has-middle (leftover x k) (leftoverOnly h) (leftoverOnly m)
 
+-- so has all of a list in it
 all-seen : (h l : List Symbol) → All (λ y. seen y (h ++ l) ≡ true) l
 all-seen h [] = tt
 all-seen h (y ∷ l) = (seen-middle y h l, subst (λ (z : List Symbol). All (λ x. seen x z ≡ true) l) (append-assoc h (y ∷ []) l) (all-seen (h ++ (y ∷ [])) l))
 
+-- where all have shown, nothing new is due
 due-seen : (r : Renaming) (h l : List Symbol) → All (λ y. seen y h ≡ true) l → Due r h l
 unfolding Due
 due-seen r h [] a = tt
@@ -153,6 +162,7 @@ due-seen r h (y ∷ l) a = (
   due-seen r (h ++ (y ∷ [])) l (all-weaken (λ z. seen z h ≡ true) (λ z. seen z (h ++ (y ∷ [])) ≡ true) (λ z e. seen-more z h (y ∷ []) e) l (a .1)),
 )
 
+-- so it is of a text gone through once more
 pub due-again : (r : Renaming) (l : List Symbol) → Due r l l
 due-again r l = due-seen r l l (all-seen [] l)
 
@@ -161,15 +171,18 @@ unfoldable pub cellMark : List ℕ → Symbol → ℕ
 cellMark v (made c k) = 0
 cellMark v (leftover x k) = cellOf v x
 
+-- of constants
 unfoldable pub fieldMark : List ℕ → Symbol → ℕ
 fieldMark v (made c k) = field v c 63
 fieldMark v (leftover x k) = 0
 
 module _ (w : List ℕ) (next acts : ℕ) where
+  -- a variable as the memory has it
   unfoldable pub Variable : Symbol → Type 0
   Variable (made c k) = ⊥
   Variable (leftover x k) = Right w next acts (leftover x k)
 
+  -- a constant as the memory has it
   unfoldable pub Constant : Symbol → Type 0
   Constant (made c k) = Right w next acts (made c k)
   Constant (leftover x k) = ⊥
@@ -213,6 +226,7 @@ module _ (w : List ℕ) (next acts : ℕ) where
             numbered = n (writeBytes (spellSymbol z) (g .buffer) limit (p .at) .at) (subst (λ (a : ℕ). suc (g .pen .at) ≤ writeBytes (spellSymbol z) (g .buffer) limit a .at) (sym e) (symbol-moves z (g .buffer) (g .pen .at) l));
           })
 
+      -- A variable is shown.
       show-variable : (x k : ℕ) (h : List Symbol) (g : Page) → Right w next acts (leftover x k) → (seen (leftover x k) h ≡ false → numberBy r (leftover x k) ≡ countOf (leftover x k) h)
           → g .pen .at ≤ limit → Numbered h (g .memory) (g .pen) → Shown limit (leftover x k) h g (showVariable limit g x)
       unfolding seen countOf numberBy rename Right cellMark fieldMark Variable Constant onAt onVariables tagOf
@@ -273,6 +287,7 @@ module _ (w : List ℕ) (next acts : ℕ) where
                 fewConstants = omega arith;
               }) (variable-new limit g x c there (omega arith))
 
+      -- A constant is shown.
       show-constant : (c k : ℕ) (h : List Symbol) (g : Page) → Right w next acts (made c k) → (seen (made c k) h ≡ false → numberBy r (made c k) ≡ countOf (made c k) h)
           → g .pen .at ≤ limit → Numbered h (g .memory) (g .pen) → Shown limit (made c k) h g (showConstant limit g c)
       unfolding seen countOf numberBy rename Right cellMark fieldMark Variable Constant onAt onConstants
@@ -333,6 +348,7 @@ module _ (w : List ℕ) (next acts : ℕ) where
                 fewConstants = omega arith;
               }) (constant-new limit g c f there (omega arith))
 
+      -- A symbol is shown.
       show-numbered : (y : Symbol) (h : List Symbol) (g : Page) → Right w next acts y → (seen y h ≡ false → numberBy r y ≡ countOf y h) → g .pen .at ≤ limit
           → Numbered h (g .memory) (g .pen) → Shown limit y h g (showSymbol limit g y)
       unfolding showSymbol
@@ -345,6 +361,7 @@ module _ (w : List ℕ) (next acts : ℕ) where
       pub numbered : g′ .pen .at ≤ limit → Numbered (h ++ signs ks) (g′ .memory) (g′ .pen)
 
     module _ (room : 64 * acts ≤ length w) (few : next ≤ 9 * acts) (limit : ℕ) (low : limit ≤ 65535) (small : base ≤ 65536) where
+      -- From token to token.
       pub steps-numbered : (ks : List Token) (h : List Symbol) (g : Page) → All (Right w next acts) (signs ks) → Due r h (signs ks) → (g .pen .at ≤ limit → Numbered h (g .memory) (g .pen))
           → Wrote limit ks h g (steps limit ks g)
       unfolding steps signs spelled writeBytes Due step emitTo wrote onAt

@@ -36,6 +36,7 @@ leaf-is : (n a : ℕ) → LeafAt n a → LeafWord n a
 leaf-is n a (variable-at x e) = variable (ap tagOf e ∙ tag-is x 1 (omega arith))
 leaf-is n a (constant-at c e h) = constant (ap tagOf e ∙ tag-is c 2 (omega arith)) (subst (λ (d : ℕ). d < n) (sym (ap nameOf e ∙ name-is c 2 (omega arith))) h)
 
+-- of terms
 word-is : (T : Table) (n x : ℕ) (w : List ℕ) {a : ℕ} {u : Term Leaf} → WordAt T n x w a u → TermWord (T .numbers) w (T .nodes) n a
 word-is T n x w (word-variable {y = y} e) = ofLeaf (variable (ap tagOf e ∙ tag-is y 1 (omega arith)))
 word-is T n x w (word-constant {c = c} e h k) = ofLeaf (constant (ap tagOf e ∙ tag-is c 2 (omega arith)) (subst (λ (d : ℕ). d < n) (sym (ap nameOf e ∙ name-is c 2 (omega arith))) h))
@@ -59,6 +60,7 @@ path-pointer n x [] w (suc r) k c = absurd c
 path-pointer n x (l ∷ ls) w zero k c = absurd c
 path-pointer n x (l ∷ ls) w (suc r) k c = let h = c .0 in omega arith
 
+-- the path, line by line
 path-made : (f n x : ℕ) (ls : List (Line Leaf)) (w : List ℕ) (p k : ℕ) → n ≤ f → PathAt n x ls w p k → PathMade f w x p k
 unfolding PathAt PathMade
 path-made zero n x [] w zero k h c = refl

@@ -41,6 +41,7 @@ pub page-over : (limit : ℕ) (g : Page) (bs : List ℕ) → limit < g .pen .at 
 unfolding bytesTo wrote onAt
 page-over limit g bs h = ap (wrote g) (bytes-over bs (g .buffer) limit (g .pen .at) h)
 
+-- Positions never fall.
 pub page-grow : (limit : ℕ) (g : Page) (bs : List ℕ) → limit ≤ 65535 → g .pen .at ≤ bytesTo limit g bs .pen .at
 unfolding bytesTo wrote onAt
 page-grow limit g bs l = bytes-grow bs (g .buffer) limit (g .pen .at) l

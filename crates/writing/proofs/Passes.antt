@@ -47,15 +47,18 @@ told-fits : (text out : List ℕ) → length text ≤ textLimit out → told tex
 unfolding told
 told-fits text out h = rw (le-leb (length text) (textLimit out) h)
 
+-- not, where it does not fit
 told-long : (text out : List ℕ) → textLimit out < length text → told text out ≡ written out noRoom
 unfolding told
 told-long text out h = rw (lt-leb (length text) (textLimit out) h)
 
 module _ (out : List ℕ) where
+  -- The limit is at most 65,535.
   pub limit-low : textLimit out ≤ 65535
   unfolding textLimit
   limit-low = omega arith
 
+  -- The limit is within the buffer.
   pub limit-room : textLimit out ≤ length out
   unfolding textLimit
   limit-room = omega arith
@@ -64,6 +67,7 @@ module _ (out : List ℕ) where
   counted-long : (text : List ℕ) (n : ℕ) → n ≡ writeBytes text [] (textLimit out) 0 .at → textLimit out < n → textLimit out < length text
   counted-long text n e h = let z = bytes-end text [] (textLimit out) 0 limit-low (omega arith) in omega arith
 
+  -- that it fits,
   counted-fits : (text : List ℕ) (n : ℕ) → n ≡ writeBytes text [] (textLimit out) 0 .at → n ≤ textLimit out → length text ≤ textLimit out
   counted-fits text n e h = let z = bytes-end text [] (textLimit out) 0 limit-low (omega arith) in omega arith
 
@@ -83,6 +87,7 @@ short-bytes bs units out limit =
     ∙ sym (bytes-append (decimal units) (lf ∷ []) (s .buffer) limit (s .at))
     ∙ sym (bytes-append bs (decimal units ++ (lf ∷ [])) out limit 0)
 
+-- they are written if they fit
 short-told : (bs : List ℕ) (units : ℕ) (out : List ℕ) → writeShort bs units out ≡ told (bs ++ (decimal units ++ (lf ∷ []))) out
 unfolding writeShort
 short-told bs units out = go (ltb (textLimit out) (shortPass bs units [] (textLimit out) .at)) refl
@@ -100,10 +105,12 @@ short-told bs units out = go (ltb (textLimit out) (shortPass bs units [] (textLi
         short-bytes bs units out (textLimit out)
         ∙ written-fits out text (counted-fits out text (shortPass bs units [] (textLimit out) .at) count (ltb-false (textLimit out) (shortPass bs units [] (textLimit out) .at) e))
 
+-- The text of no.
 pub writes-no : WritesNo
 unfolding writeNo noText textLine join ascii
 writes-no units out = short-told (ascii "R\tno\t") units out
 
+-- The text of spent.
 pub writes-spent : WritesSpent
 unfolding writeSpent spentText textLine join ascii
 writes-spent budget out = short-told (ascii "R\tspent\t") budget out
@@ -113,12 +120,15 @@ module _ (sheet t : List ℕ) (symbols nodes clauses goal : ℕ) (table : WellMa
   abbrev acts : ℕ
   acts = m .registers .acts
 
+  -- the memory before the writer
   abbrev w : List ℕ
   w = m .memory
 
+  -- the symbols of the sheet
   abbrev ds : List Declaration
   ds = declarationsFrom sheet t symbols 0
 
+  -- what the writer relies on
   pub basis : Basis t symbols nodes w acts s
   basis = record {
     table = nodes-of t nodes clauses goal table;
@@ -139,6 +149,7 @@ module _ (sheet t : List ℕ) (symbols nodes clauses goal : ℕ) (table : WellMa
   abbrev order : List PathLine
   order = reverse (pathLines acts w (m .registers .path) (m .registers .line))
 
+  -- links and no numbers
   ready : Prepared w (s .next) acts (prepare m) (firstLink m) order
   ready = prepared m (s .next) (o .room) (o .pointer) (o .path)
 
@@ -146,6 +157,7 @@ module _ (sheet t : List ℕ) (symbols nodes clauses goal : ℕ) (table : WellMa
   abbrev lines : List TextLine
   lines = answerLines units (freeVariables (goalAt t goal)) (finalEnvironment s) (finalLines s path)
 
+  -- they are those of the path
   order-lines : map (lineShown w s) order ≡ map derivationLine (finalLines s path)
   unfolding finalLines
   order-lines =
@@ -186,9 +198,11 @@ module _ (sheet t : List ℕ) (symbols nodes clauses goal : ℕ) (table : WellMa
   abbrev renaming : Renaming
   renaming = numberingOf (signs (tokens ds lines))
 
+  -- its bytes
   abbrev text : List ℕ
   text = spelled renaming (tokens ds lines)
 
+  -- they are the text of the search
   text-is : text ≡ searchText (decodeSheet sheet t symbols clauses goal) s path units
   unfolding searchText proofText numbered decodeSheet
   text-is = ap (λ (l : List Symbol). spelled (numberingOf l) (tokens ds lines)) (tokens-signs ds lines) ∙ tokens-spelled ds lines (numberingOf (shown lines))
@@ -233,13 +247,16 @@ module _ (sheet t : List ℕ) (symbols nodes clauses goal : ℕ) (table : WellMa
   abbrev counting : List ℕ → Page
   counting out = proofPass sheet t acts (textLimit out) goal units (firstLink m) (page (prepare m) [] freshPen)
 
+  -- it goes through the tokens,
   counting-reached : (out : List ℕ) → Reached sheet t symbols nodes w acts s basis (textLimit out) (limit-low out) (tokens ds lines) (page (prepare m) [] freshPen) (counting out)
   counting-reached out = reach-pass (textLimit out) (limit-low out) (page (prepare m) [] freshPen) (ready .alike) (λ u. refl)
 
+  -- leaves the memory alike,
   counting-alike : (out : List ℕ) → Alike 63 (prepare m) (counting out .memory)
   counting-alike out =
       reach-alike sheet t symbols nodes w acts s basis (textLimit out) (limit-low out) (tokens ds lines) (page (prepare m) [] freshPen) (counting out) (counting-reached out) (ready .alike)
 
+  -- counts the text, and numbers its symbols
   counting-wrote : (out : List ℕ) → Wrote w (s .next) acts renaming 0 (textLimit out) (tokens ds lines) [] (page (prepare m) [] freshPen) (counting out)
   counting-wrote out =
       pass-wrote (textLimit out) 0 (limit-low out) [] (page (prepare m) [] freshPen) (omega arith) (ready .alike) (λ u. refl) (due-first [] (signs (tokens ds lines))) first-numbered
@@ -248,6 +265,7 @@ module _ (sheet t : List ℕ) (symbols nodes clauses goal : ℕ) (table : WellMa
   abbrev writing : List ℕ → Page
   writing out = proofPass sheet t acts (textLimit out) goal units (firstLink m) (page (counting out .memory) out (onAt (counting out .pen) 0))
 
+  -- it writes the text
   writing-bytes : (out : List ℕ) → counting out .pen .at ≤ textLimit out → written (writing out .buffer) (writing out .pen .at) ≡ writeBytes text out (textLimit out) 0
   unfolding onAt
   writing-bytes out h =
@@ -298,6 +316,7 @@ module _ (sheet t : List ℕ) (symbols nodes clauses goal : ℕ) (table : WellMa
           reach-kept sheet t symbols nodes w acts s basis (textLimit out) (limit-low out) (tokens ds lines) g (writing out)
           (reach-pass (textLimit out) (limit-low out) g counted (λ u. counting-alike out .fields u 62 (omega arith) (omega arith))) counted
 
+-- The writer writes the answer text of a proved search.
 pub writes-proof : WritesProof
 writes-proof sheet t symbols nodes clauses goal table named m s path stands o units out =
     proof-told sheet t symbols nodes clauses goal table named m s path stands o units out

@@ -35,6 +35,7 @@ pub record PathLine : Type 0 where
   pub pointer : ℕ
   pub line : ℕ
 
+-- the two together
 abbrev pathLine : ℕ → ℕ → PathLine
 pathLine p k = record { pointer = p; line = k }
 
@@ -43,9 +44,11 @@ unfoldable pub pathLines : ℕ → List ℕ → ℕ → ℕ → List PathLine
 pathLines zero w p k = []
 pathLines (suc n) w p k = elim (eqb p 0) [ true ↦ [] | false ↦ pathLine p k ∷ pathLines n w (field w (p - 1) 39) (field w (p - 1) 40) ]
 
+-- The line itself.
 abbrev pub lineOf : List ℕ → PathLine → Line Leaf
 lineOf w x = lineAt w (x .pointer - 1) (x .line)
 
+-- they are what `pathFrom` reads,
 pub lines-read : (n : ℕ) (w : List ℕ) (p k : ℕ) → pathFrom n w p k ≡ map (lineOf w) (pathLines n w p k)
 unfolding pathFrom pathLines
 lines-read zero w p k = refl
@@ -57,6 +60,7 @@ lines-read (suc n) w p k = go (eqb p 0) (lines-read n w (field w (p - 1) 39) (fi
     go true h = refl
     go false h = ap (lineAt w (p - 1) k ∷_) h
 
+-- and no more than its turns
 pub lines-few : (n : ℕ) (w : List ℕ) (p k : ℕ) → length (pathLines n w p k) ≤ n
 unfolding pathLines
 lines-few zero w p k = omega arith
@@ -78,6 +82,7 @@ module _ (w : List ℕ) (next acts : ℕ) where
   Chain v e [] = e ≡ 0
   Chain v e (x ∷ l) = (e ≡ linkWord (x .pointer) (x .line)) × (1 ≤ x .pointer) × (x .pointer ≤ acts) × LineMade w next (x .pointer - 1) (x .line) × Chain v (field v (x .pointer - 1) 62) l
 
+  -- it depends on the links only
   pub chain-same : (v v′ : List ℕ) → ((u : ℕ) → field v′ u 62 ≡ field v u 62) → (e : ℕ) (l : List PathLine) → Chain v e l → Chain v′ e l
   unfolding Chain
   chain-same v v′ f e [] c = c
@@ -97,6 +102,7 @@ module _ (w : List ℕ) (next acts : ℕ) where
             (chain-put v p a h (field v (x .pointer - 1) 62) l (o .1) (c .4)),
       )
 
+  -- What linking leaves: the chain, in a memory that reads alike.
   record Joined (v : List ℕ) (r : Linked) (l : List PathLine) : Type 0 where
     chain : Chain (r .memory) (r .first) l
     alike : Alike 62 v (r .memory)
@@ -143,6 +149,7 @@ module _ (w : List ℕ) (next acts : ℕ) where
   clear-beyond zero v c h = refl
   clear-beyond (suc n) v c h = clear-beyond n (put v n 63 0) c (omega arith) ∙ record-other v n 63 c 63 0 (omega arith) (omega arith) (λ q. omega arith)
 
+  -- all that were to be
   clear-zero : (n : ℕ) (v : List ℕ) (c : ℕ) → 64 * n ≤ length v → c < n → field (clearConstants n v) c 63 ≡ 0
   unfolding clearConstants
   clear-zero zero v c r h = absurd (omega arith)
@@ -165,6 +172,7 @@ link-cells (suc n) v p k e x = go (eqb p 0) (link-cells n (put v (p - 1) 62 e) (
     go true h = refl
     go false h = h ∙ cell-put v x (p - 1) 62 e (omega arith) (omega arith)
 
+-- nor by clearing
 clear-cells : (n : ℕ) (v : List ℕ) (x : ℕ) → cellOf (clearConstants n v) x ≡ cellOf v x
 unfolding clearConstants
 clear-cells zero v x = refl
@@ -177,6 +185,7 @@ pub record Prepared (w : List ℕ) (next acts : ℕ) (v : List ℕ) (e : ℕ) (l
   pub chain : Chain w next acts v e l
   pub cleared : (c : ℕ) → c < acts → field v c 63 ≡ 0
 
+-- The preparation makes it so.
 pub prepared : (m : Made) (next : ℕ) → 64 * m .registers .acts ≤ length (m .memory) → m .registers .path ≤ m .registers .acts
     → PathMade (m .registers .acts) (m .memory) next (m .registers .path) (m .registers .line)
     → Prepared (m .memory) next (m .registers .acts) (prepare m) (firstLink m) (reverse (pathLines (m .registers .acts) (m .memory) (m .registers .path) (m .registers .line)))
@@ -206,9 +215,11 @@ lineShown w s x = derivationLine (putLine (final s) (lineOf w x))
 
 -- The lines from a link on.
 module _ (sheet t : List ℕ) (symbols nodes : ℕ) (w : List ℕ) (acts : ℕ) (s : Store) (b : Basis t symbols nodes w acts s) (limit : ℕ) (low : limit ≤ 65535) where
+  -- the symbols of the sheet
   abbrev ds : List Declaration
   ds = declarationsFrom sheet t symbols 0
 
+  -- They are written one after the other.
   pub reach-lines : (v : List ℕ) (l : List PathLine) (n : ℕ) → length l ≤ n → (g : Page) (e : ℕ) → Chain w (s .next) acts v e l → Alike 62 w (g .memory)
       → ((u : ℕ) → field (g .memory) u 62 ≡ field v u 62)
       → Reached sheet t symbols nodes w acts s b limit low (tokens ds (map (lineShown w s) l)) g (linesTo sheet t acts limit n g e)

@@ -21,6 +21,7 @@ use Rattle.writing.proofs.Passes.{proof-alike}
 clear1 : List ℕ → ℕ → List ℕ
 clear1 v n = cond (eqb (tagOf (cellOf v n)) 0) (putCell v n 0) v
 
+-- the rest stays
 clear1-alike : (v : List ℕ) (n : ℕ) → There n v → Alike 62 v (clear1 v n)
 unfolding clear1 tagOf
 clear1-alike v n h = go (eqb (tagOf (cellOf v n)) 0) refl
@@ -29,6 +30,7 @@ clear1-alike v n h = go (eqb (tagOf (cellOf v n)) 0) refl
     go true e = alike-mark 62 v n 0 (omega arith) h (eqb-true (tagOf (cellOf v n)) 0 e) refl
     go false e = alike-refl 62 v
 
+-- so do other variables
 clear1-other : (v : List ℕ) (n x : ℕ) → (x ≡ n → ⊥) → cellOf (clear1 v n) x ≡ cellOf v x
 unfolding clear1
 clear1-other v n x d = go (eqb (tagOf (cellOf v n)) 0)
@@ -37,6 +39,7 @@ clear1-other v n x d = go (eqb (tagOf (cellOf v n)) 0)
     go true = cell-other v n 0 x d
     go false = refl
 
+-- and it is 0
 clear1-same : (v : List ℕ) (n : ℕ) → There n v → tagOf (cellOf v n) ≡ 0 → cellOf (clear1 v n) n ≡ 0
 unfolding clear1
 clear1-same v n h e = rw e (cell-same v n 0 h)
@@ -50,11 +53,13 @@ module _ (acts : ℕ) where
       let a = clear1-alike v n (there-from acts n v r (omega arith)) in
       alike-trans 62 v (clear1 v n) _ a (clear-alike n (clear1 v n) (let l = a .long in omega arith) (omega arith))
 
+  -- those from n on stay
   clear-beyond : (n : ℕ) (v : List ℕ) (x : ℕ) → n ≤ x → cellOf (clearVariables n v) x ≡ cellOf v x
   unfolding clearVariables clear1
   clear-beyond zero v x h = refl
   clear-beyond (suc n) v x h = clear-beyond n (clear1 v n) x (omega arith) ∙ clear1-other v n x (λ q. omega arith)
 
+  -- those below are 0
   clear-zero : (n : ℕ) (v : List ℕ) (x : ℕ) → 64 * acts ≤ length v → n ≤ 9 * acts → x < n → tagOf (cellOf v x) ≡ 0 → cellOf (clearVariables n v) x ≡ 0
   unfolding clearVariables clear1
   clear-zero zero v x r h l e = absurd (omega arith)
@@ -71,6 +76,7 @@ module _ (acts : ℕ) where
           ∙ clear1-same v n (there-from acts n v r (omega arith)) (ap (λ (y : ℕ). tagOf (cellOf v y)) (sym p) ∙ e)
       go false q f = let d = eqb-false x n q in f (let l = a .long in omega arith) (omega arith) (omega arith) (a .free x e)
 
+-- All that the search reads is restored.
 pub restores : Restores
 unfolding tagOf
 restores sheet t symbols nodes clauses goal table named m s path stands o units out = record {

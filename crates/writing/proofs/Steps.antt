@@ -31,6 +31,7 @@ mark-at w p x = go (eqb (cellOf w x) 0)
     go true = refl
     go false = refl
 
+-- so it is with a constant
 mark-constant-at : (w : List ℕ) (p : Pen) (c : ℕ) → markConstant w p c .pen .at ≡ p .at
 unfolding markConstant onConstants
 mark-constant-at w p c = go (eqb (field w c 63) 0)
@@ -43,11 +44,13 @@ mark-constant-at w p c = go (eqb (field w c 63) 0)
 symbol-grow : (out : List ℕ) (limit at a c n k : ℕ) → limit ≤ 65535 → a ≡ at → at ≤ writeSymbol out limit a c n k .at
 symbol-grow out limit at a c n k l e = rw (symbol-bytes out limit a c n k) (let r = bytes-grow (c ∷ (decimal n ++ (code "@" ∷ decimal k))) out limit a l in omega arith)
 
-show-grow : (limit : ℕ) (g : Page) (s : Symbol) → limit ≤ 65535 → g .pen .at ≤ showSymbol limit g s .pen .at
+-- of a symbol
+pub show-grow : (limit : ℕ) (g : Page) (s : Symbol) → limit ≤ 65535 → g .pen .at ≤ showSymbol limit g s .pen .at
 unfolding showSymbol showVariable showConstant wrote onAt
 show-grow limit g (leftover x k) l = symbol-grow (g .buffer) limit (g .pen .at) _ _ _ _ l (mark-at (g .memory) (g .pen) x)
 show-grow limit g (made c k) l = symbol-grow (g .buffer) limit (g .pen .at) _ _ _ _ l (mark-constant-at (g .memory) (g .pen) c)
 
+-- of a token
 step-grow : (limit : ℕ) (g : Page) (k : Token) → limit ≤ 65535 → g .pen .at ≤ step limit g k .pen .at
 unfolding step
 step-grow limit g (byte b) l = rw (emitted limit g b) (page-grow limit g (b ∷ []) l)
@@ -57,6 +60,7 @@ step-grow limit g (sign s) l = go (ltb limit (g .pen .at))
     go true = omega arith
     go false = show-grow limit g s l
 
+-- of tokens
 pub steps-grow : (limit : ℕ) (ks : List Token) (g : Page) → limit ≤ 65535 → g .pen .at ≤ steps limit ks g .pen .at
 unfolding steps
 steps-grow limit [] g l = omega arith
@@ -74,6 +78,7 @@ module _ (w : List ℕ) (next acts : ℕ) where
   Right (made c k) = (c < acts) × (k ≡ field w c 22)
 
   module _ (room : 64 * acts ≤ length w) (few : next ≤ 9 * acts) where
+    -- a symbol leaves the memory alike
     show-alike : (limit : ℕ) (g : Page) (s : Symbol) → Right s → Alike 62 w (g .memory) → Alike 63 (g .memory) (showSymbol limit g s .memory)
     unfolding Right showSymbol showVariable showConstant wrote markVariable markConstant tagOf
     show-alike limit g (leftover x k) r a = go (eqb (cellOf (g .memory) x) 0) refl
@@ -91,6 +96,7 @@ module _ (w : List ℕ) (next acts : ℕ) where
         go true = alike-put 63 (g .memory) c 63 (up (g .pen .constants)) (omega arith) (omega arith) (omega arith)
         go false = alike-refl 63 (g .memory)
 
+    -- a token leaves the memory alike
     pub step-alike : (limit : ℕ) (g : Page) (k : Token) → All Right (signs (k ∷ [])) → Alike 62 w (g .memory) → Alike 63 (g .memory) (step limit g k .memory)
     unfolding step signs emitTo wrote
     step-alike limit g (byte b) r a = alike-refl 63 (g .memory)
@@ -100,6 +106,7 @@ module _ (w : List ℕ) (next acts : ℕ) where
         go true = alike-refl 63 (g .memory)
         go false = show-alike limit g s (r .0) a
 
+    -- so do tokens
     pub steps-alike : (limit : ℕ) (ks : List Token) (g : Page) → All Right (signs ks) → Alike 62 w (g .memory) → Alike 63 (g .memory) (steps limit ks g .memory)
     unfolding steps signs step emitTo wrote
     steps-alike limit [] g r a = alike-refl 63 (g .memory)

@@ -59,6 +59,7 @@ declared sheet t (suc c) i zero h = ap (λ (j : ℕ). some (declarationAt sheet 
 declared sheet t (suc c) i (suc f) h =
     declared sheet t c (suc i) f (omega arith) ∙ ap (λ (j : ℕ). some (declarationAt sheet t j)) (let e : suc i + f ≡ i + suc f = omega arith in e)
 
+-- so it is in the table
 pub name-declared : (sheet t : List ℕ) (symbols f : ℕ) → f < symbols → nameOf (declarationsFrom sheet t symbols 0) f ≡ take (nameLength t f) (drop (nameStart t f) sheet)
 unfolding nameOf nameIn declarationAt
 name-declared sheet t symbols f h =
@@ -78,6 +79,7 @@ module _ (sheet t : List ℕ) (symbols nodes : ℕ) (w : List ℕ) (acts : ℕ) 
   abbrev Word : ℕ → Type 0
   Word a = TermWord t w nodes acts a × Leaves (termOf t w a) (Below (s .next))
 
+  -- The symbols of the sheet.
   abbrev pub declarations : List Declaration
   declarations = declarationsFrom sheet t symbols 0
 
@@ -94,12 +96,15 @@ module _ (sheet t : List ℕ) (symbols nodes : ℕ) (w : List ℕ) (acts : ℕ) 
       → writeTerm rank sheet t acts limit g a ≡ steps limit (termTokens (value s (termOf t w a)) declarations) g
 
   module _ (rank : ℕ) (ih : Writes rank) (x : ℕ) (c : Closure t w nodes acts x) (below : Leaves (termOf t w x) (Below (s .next))) where
+    -- the names of a closure
     abbrev environment : ℕ → Term Leaf
     environment = environmentAt w (frameOf x)
 
+    -- the value of its argument j
     abbrev child : ℕ → Ground
     child j = substitute (substitute (termAt t (childOf t (nodeOf x) j)) environment) (final s)
 
+    -- of n arguments from the j-th on
     abbrev children : ℕ → ℕ → Terms Symbol
     children n j = substitutes (substitutes (childrenBy (termAt t) t (nodeOf x) n j) environment) (final s)
 

@@ -43,10 +43,12 @@ use Rattle.writing.proofs.Steps.{Right}
 mutual
   unfolding Leaves symbolsIn
 
+  -- of a term
   pub leaves-show : (t : Ground) (P : Symbol → Type 0) → Leaves t P → All P (symbolsIn t)
   leaves-show (leaf s) P h = (h, tt)
   leaves-show (app f ts) P h = leaves-show-all ts P h
 
+  -- of its arguments
   leaves-show-all : (ts : Terms Symbol) (P : Symbol → Type 0) → LeavesAll ts P → All P (symbolsInAll ts)
   leaves-show-all nil P h = tt
   leaves-show-all (cons t ts) P h = all-append P (symbolsIn t) (symbolsInAll ts) (leaves-show t P (h .0)) (leaves-show-all ts P (h .1))
@@ -76,6 +78,7 @@ bound-below (b ∷ bs) n x h l = go (eqb x (b .name)) (bound-below bs n x (h .1)
     go true k = h .0 .1
     go false k = k
 
+-- the tag of no word
 zero-tag : tagOf 0 ≡ 0
 unfolding tagOf
 zero-tag = refl
@@ -85,15 +88,18 @@ seek-free : (n : ℕ) (w : List ℕ) (a : ℕ) → tagOf a ≡ 1 → tagOf (cell
 unfolding seek
 seek-free n w a e f = rw (seek, e, f)
 
+-- a bound one
 seek-bound : (n : ℕ) (w : List ℕ) (a : ℕ) → tagOf a ≡ 1 → (tagOf (cellOf w (nameOf a)) ≡ 0 → ⊥) → seek (suc n) w a ≡ seek n w (cellOf w (nameOf a))
 unfolding seek
 seek-bound n w a e f = rw (seek, e, ne-eqb (tagOf (cellOf w (nameOf a))) 0 f)
 
+-- another word
 seek-other : (n : ℕ) (w : List ℕ) (a : ℕ) → (tagOf a ≡ 1 → ⊥) → seek (suc n) w a ≡ a
 unfolding seek
 seek-other n w a f = rw (seek, ne-eqb (tagOf a) 1 f)
 
 module _ (t : List ℕ) (nodes : ℕ) (table : Nodes t nodes) (size : nodes ≤ 1024) (w : List ℕ) (acts : ℕ) (few : acts ≤ 50000) (s : Store) where
+  -- A word that reads as a term.
   abbrev Word : ℕ → Type 0
   Word a = TermWord t w nodes acts a
 
@@ -111,15 +117,18 @@ module _ (t : List ℕ) (nodes : ℕ) (table : Nodes t nodes) (size : nodes ≤ 
   unfolding termOf leafOf
   variable-term a e = rw e
 
+  -- a constant
   pub constant-term : (a : ℕ) → tagOf a ≡ 2 → termOf t w a ≡ leaf (con (nameOf a) (field w (nameOf a) 22))
   unfolding termOf leafOf
   constant-term a e = rw e
 
+  -- either
   leaf-term : (a : ℕ) → LeafWord acts a → termOf t w a ≡ leaf (leafOf w a)
   unfolding termOf leafOf
   leaf-term a (variable e) = rw e
   leaf-term a (constant e l) = rw e
 
+  -- its constant was made
   leaf-known : (a : ℕ) → LeafWord acts a → Known (leafOf w a)
   unfolding leafOf Known
   leaf-known a (variable e) = rw e tt
@@ -202,6 +211,7 @@ module _ (t : List ℕ) (nodes : ℕ) (table : Nodes t nodes) (size : nodes ≤ 
       go true e = leaf-known (slotOf w f v) (h v (ltb-true v 8 e))
       go false e = tt
 
+  -- in a word
   pub word-known : (a : ℕ) → Word a → Leaves (termOf t w a) Known
   unfolding Leaves termOf
   word-known a (ofLeaf l) = subst (λ (u : Term Leaf). Leaves u Known) (sym (leaf-term a l)) (leaf-known a l)
@@ -224,10 +234,12 @@ module _ (t : List ℕ) (nodes : ℕ) (table : Nodes t nodes) (size : nodes ≤ 
     unfolding variableOf tagOf
     bound-word x g = ap (λ (b : Bool). cond b (leaf (var x)) (termOf t w (cellOf w x))) (ne-eqb (cellOf w x) 0 (λ z. word-tag (cellOf w x) g (ap tagOf z)))
 
+    -- an unbound one as itself
     free-word : (x : ℕ) → cellOf w x ≡ 0 → variableOf t w x ≡ leaf (var x)
     unfolding variableOf
     free-word x z = rw z
 
+    -- so its word is good
     bound-good : (x : ℕ) → x < s .next → Word (cellOf w x) → Good (cellOf w x)
     bound-good x l g = (g, subst (λ (u : Term Leaf). Leaves u (Below (s .next))) (sym (holds x l) ∙ bound-word x g) (bound-below (s .bindings) (s .next) x (formed .below) l))
 
@@ -240,6 +252,7 @@ module _ (t : List ℕ) (nodes : ℕ) (table : Nodes t nodes) (size : nodes ≤ 
     abbrev Sought : ℕ → ℕ → Type 0
     Sought a b = Good b × (termOf t w b ≡ look (s .bindings) (termOf t w a))
 
+    -- where the word stays
     seek-stays : (n a : ℕ) → Good a → look (s .bindings) (termOf t w a) ≡ termOf t w a → seek n w a ≡ a → Sought a (seek n w a)
     seek-stays n a g h e = subst (Sought a) (sym e) (g, sym h)
 
@@ -253,6 +266,7 @@ module _ (t : List ℕ) (nodes : ℕ) (table : Nodes t nodes) (size : nodes ≤ 
             let q : u ≡ leaf (var x) = sym (cell-some (s .bindings) x u e) ∙ sym (holds x l) ∙ free-word x z in
             absurd (let h = hop (s .bindings) x u (formed .bound) e .1 in let k = ap (hops (s .bindings)) q in omega arith)
 
+    -- one with a word
     bound-look : (x : ℕ) → x < s .next → Word (cellOf w x)
         → (look (s .bindings) (leaf (var x)) ≡ look (s .bindings) (termOf t w (cellOf w x))) × (hops (s .bindings) (leaf (var x)) ≡ suc (hops (s .bindings) (termOf t w (cellOf w x))))
     bound-look x l h = go (cell (s .bindings) x) refl
@@ -270,6 +284,7 @@ module _ (t : List ℕ) (nodes : ℕ) (table : Nodes t nodes) (size : nodes ≤ 
     other-look a (ofLeaf (constant e l)) d = rw (constant-term a e) (look-con (s .bindings) (nameOf a) (field w (nameOf a) 22) .0)
     other-look a (ofClosure c) d = rw (closure-term a c) (look-app (s .bindings) _ _ .0)
 
+    -- the turns
     seek-look : (n a : ℕ) → Good a → hops (s .bindings) (termOf t w a) ≤ n → Sought a (seek n w a)
     unfolding seek
     seek-look zero a g h = seek-stays zero a g (go (g .0)) refl
@@ -316,10 +331,12 @@ module _ (t : List ℕ) (nodes : ℕ) (table : Nodes t nodes) (size : nodes ≤ 
         let u : Unbound (s .bindings) x = ap (look (s .bindings)) (sym h) ∙ look-twice (s .bindings) (termOf t w a) (formed .bound) ∙ h in
         sought-value a g ∙ ap (value s) (variable-term (seek acts w a) e) ∙ value-unbound s x formed u
 
+    -- a constant is itself,
     pub constant-value : (a : ℕ) → Good a → tagOf (seek acts w a) ≡ 2 → value s (termOf t w a) ≡ leaf (made (nameOf (seek acts w a)) (field w (nameOf (seek acts w a)) 22))
     unfolding substitute final at symbolOf
     constant-value a g e = sought-value a g ∙ ap (value s) (constant-term (seek acts w a) e)
 
+    -- and a closure is an application.
     pub closure-value : (a : ℕ) → Good a → (c : Closure t w nodes acts (seek acts w a))
         → value s (termOf t w a) ≡ app (labelOf t (nodeOf (seek acts w a))) (substitutes (substitutes (argumentsAt t (nodeOf (seek acts w a))) (environmentAt w (frameOf (seek acts w a)))) (final s))
     unfolding substitute
@@ -331,6 +348,7 @@ module _ (t : List ℕ) (nodes : ℕ) (table : Nodes t nodes) (size : nodes ≤ 
     cell-known x (inl z) = rw z tt
     cell-known x (inr g) = subst (λ (u : Term Leaf). Leaves u Known) (sym (bound-word x g)) (word-known (cellOf w x) g)
 
+    -- of all that is bound
     bound-known : (x : ℕ) → Leaves (boundTo (s .bindings) x) Known
     unfolding Leaves Known
     bound-known x = go (ltb x (s .next)) refl
@@ -341,6 +359,7 @@ module _ (t : List ℕ) (nodes : ℕ) (table : Nodes t nodes) (size : nodes ≤ 
             subst (λ (u : Term Leaf). Leaves u Known)
             (sym (unbound-alone (s .bindings) x (formed .bound) (unbound-beyond (s .bindings) (s .next) x (ltb-false x (s .next) e) (formed .below)))) tt
 
+    -- so of all symbols of a value
     pub value-right : (a : ℕ) → Good a → Leaves (value s (termOf t w a)) (Right w (s .next) acts)
     unfolding Leaves final at solution symbolOf Right Known substitute Below
     value-right a g =

@@ -17,6 +17,7 @@ pub record Linked : Type 0 where
   pub memory : List ℕ
   pub first : ℕ
 
+-- the two together
 abbrev pub linked : List ℕ → ℕ → Linked
 linked w e = record { memory = w; first = e }
 

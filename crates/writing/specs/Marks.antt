@@ -14,9 +14,11 @@ use Rattle.writing.specs.Output.{Written, writeSymbol}
 unfoldable pub onAt : Pen → ℕ → Pen
 onAt p a = record { at = a; variables = p .variables; constants = p .constants }
 
+-- the number of variables
 unfoldable pub onVariables : Pen → ℕ → Pen
 onVariables p n = record { at = p .at; variables = n; constants = p .constants }
 
+-- the number of constants
 unfoldable pub onConstants : Pen → ℕ → Pen
 onConstants p n = record { at = p .at; variables = p .variables; constants = n }
 
@@ -26,6 +28,7 @@ pub record Page : Type 0 where
   pub buffer : List ℕ
   pub pen : Pen
 
+-- the three together
 abbrev pub page : List ℕ → List ℕ → Pen → Page
 page w out p = record { memory = w; buffer = out; pen = p }
 
@@ -38,6 +41,7 @@ pub record Marked : Type 0 where
   pub memory : List ℕ
   pub pen : Pen
 
+-- the two together
 abbrev pub marked : List ℕ → Pen → Marked
 marked w p = record { memory = w; pen = p }
 
@@ -53,6 +57,7 @@ seek (suc n) w a = elim (eqb (tagOf a) 1) [
 unfoldable pub markVariable : List ℕ → Pen → ℕ → Marked
 markVariable w p x = cond (eqb (cellOf w x) 0) (marked (putCell w x (narrow (4 * up (p .variables)))) (onVariables p (up (p .variables)))) (marked w p)
 
+-- of a constant
 unfoldable pub markConstant : List ℕ → Pen → ℕ → Marked
 markConstant w p c = cond (eqb (field w c 63) 0) (marked (put w c 63 (up (p .constants))) (onConstants p (up (p .constants)))) (marked w p)
 
@@ -62,6 +67,7 @@ showVariable limit g x =
     let m = markVariable (g .memory) (g .pen) x in
     wrote (page (m .memory) (g .buffer) (m .pen)) (writeSymbol (g .buffer) limit (m .pen .at) (code "_") (cellOf (m .memory) x / 4 - 1) (levelOf (m .memory) x))
 
+-- a constant
 unfoldable pub showConstant : ℕ → Page → ℕ → Page
 showConstant limit g c =
     let m = markConstant (g .memory) (g .pen) c in

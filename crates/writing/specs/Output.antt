@@ -13,6 +13,7 @@ pub record Written : Type 0 where
   pub buffer : List ℕ
   pub at : ℕ
 
+-- the two together
 abbrev pub written : List ℕ → ℕ → Written
 written out at = record { buffer = out; at = at }
 
@@ -49,6 +50,7 @@ writeDigits (suc f) out limit at n =
           emit (s .buffer) limit (s .at) (code "0" + n % 10)
     ]
 
+-- A number in base ten.
 unfoldable pub writeNumber : List ℕ → ℕ → ℕ → ℕ → Written
 writeNumber out limit at n = writeDigits (suc n) out limit at n
 

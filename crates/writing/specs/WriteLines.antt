@@ -10,9 +10,11 @@ use Rattle.writing.specs.Output.{writeBytes, writeNumber}
 use Rattle.writing.specs.Marks.{Page, wrote}
 use Rattle.writing.specs.WriteTerms.{emitTo, termTo}
 
+-- Bytes on a page.
 unfoldable pub bytesTo : ℕ → Page → List ℕ → Page
 bytesTo limit g bs = wrote g (writeBytes bs (g .buffer) limit (g .pen .at))
 
+-- A number on a page.
 unfoldable pub numberTo : ℕ → Page → ℕ → Page
 numberTo limit g n = wrote g (writeNumber (g .buffer) limit (g .pen .at) n)
 

@@ -11,6 +11,7 @@ use Rattle.machine.specs.Words.{up, tagOf, nameOf, nodeOf, frameOf, wordOf}
 use Rattle.writing.specs.Output.{emit, copyBytes}
 use Rattle.writing.specs.Marks.{Page, wrote, seek, showVariable, showConstant}
 
+-- A byte on a page.
 unfoldable pub emitTo : ℕ → Page → ℕ → Page
 emitTo limit g b = wrote g (emit (g .buffer) limit (g .pen .at) b)
 
@@ -29,6 +30,7 @@ argumentsBy write t limit (suc c) n f j g =
     let s = emitTo limit g (separator j) in
     argumentsBy write t limit c n f (suc j) (write s (wordOf t (s .memory) (childOf t n j) f))
 
+-- An application: its name, then its arguments, if there are any.
 unfoldable pub applicationBy : (Page → ℕ → Page) → List ℕ → List ℕ → ℕ → Page → ℕ → ℕ → Page
 applicationBy write sheet t limit g n f =
     let s = writeName sheet t limit g (labelOf t n) in

@@ -36,6 +36,7 @@ proofPass sheet t turns limit goal units e g =
 unfoldable pub prepare : Made → List ℕ
 prepare m = clearConstants (m .registers .acts) (linkPath (m .registers .acts) (m .memory) (m .registers .path) (m .registers .line) 0 .memory)
 
+-- The link to the first line.
 unfoldable pub firstLink : Made → ℕ
 firstLink m = linkPath (m .registers .acts) (m .memory) (m .registers .path) (m .registers .line) 0 .first
 
@@ -45,6 +46,7 @@ pub record Answered : Type 0 where
   pub buffer : List ℕ
   pub length : ℕ
 
+-- the three together
 abbrev pub answered : List ℕ → List ℕ → ℕ → Answered
 answered w out n = record { memory = w; buffer = out; length = n }
 
@@ -54,6 +56,7 @@ writePass sheet t turns limit goal units e g out =
     let s = proofPass sheet t turns limit goal units e (page (g .memory) out (onAt (g .pen) 0)) in
     answered (s .memory) (s .buffer) (s .pen .at)
 
+-- Both passes.
 unfoldable pub writeProof : List ℕ → List ℕ → ℕ → Made → ℕ → List ℕ → Answered
 writeProof sheet t goal m units out =
     let g = proofPass sheet t (m .registers .acts) (textLimit out) goal units (firstLink m) (page (prepare m) [] freshPen) in
@@ -69,12 +72,15 @@ shortPass bs units out limit =
     let n = writeNumber (s .buffer) limit (s .at) units in
     emit (n .buffer) limit (n .at) lf
 
+-- Counted, and then written if it fits.
 unfoldable pub writeShort : List ℕ → ℕ → List ℕ → Written
 writeShort bs units out =
     elim (ltb (textLimit out) (shortPass bs units [] (textLimit out) .at)) [ true ↦ written out noRoom | false ↦ shortPass bs units out (textLimit out) ]
 
+-- no
 unfoldable pub writeNo : ℕ → List ℕ → Written
 writeNo units out = writeShort (ascii "R\tno\t") units out
 
+-- spent
 unfoldable pub writeSpent : ℕ → List ℕ → Written
 writeSpent budget out = writeShort (ascii "R\tspent\t") budget out

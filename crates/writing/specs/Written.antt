@@ -39,6 +39,7 @@ pub record Closure (t w : List ℕ) (nodes acts a : ℕ) : Type 0 where
   pub frame : frameOf a ≤ acts
   pub slots : (v : ℕ) → v < 8 → LeafWord acts (slotOf w (frameOf a) v)
 
+-- A word of a term.
 pub data TermWord (t w : List ℕ) (nodes acts a : ℕ) : Type 0 where
   ofLeaf : LeafWord acts a → TermWord t w nodes acts a
   ofClosure : Closure t w nodes acts a → TermWord t w nodes acts a
@@ -54,6 +55,7 @@ unfoldable pub PathMade : ℕ → List ℕ → ℕ → ℕ → ℕ → Type 0
 PathMade zero w next p k = p ≡ 0
 PathMade (suc n) w next p k = (p ≡ 0) ⊎ ((1 ≤ p) × LineMade w next (p - 1) k × (field w (p - 1) 39 < p) × PathMade n w next (field w (p - 1) 39) (field w (p - 1) 40))
 
+-- The memory as a whole.
 pub record Orderly (t : List ℕ) (nodes : ℕ) (m : Made) (s : Store) : Type 0 where
   -- the demanded part of the work buffer, and in it the variables made
   pub few : m .registers .acts ≤ 50000
@@ -76,6 +78,7 @@ Named t nodes symbols = (n : ℕ) → n < nodes → IsTerm t n → kindOf t n �
 unfoldable pub told : List ℕ → List ℕ → Written
 told text out = cond (leb (length text) (textLimit out)) (written (text ++ drop (length text) out) (length text)) (written out noRoom)
 
+-- The answer text is written if it fits, and otherwise no byte.
 abbrev pub WritesProof : Type 0
 WritesProof = (sheet t : List ℕ) (symbols nodes clauses goal : ℕ) → WellMade t nodes clauses goal → Named t nodes symbols
     → (m : Made) (s : Store) (path : List (Line Leaf)) → StandsAt t m 4 s path → Orderly t nodes m s → (units : ℕ) (out : List ℕ)
@@ -90,9 +93,11 @@ WritesAnswer = (sheet t : List ℕ) (symbols nodes clauses goal : ℕ) → WellM
     → written (writeProof sheet t goal (runMachine budget t clauses goal w) n out .buffer) (writeProof sheet t goal (runMachine budget t clauses goal w) n out .length)
     ≡ told (searchText (decodeSheet sheet t symbols clauses goal) s path n) out
 
+-- So are the text of no
 abbrev pub WritesNo : Type 0
 WritesNo = (units : ℕ) (out : List ℕ) → writeNo units out ≡ told (noText units) out
 
+-- and the text of spent.
 abbrev pub WritesSpent : Type 0
 WritesSpent = (budget : ℕ) (out : List ℕ) → writeSpent budget out ≡ told (spentText budget) out
 
@@ -103,6 +108,7 @@ pub record Restored (w w′ : List ℕ) (next : ℕ) : Type 0 where
   pub levels : (x : ℕ) → levelOf w′ x ≡ levelOf w x
   pub cells : (x : ℕ) → x < next → cellOf w′ x ≡ cellOf w x
 
+-- It is so after the writer.
 abbrev pub Restores : Type 0
 Restores = (sheet t : List ℕ) (symbols nodes clauses goal : ℕ) → WellMade t nodes clauses goal → Named t nodes symbols
     → (m : Made) (s : Store) (path : List (Line Leaf)) → StandsAt t m 4 s path → Orderly t nodes m s → (units : ℕ) (out : List ℕ)

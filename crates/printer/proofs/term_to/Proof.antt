@@ -1,0 +1,23 @@
+use Rattle.printer.proofs.Laws.{term-ranked}
+use borrow.Author.Needs.{needs}
+use Rattle.printer.proofs.term_to.Statement.{statement}
+use Rattle.printer.proofs.term_to.Tie as tie
+
+up-requires : tie.Need-up-requires
+up-requires c κs = search needs
+
+write-term-requires : tie.Need-write-term-requires
+write-term-requires c κs = search needs
+
+same-length : tie.Need-same-length
+same-length c = search needs
+
+same-length-2 : tie.Need-same-length-2
+same-length-2 c = search needs
+
+returns : tie.Need-returns
+returns c = term-ranked _ _ _ _ _ _ _ _ _ _ (c .before .before .before .before .before .before .before .up .ensures) (c .before .before .before .before .write-term .ensures)
+
+pub term-to-spec : {M : Type 1} → statement M
+term-to-spec =
+    tie.close (tie.spec up-requires write-term-requires same-length same-length-2 returns)
