@@ -1,4 +1,4 @@
--- T6 and T5 of the checker: what it says where it turns nothing back, and that it accepts what the engine wrote.
+-- T6 of the checker: what it says where it turns nothing back.
 use Prim.Native.Nat.{ℕ, suc, _≤_}
 use mathlib.Core.Path.{_≡_, refl, sym, _∙_, ap, subst}
 use mathlib.Core.Bool.{Bool, true, false}
@@ -12,11 +12,8 @@ use Rattle.sheets.specs.Limits.{maxSheetBytes, tableNumbers, maxTextBytes}
 use Rattle.sheets.specs.Sheets.{Sheet, Refusal, refusal, Read, sheet, refused, readSheet}
 use Rattle.texts.specs.Judging.{Judgement, valid, invalid, judge}
 use Rattle.texts.specs.Promises.{CheckerExact}
-use Rattle.engine.specs.EngineRun.{demanded, toldProved, Answer, answered, engineRun}
-use Rattle.engine.specs.Promises.{RunSound}
-use Rattle.engine.proofs.Answered.{answered-answers}
 use Rattle.checker.specs.CheckText.{Checked, judged, turnedBack, countLf, checkSheet, turnBackIf, checkText}
-use Rattle.checker.specs.Promises.{CheckExact, AllExact, AcceptsWritten}
+use Rattle.checker.specs.Promises.{CheckExact, AllExact}
 
 -- a refusal is no judgement
 refused-judged : (r : Refusal) (j : Judgement) → turnedBack r ≡ judged j → ⊥
@@ -48,24 +45,3 @@ all-exact exact bytes text t w j e =
       accepts = ((λ h. x .accepts .0 (r .2 ∙ h)), (λ h. sym (r .2) ∙ x .accepts .1 h));
       breaks = λ n. ((λ h. x .breaks n .0 (r .2 ∙ h)), (λ h. sym (r .2) ∙ x .breaks n .1 h));
     }
-
--- T5
-pub accepts-written : CheckerExact → RunSound → AcceptsWritten
-unfolding checkText turnBackIf checkSheet
-accepts-written exact sound bytes budget t w a x e h t′ w′ =
-    let r = answered-answers bytes budget t w a x e in
-    let q = sound bytes budget t w a x e h in
-    let j : judge (q .0) (x .text) ≡ valid = exact bytes (q .0) (q .1) (x .text) .accepts .1 (q .2) in
-    rw (le-ltb maxSheetBytes (length bytes) (r .passed .sheetFits), le-ltb maxTextBytes (length (x .text)) (r .textFits), q .1, j)
-    (table (ltb t′ tableNumbers))
-  where
-    Ends : Checked → Type 0
-    Ends c = (c ≡ judged valid) ⊎ ((r : Refusal) × (c ≡ turnedBack r) × ((r .number ≡ 2) ⊎ (r .number ≡ 5)))
-
-    work : (b : Bool) → Ends (turnBackIf b 5 (judged valid))
-    work true = inr (refusal 5 0, refl, inr refl)
-    work false = inl refl
-
-    table : (b : Bool) → Ends (turnBackIf b 2 (turnBackIf (ltb w′ (demanded (countLf (x .text)))) 5 (judged valid)))
-    table true = inr (refusal 2 0, refl, inl refl)
-    table false = work (ltb w′ (demanded (countLf (x .text))))

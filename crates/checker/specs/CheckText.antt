@@ -6,10 +6,10 @@ use mathlib.Core.List.{List, [], _∷_}
 use lib.Dec.{eqb, leb, ltb}
 use lib.ListN.{length}
 use Rattle.sheets.specs.Limits.{maxSheetBytes, tableNumbers, maxTextBytes}
+use Rattle.sheets.specs.Buffers.{demanded, zeroed}
 use Rattle.sheets.specs.Bytes.{lf}
 use Rattle.sheets.specs.Sheets.{Sheet, Refusal, refusal, Read, sheet, refused, readSheet}
 use Rattle.texts.specs.Judging.{Judgement, judge}
-use Rattle.engine.specs.EngineRun.{demanded, zeroed}
 
 pub data Checked : Type 0 where
   judged : Judgement → Checked

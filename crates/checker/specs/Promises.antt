@@ -1,4 +1,4 @@
--- Promises T1, T5 and T6 about the checker (demands 1 and 2).
+-- Promises T1 and T6 about the checker (demands 1 and 2).
 use Prim.Native.Nat.{ℕ, suc, _≤_, _*_}
 use mathlib.Core.Path.{_≡_}
 use mathlib.Core.List.{List}
@@ -7,7 +7,6 @@ use lib.ListN.{length}
 use Rattle.sheets.specs.Sheets.{Sheet, Refusal, Read, sheet, readSheet}
 use Rattle.texts.specs.Spelled.{SpellsDerivation, BreaksAfter}
 use Rattle.texts.specs.Judging.{Judgement, valid, invalid}
-use Rattle.engine.specs.EngineRun.{Told, toldProved, Answer, answered, engineRun}
 use Rattle.checker.specs.CheckText.{Checked, judged, turnedBack, checkText, tableAfter, workAfter}
 
 -- What the checker hands back, in numbers: 0 valid, 1 not valid, 3 refused; the line that breaks or that is refused, 0 where there
@@ -37,10 +36,3 @@ pub record CheckExact (bytes text : List ℕ) (t w : ℕ) (j : Judgement) : Type
 
 abbrev pub AllExact : Type 0
 AllExact = (bytes text : List ℕ) (t w : ℕ) (j : Judgement) → checkText bytes text t w ≡ judged j → CheckExact bytes text t w j
-
--- T5: it "accepts every derivation written": what the engine told as proved is valid, with any buffers that the checker does not
--- turn back. Only refusals 2 and 5 can arise.
-abbrev pub AcceptsWritten : Type 0
-AcceptsWritten = (bytes : List ℕ) (budget t w a : ℕ) (x : Answer) → engineRun bytes budget t w a ≡ answered x → x .outcome ≡ toldProved
-    → (t′ w′ : ℕ) → (checkText bytes (x .text) t′ w′ ≡ judged valid)
-    ⊎ ((r : Refusal) × (checkText bytes (x .text) t′ w′ ≡ turnedBack r) × ((r .number ≡ 2) ⊎ (r .number ≡ 5)))

@@ -11,7 +11,8 @@ use borrow.Author.Tests.{ltb-true, ltb-false, eqb-false, lt-ltb, le-ltb, eq-eqb,
 use Rattle.search.specs.Search.{Outcome, search}
 use Rattle.sheets.specs.Limits.{maxSheetBytes, tableNumbers, maxBudget, maxTextBytes}
 use Rattle.sheets.specs.Sheets.{Sheet, Refusal, refusal, Read, sheet, refused, readSheet}
-use Rattle.engine.specs.EngineRun.{Answer, Result, answered, turnedBack, answerTo, fit, runSheet, demanded, turnBackIf, engineRun}
+use Rattle.sheets.specs.Buffers.{demanded}
+use Rattle.engine.specs.EngineRun.{Answer, Result, answered, turnedBack, answerTo, fit, runSheet, turnBackIf, engineRun}
 
 -- the tests of refusals 1, 2, 3 and 5 all fail
 pub record Passed (bytes : List ℕ) (budget t w : ℕ) : Type 0 where

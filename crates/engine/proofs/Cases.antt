@@ -5,7 +5,8 @@ use mathlib.Core.List.{List, [], _∷_}
 use lib.ListN.{replicate}
 use Rattle.sheets.specs.Bytes.{ascii}
 use Rattle.sheets.specs.Sheets.{refusal}
-use Rattle.engine.specs.EngineRun.{Result, turnedBack, answered, Told, toldProved, isEarly, zeroed, demanded, workAfter, answerAfter}
+use Rattle.sheets.specs.Buffers.{zeroed, demanded}
+use Rattle.engine.specs.EngineRun.{Result, turnedBack, answered, Told, toldProved, isEarly, workAfter, answerAfter}
 use Rattle.engine.proofs.Computing.{computeRun}
 
 abbrev strobe : List ℕ

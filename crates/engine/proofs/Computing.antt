@@ -9,7 +9,8 @@ use Rattle.sheets.proofs.Computing.{computeSheet}
 use Rattle.texts.specs.Spelling.{noText, spentText}
 use Rattle.texts.specs.Promises.{searchText}
 use Rattle.texts.proofs.Computing.{computeText}
-use Rattle.engine.specs.EngineRun.{Result, answerTo, fit, runSheet, demanded, turnBackIf, engineRun}
+use Rattle.sheets.specs.Buffers.{demanded}
+use Rattle.engine.specs.EngineRun.{Result, answerTo, fit, runSheet, turnBackIf, engineRun}
 
 unfoldable pub computeRun : List ℕ → ℕ → ℕ → ℕ → ℕ → Result
 unfolding engineRun turnBackIf runSheet fit answerTo demanded searchText noText spentText finalLines finalEnvironment final symbolOf solution solved solve1 onlyAt at boundTo

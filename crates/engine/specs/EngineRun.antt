@@ -1,12 +1,13 @@
 -- Document 01, "Turned back, in checking order", for the engine: refusals 1, 2, 3, 5, 6 to 11, 12, or the answer; and the final
 -- contents of each lent buffer. A function of the sheet's bytes, the budget and the lengths of the lent buffers.
-use Prim.Native.Nat.{ℕ, zero, suc, _*_}
+use Prim.Native.Nat.{ℕ, zero, suc}
 use mathlib.Core.Bool.{Bool, true, false, _||_, cond}
 use mathlib.Core.List.{List, [], _∷_, _++_}
 use lib.Dec.{eqb, leb, ltb}
-use lib.ListN.{length, drop, replicate}
+use lib.ListN.{length, drop}
 use Rattle.search.specs.Search.{Outcome, ends, spent, proved, noProof, search}
-use Rattle.sheets.specs.Limits.{maxSheetBytes, tableNumbers, maxBudget, numbersPerUnit, maxTextBytes}
+use Rattle.sheets.specs.Limits.{maxSheetBytes, tableNumbers, maxBudget, maxTextBytes}
+use Rattle.sheets.specs.Buffers.{demanded, zeroed}
 use Rattle.sheets.specs.Sheets.{Sheet, Refusal, refusal, Read, sheet, refused, readSheet}
 use Rattle.texts.specs.Spelling.{noText, spentText}
 use Rattle.texts.specs.Promises.{searchText}
@@ -40,10 +41,6 @@ unfoldable pub runSheet : ℕ → ℕ → Read → Result
 runSheet budget answerLength (refused r) = turnedBack r
 runSheet budget answerLength (sheet s) = fit answerLength (answerTo s budget (search budget (s .clauses) (s .goal)))
 
--- "The work buffer holds under 64 numbers for each unit of budget": the demanded part.
-unfoldable pub demanded : ℕ → ℕ
-demanded units = numbersPerUnit * units
-
 -- Refused with this number and line 0, if the test says so.
 unfoldable pub turnBackIf : Bool → ℕ → Result → Result
 turnBackIf true n r = turnedBack (refusal n 0)
@@ -63,9 +60,6 @@ engineRun bytes budget tableLength workLength answerLength =
 unfoldable pub isEarly : Result → Bool
 isEarly (answered a) = false
 isEarly (turnedBack r) = leb (r .number) 5
-
-unfoldable pub zeroed : ℕ → List ℕ → List ℕ
-zeroed n l = replicate n 0 ++ drop n l
 
 unfoldable pub tableAfter : Result → List ℕ → List ℕ
 tableAfter r table = cond (isEarly r) table (zeroed tableNumbers table)

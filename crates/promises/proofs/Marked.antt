@@ -2,8 +2,8 @@
 use mathlib.Core.Path.{refl}
 use Rattle.texts.proofs.Computing.{computeJudgement}
 use Rattle.engine.proofs.Computing.{computeRun}
 use Rattle.checker.specs.CheckText.{countLf, checkSheet, turnBackIf, checkText}
-use Rattle.checker.specs.Marked.{marked, MarkedCases, AcceptsResult, AcceptsAnswer}
+use Rattle.promises.specs.Marked.{marked, MarkedCases, AcceptsResult, AcceptsAnswer}
 
 pub markedCases : MarkedCases
 unfolding computeRun computeJudgement countLf checkSheet turnBackIf checkText marked AcceptsResult AcceptsAnswer

@@ -1,0 +1,3 @@
+-- What engine and checker promise together. Neither uses the other.
+pub mod Accepted
+pub mod Marked

@@ -1,0 +1,1 @@
+// What engine and checker promise together, see specs/ and proofs/.
