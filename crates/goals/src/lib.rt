@@ -1,11 +1,9 @@
 // Taking goals on the lent work buffer and the registers. Each function is a definition of the crate machine, and its contract
 // says so.
 use cells::constant_word;
-use cells::copy_frame;
 use cells::field;
 use cells::put_assumption;
 use cells::put_field;
-use cells::put_fresh;
 use cells::put_goal;
 use cells::put_path;
 use cells::put_slot;
@@ -23,6 +21,8 @@ use registers::save_choice;
 use tables::child;
 use tables::kind;
 use tables::label;
+use trail::copy_frame;
+use trail::put_fresh;
 ghost use mathlib.Core.Path.{_≡_};
 ghost use Rattle.machine.specs.Records.{made};
 ghost use Rattle.machine.specs.Goals.{dueGoal, proceed, membersLeft, tryFrom, takeAtom, takeTrue, takeAnd, rightBranch, takeOr, takeImplies, takeExists, putConstant, takeForall, takeGoal};

@@ -1,6 +1,5 @@
 // Matching in the lent work buffer: comparing a pair of arguments, looking at one node in a range check. Each function is a
 // definition of the crate machine, and its contract says so.
-use cells::effect;
 use cells::field;
 use cells::frame_of;
 use cells::level_of;
@@ -26,6 +25,7 @@ use registers::on_trail;
 use tables::child;
 use tables::child_count;
 use tables::label;
+use trail::effect;
 ghost use mathlib.Core.Path.{_≡_};
 ghost use Prim.Native.Nat.{_+_, min};
 ghost use Rattle.machine.specs.Records.{field, made};

@@ -21,10 +21,10 @@ use Rattle.making.specs.declared.Taken.{Taken}
 use Rattle.making.specs.declared.Taken.the-variants.{Next, Stop, Last}
 use Rattle.making.specs.Making.{made, counts}
 use Rattle.standing.specs.Standing.{nodesFrom, tableOf, Stands, Agrees, Follows}
-use Rattle.standing.proofs.Lines.{stands-empty, well-made}
+use Rattle.standing.proofs.Lines.{stands-empty, well-made, all-named}
 use Rattle.reader.specs.declared.Read.{Read}
 use Rattle.reader.specs.declared.Read.the-variants.{Done}
-use Rattle.reader.specs.Reader.{readOf, WellRead, nodesIn, nodeCount, goalOr, goalNamed, Counted, ReadContract, lineEnd, lineTaken, refusedRead, finished}
+use Rattle.reader.specs.Reader.{readOf, WellRead, NamedRead, nodesIn, nodeCount, goalOr, goalNamed, Counted, ReadContract, lineEnd, lineTaken, refusedRead, finished}
 use Rattle.reader.proofs.Lines.{linesOf-lf, linesOf-other, line-at, open-at, end-within}
 use Rattle.reader.proofs.Steps.{between, next-adds, line-follows, EndsAt, line-last}
 
@@ -194,7 +194,7 @@ module _ (bytes t₀ t t′ : List ℕ) (k : Counts) (at line end : ℕ) (x : Ta
 
   -- it is refused
   pub reading-stops : (number : ℕ) (r : Read) → x ≡ Stop number → r ≡ refusedRead number line → ReadContract bytes t₀ t′ r
-  unfolding Agrees afterLine readOf WellRead Counted
+  unfolding Agrees afterLine readOf WellRead NamedRead Counted
   reading-stops number r q z =
       let a = subst (λ (y : Taken). Agrees bytes t′ k y (sheetLine (tableOf bytes t k) (parseLine (between bytes at end)))) q (follows .agrees) in
       rw z (record {
@@ -203,11 +203,12 @@ module _ (bytes t₀ t t′ : List ℕ) (k : Counts) (at line end : ℕ) (x : Ta
         counted = tt;
         long = follows .long ∙ h .long;
         rest = follows .rest ∙ h .rest;
+        named = tt;
       })
 
   -- it is the Q line
   pub reading-ends : (goal : ℕ) (r : Read) → x ≡ Last goal → r ≡ finished bytes k goal (end + 1) (line + 1) → ReadContract bytes t₀ t′ r
-  unfolding finished Agrees afterLine readOf WellRead Counted decodeSheet tableOf nodesIn nodeCount goalOr linesOf
+  unfolding finished Agrees afterLine readOf WellRead NamedRead Counted decodeSheet tableOf nodesIn nodeCount goalOr linesOf
   reading-ends goal r q z = rw (z, here .same) (ended (ltb (end + 1) (length bytes)) refl)
     where
       here : EndsAt bytes t k (h .stands) at end (ends .0) (ends .1) t′ goal (parseLine (between bytes at end))
@@ -239,6 +240,7 @@ module _ (bytes t₀ t t′ : List ℕ) (k : Counts) (at line end : ℕ) (x : Ta
         counted = tt;
         long = h .long;
         rest = h .rest;
+        named = tt;
       }
       ended false e = record {
         read = ahead-goal ∙ after-none bytes (end + 1) (suc line) _ (ltb-false (end + 1) (length bytes) e);
@@ -246,13 +248,14 @@ module _ (bytes t₀ t t′ : List ℕ) (k : Counts) (at line end : ℕ) (x : Ta
         counted = (nodes-end (ltb-false (end + 1) (length bytes) e), goal-end);
         long = h .long;
         rest = h .rest;
+        named = all-named bytes t k (h .stands);
       }
 
 module _ (bytes t₀ t : List ℕ) (k : Counts) (at line : ℕ) (r : Read) (h : Reading bytes t₀ t k at line) where
   -- a refusal that leaves the table
   refuses : (number : ℕ) → readOn (drop at bytes) line (tableOf bytes t k) ≡ refused (refusal number line) → r ≡ refusedRead number line → ReadContract bytes t₀ t r
-  unfolding readOf WellRead Counted
-  refuses number e z = rw z (record { read = h .ahead ∙ e; wellMade = tt; counted = tt; long = h .long; rest = h .rest })
+  unfolding readOf WellRead NamedRead Counted
+  refuses number e z = rw z (record { read = h .ahead ∙ e; wellMade = tt; counted = tt; long = h .long; rest = h .rest; named = tt })
 
   -- a line without LF
   pub reading-open : (end : ℕ) → at < length bytes → end ≡ lineEnd bytes at → end ≡ length bytes → r ≡ refusedRead 6 line → ReadContract bytes t₀ t r

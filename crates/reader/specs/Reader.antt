@@ -17,7 +17,7 @@ use Rattle.lines.specs.declared.Line.{Line}
 use Rattle.lines.specs.declared.Line.the-variants.{Declare, Node, Clause, Goal, Malformed}
 use Rattle.lines.specs.Lines.{lineAnswer}
 use Rattle.tables.specs.Decoding.{decodeSheet}
-use Rattle.tables.specs.WellMade.{WellMade}
+use Rattle.tables.specs.WellMade.{WellMade, Named}
 use Rattle.making.specs.declared.Counts.{Counts}
 use Rattle.making.specs.declared.Taken.the-variants.{Stop}
 use Rattle.making.specs.Making.{Made, made, takeVariable, takeTrue, takeAnd, takeOr, takeImplies, takeExists, takeForall, takeClause, takeGoal}
@@ -36,6 +36,11 @@ readOf bytes t (Refused f) = refused (refusal (f .number) (f .line))
 unfoldable pub WellRead : List ℕ → Read → Type 0
 WellRead t (Done k goal) = WellMade t (k .nodes) (k .clauses) goal
 WellRead t (Refused f) = Unit {0}
+
+-- Its applications name symbols that are declared.
+unfoldable pub NamedRead : List ℕ → Read → Type 0
+NamedRead t (Done k goal) = Named t (k .nodes) (k .symbols)
+NamedRead t (Refused f) = Unit {0}
 
 -- How many nodes a line makes, and the lines together.
 unfoldable pub nodesIn : Option SheetLine → ℕ
@@ -73,6 +78,7 @@ pub record ReadContract (bytes t t′ : List ℕ) (r : Read) : Type 0 where
   pub counted : Counted bytes r
   pub long : length t′ ≡ length t
   pub rest : drop tableNumbers t′ ≡ drop tableNumbers t
+  pub named : NamedRead t′ r
 
 -- Lines
 

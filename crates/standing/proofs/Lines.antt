@@ -15,7 +15,7 @@ use Rattle.sheets.specs.Sheets.{Table, stop, takeNode, takeLine}
 use Rattle.sheets.specs.Sheets.{Taken as SheetTaken}
 use Rattle.sheets.specs.Sheets.{addNode as sheetAddNode}
 use Rattle.tables.specs.Decoding.{goalAt, declarationAt, declarationsFrom, clausesFrom, decodeSheet}
-use Rattle.tables.specs.WellMade.{IsGoal, WellMade}
+use Rattle.tables.specs.WellMade.{IsGoal, WellMade, Named}
 use Rattle.making.specs.declared.Counts.{Counts}
 use Rattle.making.specs.declared.Taken.the-variants.{Stop}
 use Rattle.making.specs.Making.{Made, made, counts, nodeRecord, addNode, addOne, addTwo, andInfo, orInfo, impliesInfo, existsInfo, forallInfo, takeVariable, takeTrue, takeAnd, takeOr, takeImplies, takeExists, takeForall, takeClause, takeGoal}
@@ -189,6 +189,9 @@ well-made bytes t k goal st l i =
       goal-there = l;
       goal-is = i;
     }
+
+pub all-named : (bytes t : List ℕ) (k : Counts) → Stands bytes t k → Named t (k .nodes) (k .symbols)
+all-named bytes t k st n l i e = st .named n l (omega arith) (omega arith)
 
 pub sheet-made : (bytes t : List ℕ) (k : Counts) (goal : ℕ)
     → decodeSheet bytes t (k .symbols) (k .clauses) goal ≡ record { symbols = tableOf bytes t k .symbols; clauses = tableOf bytes t k .clauses; goal = goalAt t goal }

@@ -69,3 +69,7 @@ pub record WellMade (t : List ℕ) (nodes clauses goal : ℕ) : Type 0 where
   pub clause : (i : ℕ) → i < clauses → (clauseNode t i < nodes) × IsClause t (clauseNode t i)
   pub goal-there : goal < nodes
   pub goal-is : IsGoal t goal
+
+-- The applications of a table name symbols that are declared.
+abbrev pub Named : List ℕ → ℕ → ℕ → Type 0
+Named t nodes symbols = (n : ℕ) → n < nodes → IsTerm t n → kindOf t n ≡ 1 → labelOf t n < symbols

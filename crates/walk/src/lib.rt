@@ -1,20 +1,17 @@
 // The walk in the lent work buffer: trying a member, one act, and at most so many acts. Each function is a definition of the
 // crate machine, and its contract says so.
-use cells::copy_frame;
 use cells::field;
-use cells::find_member;
-use cells::head_of;
 use cells::narrow;
-use cells::put_fresh;
 use cells::put_goal;
 use cells::put_pairs;
 use cells::put_path;
 use cells::put_use;
-use cells::put_variables;
 use cells::up;
 use goals::members_left;
 use goals::take_goal;
 use goals::try_from;
+use lookup::find_member;
+use lookup::head_of;
 use machine::Found;
 use machine::Registers;
 use matching::check_node;
@@ -34,6 +31,9 @@ use tables::clause_node;
 use tables::kind;
 use tables::label;
 use tables::members;
+use trail::copy_frame;
+use trail::put_fresh;
+use trail::put_variables;
 ghost use mathlib.Core.Path.{_≡_};
 ghost use mathlib.Core.Bool.{cond};
 ghost use lib.Dec.{eqb};

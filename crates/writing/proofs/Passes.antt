@@ -18,7 +18,7 @@ use Rattle.sheets.specs.Bytes.{ascii, lf, decimal}
 use Rattle.sheets.specs.Nodes.{Declaration}
 use Rattle.tables.specs.Layout.{maskOf}
 use Rattle.tables.specs.Decoding.{declarationsFrom, goalAt, decodeSheet}
-use Rattle.tables.specs.WellMade.{WellMade}
+use Rattle.tables.specs.WellMade.{WellMade, Named}
 use Rattle.tables.proofs.Decoding.{nodes-of}
 use Rattle.texts.specs.TextLines.{TextLine, bindingLine, derivationLine, answerLines}
 use Rattle.texts.specs.Numbering.{madeOnly, leftoverOnly, firsts, shown, numberingOf, numbered}
@@ -32,7 +32,7 @@ use Rattle.writing.specs.Output.{Written, written, emit, writeBytes}
 use Rattle.writing.specs.Marks.{onAt, Page, page}
 use Rattle.writing.specs.WriteLines.{resultTo, bindingsTo}
 use Rattle.writing.specs.Writer.{textLimit, noRoom, freshPen, proofPass, prepare, firstLink, Answered, answered, writePass, writeProof, shortPass, writeShort, writeNo, writeSpent}
-use Rattle.writing.specs.Written.{Orderly, Named, told, WritesProof, WritesNo, WritesSpent}
+use Rattle.writing.specs.Written.{Orderly, told, WritesProof, WritesNo, WritesSpent}
 use Rattle.writing.proofs.Bytes.{bytes-end, bytes-fit, bytes-append, number-bytes}
 use Rattle.writing.proofs.Tokens.{byte, textTokens, tokens, tokens-append, signs, tokens-signs, spelled, tokens-spelled}
 use Rattle.writing.proofs.Alike.{Alike, alike-trans, alike-fewer}

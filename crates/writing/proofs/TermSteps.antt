@@ -19,6 +19,7 @@ use Rattle.search.specs.Answers.{final}
 use Rattle.sheets.specs.Nodes.{Declaration}
 use Rattle.tables.specs.Layout.{labelOf, childOf, childCount, nameStart, nameLength}
 use Rattle.tables.specs.Decoding.{termAt, childrenBy, argumentsAt, declarationAt, declarationsFrom}
+use Rattle.tables.specs.WellMade.{Named}
 use Rattle.tables.proofs.Decoding.{Nodes}
 use Rattle.texts.specs.Spelling.{nameIn, nameOf}
 use Rattle.machine.specs.Records.{cellOf, levelOf}
@@ -28,7 +29,7 @@ use Rattle.writing.specs.Output.{emit}
 use Rattle.writing.specs.Marks.{onAt, Page, wrote, seek}
 use Rattle.writing.specs.WriteTerms.{emitTo, writeName, separator, argumentsBy, applicationBy, wordBy, writeTerm}
 use Rattle.writing.specs.WriteLines.{bytesTo}
-use Rattle.writing.specs.Written.{variable, constant, Closure, TermWord, ofLeaf, ofClosure, Named}
+use Rattle.writing.specs.Written.{variable, constant, Closure, TermWord, ofLeaf, ofClosure}
 use Rattle.writing.proofs.Bytes.{emit-over, emit-within}
 use Rattle.writing.proofs.Pages.{name-then}
 use Rattle.writing.proofs.Tokens.{byte, showSymbol, step, steps, steps-append, steps-over, steps-bytes, termTokens, argumentTokens, moreTokens, signs, term-signs}

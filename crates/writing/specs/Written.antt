@@ -9,10 +9,10 @@ use lib.ListN.{length, drop}
 use Rattle.sequents.specs.Sequents.{Line}
 use Rattle.unification.specs.Store.{Leaf, Store}
 use Rattle.unification.specs.Promises.{Unbound, Formed}
-use Rattle.tables.specs.Layout.{kindOf, labelOf}
+use Rattle.tables.specs.Layout.{kindOf}
 use Rattle.search.specs.Search.{proved, ends, search}
 use Rattle.tables.specs.Decoding.{clausesFrom, goalAt, decodeSheet}
-use Rattle.tables.specs.WellMade.{IsTerm, WellMade}
+use Rattle.tables.specs.WellMade.{IsTerm, WellMade, Named}
 use Rattle.machine.specs.Records.{field, cellOf, levelOf, Made}
 use Rattle.machine.specs.Words.{tagOf, nameOf, nodeOf, frameOf, slotOf}
 use Rattle.machine.specs.Machine.{runMachine}
@@ -69,10 +69,6 @@ pub record Orderly (t : List ℕ) (nodes : ℕ) (m : Made) (s : Store) : Type 0 
   pub words : (x : ℕ) → x < s .next → (cellOf (m .memory) x ≡ 0) ⊎ TermWord t (m .memory) nodes (m .registers .acts) (cellOf (m .memory) x)
   pub pointer : m .registers .path ≤ m .registers .acts
   pub path : PathMade (m .registers .acts) (m .memory) (s .next) (m .registers .path) (m .registers .line)
-
--- The applications of a table name symbols that are declared.
-abbrev pub Named : List ℕ → ℕ → ℕ → Type 0
-Named t nodes symbols = (n : ℕ) → n < nodes → IsTerm t n → kindOf t n ≡ 1 → labelOf t n < symbols
 
 -- What becomes of the answer buffer, and the text's length: "an answer changes only its own bytes".
 unfoldable pub told : List ℕ → List ℕ → Written

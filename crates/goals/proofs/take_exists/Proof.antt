@@ -5,9 +5,9 @@ use Rattle.goals.proofs.take_exists.Statement.{statement}
 use Rattle.goals.proofs.take_exists.Tie as tie
 use Rattle.goals.proofs.take_exists.Reads as reads
 use Rattle.goals.proofs.take_exists.Lts as lts
-use Rattle.cells.proofs.copy_frame.Reads as copy-frame-reads
+use Rattle.trail.proofs.copy_frame.Reads as copy-frame-reads
 use Rattle.cells.proofs.put_field.Reads as put-field-reads
-use Rattle.cells.proofs.put_fresh.Reads as put-fresh-reads
+use Rattle.trail.proofs.put_fresh.Reads as put-fresh-reads
 use Rattle.cells.proofs.put_path.Reads as put-path-reads
 use Rattle.cells.proofs.up.Reads as up-reads
 use Rattle.registers.proofs.on_goal.Reads as on-goal-reads

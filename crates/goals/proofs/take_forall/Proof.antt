@@ -5,7 +5,7 @@ use Rattle.goals.proofs.take_forall.Statement.{statement}
 use Rattle.goals.proofs.take_forall.Tie as tie
 use Rattle.goals.proofs.take_forall.Reads as reads
 use Rattle.goals.proofs.take_forall.Lts as lts
-use Rattle.cells.proofs.copy_frame.Reads as copy-frame-reads
+use Rattle.trail.proofs.copy_frame.Reads as copy-frame-reads
 use Rattle.cells.proofs.put_path.Reads as put-path-reads
 use Rattle.cells.proofs.up.Reads as up-reads
 use Rattle.registers.proofs.on_goal.Reads as on-goal-reads

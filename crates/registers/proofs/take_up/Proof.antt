@@ -5,7 +5,7 @@ use Rattle.registers.proofs.take_up.Tie as tie
 use Rattle.registers.proofs.take_up.Reads as reads
 use Rattle.registers.proofs.take_up.Lts as lts
 use Rattle.cells.proofs.field.Reads as field-reads
-use Rattle.cells.proofs.undo.Reads as undo-reads
+use Rattle.trail.proofs.undo.Reads as undo-reads
 use Rattle.registers.proofs.resume.Reads as resume-reads
 
 resume-requires : tie.Need-resume-requires

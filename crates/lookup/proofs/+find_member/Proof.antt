@@ -1,0 +1,351 @@
+use borrow.Author.Needs.{needs}
+use Rattle.lookup.proofs.Laws.{find-none, find-left, find-right, find-under, find-leaf}
+use mathlib.Core.Path.{sym}
+use Prim.Native.Nat.{ℕ, _<_}
+use borrow.Fn.Kinds.{In}
+use borrow.Fn.PlainCycle.{Measures, is, falls, and}
+use Rattle.lookup.proofs.find_member.Reads as find-member
+use Rattle.lookup.proofs.find_member.Kinds as find-member-kinds
+use Rattle.lookup.proofs.+find_member.Lts-find_member as find-member-lts
+use Rattle.lookup.proofs.add_name.Reads as add-name-reads
+use Rattle.tables.proofs.child.Reads as child-reads
+use Rattle.tables.proofs.kind.Reads as kind-reads
+use Rattle.tables.proofs.label.Reads as label-reads
+use Rattle.tables.proofs.members.Reads as members-reads
+use Rattle.lookup.proofs.+find_member.{statement}
+use Rattle.lookup.proofs.+find_member.Tie.{close}
+
+abbrev μ-find-member : Measures 1 find-member-kinds.ps ℕ
+μ-find-member κs a = a .0
+
+abbrev find-member-at : ℕ → In 1 find-member-kinds.ps
+find-member-at t =
+    and 1 find-member-kinds.ps (is 1 find-member-kinds.ps μ-find-member t) find-member.Pre
+
+abbrev find-member-below : ℕ → In 1 find-member-kinds.ps
+find-member-below t =
+    and 1 find-member-kinds.ps (falls 1 find-member-kinds.ps _<_ μ-find-member t) find-member.Pre
+
+find-member-returns : (t : ℕ) → find-member-lts.Need-returns (
+  kind-reads.Asked,
+  kind-reads.Learnt,
+  child-reads.Asked,
+  child-reads.Learnt,
+  members-reads.Asked,
+  members-reads.Learnt,
+  find-member-below t,
+  find-member.Post,
+  label-reads.Asked,
+  label-reads.Learnt,
+  add-name-reads.Asked,
+  add-name-reads.Learnt,
+) (find-member-at t) find-member.Post
+find-member-returns t c = sym (find-none _ _ _ _ (c .if1 .taken))
+
+find-member-kind-requires : (t : ℕ) → find-member-lts.Need-kind-requires (
+  kind-reads.Asked,
+  kind-reads.Learnt,
+  child-reads.Asked,
+  child-reads.Learnt,
+  members-reads.Asked,
+  members-reads.Learnt,
+  find-member-below t,
+  find-member.Post,
+  label-reads.Asked,
+  label-reads.Learnt,
+  add-name-reads.Asked,
+  add-name-reads.Learnt,
+) (find-member-at t) find-member.Post
+find-member-kind-requires t c κs = search needs
+
+find-member-child-requires : (t : ℕ) → find-member-lts.Need-child-requires (
+  kind-reads.Asked,
+  kind-reads.Learnt,
+  child-reads.Asked,
+  child-reads.Learnt,
+  members-reads.Asked,
+  members-reads.Learnt,
+  find-member-below t,
+  find-member.Post,
+  label-reads.Asked,
+  label-reads.Learnt,
+  add-name-reads.Asked,
+  add-name-reads.Learnt,
+) (find-member-at t) find-member.Post
+find-member-child-requires t c κs = search needs
+
+find-member-members-requires : (t : ℕ) → find-member-lts.Need-members-requires (
+  kind-reads.Asked,
+  kind-reads.Learnt,
+  child-reads.Asked,
+  child-reads.Learnt,
+  members-reads.Asked,
+  members-reads.Learnt,
+  find-member-below t,
+  find-member.Post,
+  label-reads.Asked,
+  label-reads.Learnt,
+  add-name-reads.Asked,
+  add-name-reads.Learnt,
+) (find-member-at t) find-member.Post
+find-member-members-requires t c κs = search needs
+
+find-member-sub-find-member : (t : ℕ) → find-member-lts.Need-sub-find-member (
+  kind-reads.Asked,
+  kind-reads.Learnt,
+  child-reads.Asked,
+  child-reads.Learnt,
+  members-reads.Asked,
+  members-reads.Learnt,
+  find-member-below t,
+  find-member.Post,
+  label-reads.Asked,
+  label-reads.Learnt,
+  add-name-reads.Asked,
+  add-name-reads.Learnt,
+) (find-member-at t) find-member.Post
+find-member-sub-find-member t c = search needs
+
+find-member-find-member-requires : (t : ℕ) → find-member-lts.Need-find-member-requires (
+  kind-reads.Asked,
+  kind-reads.Learnt,
+  child-reads.Asked,
+  child-reads.Learnt,
+  members-reads.Asked,
+  members-reads.Learnt,
+  find-member-below t,
+  find-member.Post,
+  label-reads.Asked,
+  label-reads.Learnt,
+  add-name-reads.Asked,
+  add-name-reads.Learnt,
+) (find-member-at t) find-member.Post
+find-member-find-member-requires t c κs = search needs
+
+find-member-returns-2 : (t : ℕ) → find-member-lts.Need-returns-2 (
+  kind-reads.Asked,
+  kind-reads.Learnt,
+  child-reads.Asked,
+  child-reads.Learnt,
+  members-reads.Asked,
+  members-reads.Learnt,
+  find-member-below t,
+  find-member.Post,
+  label-reads.Asked,
+  label-reads.Learnt,
+  add-name-reads.Asked,
+  add-name-reads.Learnt,
+) (find-member-at t) find-member.Post
+find-member-returns-2 t c = find-left _ _ _ _ _ _ _ _ (c .before .before .before .before .before .before .if1 .left) (c .before .before .before .before .before .kind .ensures) (c .before .before .before .before .if2 .taken) (c .before .before .before .child .ensures) (c .before .before .members .ensures .0) (c .before .if3 .taken) (c .find-member .ensures)
+
+find-member-sub-find-member-2 : (t : ℕ) → find-member-lts.Need-sub-find-member-2 (
+  kind-reads.Asked,
+  kind-reads.Learnt,
+  child-reads.Asked,
+  child-reads.Learnt,
+  members-reads.Asked,
+  members-reads.Learnt,
+  find-member-below t,
+  find-member.Post,
+  label-reads.Asked,
+  label-reads.Learnt,
+  add-name-reads.Asked,
+  add-name-reads.Learnt,
+) (find-member-at t) find-member.Post
+find-member-sub-find-member-2 t c = search needs
+
+find-member-child-requires-2 : (t : ℕ) → find-member-lts.Need-child-requires-2 (
+  kind-reads.Asked,
+  kind-reads.Learnt,
+  child-reads.Asked,
+  child-reads.Learnt,
+  members-reads.Asked,
+  members-reads.Learnt,
+  find-member-below t,
+  find-member.Post,
+  label-reads.Asked,
+  label-reads.Learnt,
+  add-name-reads.Asked,
+  add-name-reads.Learnt,
+) (find-member-at t) find-member.Post
+find-member-child-requires-2 t c κs = search needs
+
+find-member-find-member-requires-2 : (t : ℕ) → find-member-lts.Need-find-member-requires-2 (
+  kind-reads.Asked,
+  kind-reads.Learnt,
+  child-reads.Asked,
+  child-reads.Learnt,
+  members-reads.Asked,
+  members-reads.Learnt,
+  find-member-below t,
+  find-member.Post,
+  label-reads.Asked,
+  label-reads.Learnt,
+  add-name-reads.Asked,
+  add-name-reads.Learnt,
+) (find-member-at t) find-member.Post
+find-member-find-member-requires-2 t c κs = search needs
+
+find-member-returns-3 : (t : ℕ) → find-member-lts.Need-returns-3 (
+  kind-reads.Asked,
+  kind-reads.Learnt,
+  child-reads.Asked,
+  child-reads.Learnt,
+  members-reads.Asked,
+  members-reads.Learnt,
+  find-member-below t,
+  find-member.Post,
+  label-reads.Asked,
+  label-reads.Learnt,
+  add-name-reads.Asked,
+  add-name-reads.Learnt,
+) (find-member-at t) find-member.Post
+find-member-returns-3 t c = find-right _ _ _ _ _ _ _ _ _ (c .before .before .before .before .before .before .before .if1 .left) (c .before .before .before .before .before .before .kind .ensures) (c .before .before .before .before .before .if2 .taken) (c .before .before .before .before .child .ensures) (c .before .before .before .members .ensures .0) (c .before .before .if3 .left) (c .before .child2 .ensures) (c .find-member2 .ensures)
+
+find-member-sub-find-member-3 : (t : ℕ) → find-member-lts.Need-sub-find-member-3 (
+  kind-reads.Asked,
+  kind-reads.Learnt,
+  child-reads.Asked,
+  child-reads.Learnt,
+  members-reads.Asked,
+  members-reads.Learnt,
+  find-member-below t,
+  find-member.Post,
+  label-reads.Asked,
+  label-reads.Learnt,
+  add-name-reads.Asked,
+  add-name-reads.Learnt,
+) (find-member-at t) find-member.Post
+find-member-sub-find-member-3 t c = search needs
+
+find-member-child-requires-3 : (t : ℕ) → find-member-lts.Need-child-requires-3 (
+  kind-reads.Asked,
+  kind-reads.Learnt,
+  child-reads.Asked,
+  child-reads.Learnt,
+  members-reads.Asked,
+  members-reads.Learnt,
+  find-member-below t,
+  find-member.Post,
+  label-reads.Asked,
+  label-reads.Learnt,
+  add-name-reads.Asked,
+  add-name-reads.Learnt,
+) (find-member-at t) find-member.Post
+find-member-child-requires-3 t c κs = search needs
+
+find-member-find-member-requires-3 : (t : ℕ) → find-member-lts.Need-find-member-requires-3 (
+  kind-reads.Asked,
+  kind-reads.Learnt,
+  child-reads.Asked,
+  child-reads.Learnt,
+  members-reads.Asked,
+  members-reads.Learnt,
+  find-member-below t,
+  find-member.Post,
+  label-reads.Asked,
+  label-reads.Learnt,
+  add-name-reads.Asked,
+  add-name-reads.Learnt,
+) (find-member-at t) find-member.Post
+find-member-find-member-requires-3 t c κs = search needs
+
+find-member-label-requires : (t : ℕ) → find-member-lts.Need-label-requires (
+  kind-reads.Asked,
+  kind-reads.Learnt,
+  child-reads.Asked,
+  child-reads.Learnt,
+  members-reads.Asked,
+  members-reads.Learnt,
+  find-member-below t,
+  find-member.Post,
+  label-reads.Asked,
+  label-reads.Learnt,
+  add-name-reads.Asked,
+  add-name-reads.Learnt,
+) (find-member-at t) find-member.Post
+find-member-label-requires t c κs = search needs
+
+find-member-add-name-requires : (t : ℕ) → find-member-lts.Need-add-name-requires (
+  kind-reads.Asked,
+  kind-reads.Learnt,
+  child-reads.Asked,
+  child-reads.Learnt,
+  members-reads.Asked,
+  members-reads.Learnt,
+  find-member-below t,
+  find-member.Post,
+  label-reads.Asked,
+  label-reads.Learnt,
+  add-name-reads.Asked,
+  add-name-reads.Learnt,
+) (find-member-at t) find-member.Post
+find-member-add-name-requires t c κs = search needs
+
+find-member-returns-4 : (t : ℕ) → find-member-lts.Need-returns-4 (
+  kind-reads.Asked,
+  kind-reads.Learnt,
+  child-reads.Asked,
+  child-reads.Learnt,
+  members-reads.Asked,
+  members-reads.Learnt,
+  find-member-below t,
+  find-member.Post,
+  label-reads.Asked,
+  label-reads.Learnt,
+  add-name-reads.Asked,
+  add-name-reads.Learnt,
+) (find-member-at t) find-member.Post
+find-member-returns-4 t c = find-under _ _ _ _ _ _ _ _ _ (c .before .before .before .before .before .before .before .if1 .left) (c .before .before .before .before .before .before .kind .ensures) (c .before .before .before .before .before .if2 .left) (c .before .before .before .before .if4 .taken) (c .before .before .before .child3 .ensures) (c .before .before .find-member3 .ensures) (c .before .label .ensures) (c .add-name .ensures)
+
+find-member-returns-5 : (t : ℕ) → find-member-lts.Need-returns-5 (
+  kind-reads.Asked,
+  kind-reads.Learnt,
+  child-reads.Asked,
+  child-reads.Learnt,
+  members-reads.Asked,
+  members-reads.Learnt,
+  find-member-below t,
+  find-member.Post,
+  label-reads.Asked,
+  label-reads.Learnt,
+  add-name-reads.Asked,
+  add-name-reads.Learnt,
+) (find-member-at t) find-member.Post
+find-member-returns-5 t c = sym (find-leaf _ _ _ _ _ (c .before .before .kind .ensures) (c .before .if2 .left) (c .if4 .left))
+
+pub +find-member-spec : {M : Type 1} → statement M
++find-member-spec = close μ-find-member λ t. find-member-lts.spec (
+  kind-reads.Asked,
+  kind-reads.Learnt,
+  child-reads.Asked,
+  child-reads.Learnt,
+  members-reads.Asked,
+  members-reads.Learnt,
+  find-member-below t,
+  find-member.Post,
+  label-reads.Asked,
+  label-reads.Learnt,
+  add-name-reads.Asked,
+  add-name-reads.Learnt,
+)
+    (find-member-at t)
+    find-member.Post
+    (find-member-returns t)
+    (find-member-kind-requires t)
+    (find-member-child-requires t)
+    (find-member-members-requires t)
+    (find-member-sub-find-member t)
+    (find-member-find-member-requires t)
+    (find-member-returns-2 t)
+    (find-member-sub-find-member-2 t)
+    (find-member-child-requires-2 t)
+    (find-member-find-member-requires-2 t)
+    (find-member-returns-3 t)
+    (find-member-sub-find-member-3 t)
+    (find-member-child-requires-3 t)
+    (find-member-find-member-requires-3 t)
+    (find-member-label-requires t)
+    (find-member-add-name-requires t)
+    (find-member-returns-4 t)
+    (find-member-returns-5 t)
