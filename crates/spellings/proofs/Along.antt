@@ -6,9 +6,9 @@ use mathlib.Core.Path.{_≡_, refl, sym, ap, ap₂, _∙_, subst}
 use mathlib.Core.Bool.{Bool, true, false, _&&_, _||_, cond, true≢false}
 use mathlib.Core.List.{List, [], _∷_, _++_}
 use mathlib.Core.Option.{some}
-use lib.Dec.{eqb}
-use lib.ListN.{length, getD, take, drop, length-append, take-append-drop, getElem?}
-use borrow.Author.Tests.{eqb-true, eqb-false, eq-eqb, ne-eqb}
+use lib.Dec.{eqb, leb}
+use lib.ListN.{length, getD, take, drop, length-append, length-drop, take-append-drop, getElem?}
+use borrow.Author.Tests.{eqb-true, eqb-false, eq-eqb, ne-eqb, leb-false}
 use Rattle.terms.specs.Terms.{Term, leaf, app, Terms, nil, cons, substitute, substitutes, count}
 use Rattle.formulas.specs.Formulas.{variableNames, freeT, freeTs}
 use Rattle.formulas.proofs.Free.{or-left, or-right}
@@ -29,9 +29,9 @@ use Rattle.spellings.specs.declared.Reach.{Reach}
 use Rattle.spellings.specs.declared.Reach.the-variants.{To, Differs}
 use Rattle.spellings.specs.Scanning.{nameSize}
 use Rattle.spellings.specs.Frames.{slotStart, slotEnd}
-use Rattle.spellings.specs.Instances.{alongName, alongSlot, alongMore, alongArguments, alongApplication, along}
+use Rattle.spellings.specs.Instances.{alongRange, alongName, alongSlot, alongMore, alongArguments, alongApplication, along}
 use Rattle.spellings.proofs.Places.{byte-is, byte-none, drop-next, drop-past}
-use Rattle.spellings.proofs.Ranges.{begins, begins-rest, range-begins}
+use Rattle.spellings.proofs.Ranges.{begins, begins-rest, Solid, range-begins}
 use Rattle.spellings.proofs.Names.{size-length, name-solid}
 use Rattle.spellings.proofs.Placed.{both-ways, Placed, spelling-solid}
 
@@ -102,6 +102,23 @@ reach-byte c a x i z = go (drop i x) refl
 
 -- names and terms of the text
 
+-- a beginning is no longer
+begins-short : (a y : List ℕ) → begins a y ≡ true → length a ≤ length y
+begins-short a y h = let r = begins-rest a y h in let e = ap length (r .1) ∙ length-append a (r .0) in omega arith
+
+-- bytes that stand somewhere else
+along-range : (l r a : List ℕ) (s : ℕ) (x : List ℕ) (i : ℕ) → drop s a ≡ l ++ r → Solid l → alongRange (length l) a s x i ≡ reach l x i
+unfolding alongRange reach
+along-range l r a s x i h z = rw (range-begins l r a s x i h z) (go (begins l (drop i x)) refl (leb (length l) (length x - i)) refl)
+  where
+    go : (p : Bool) → begins l (drop i x) ≡ p → (q : Bool) → leb (length l) (length x - i) ≡ q → cond q (cond p (To (i + length l)) Differs) Differs ≡ cond p (To (i + length l)) Differs
+    go p k true m = refl
+    go false k false m = refl
+    go true k false m =
+        let u = begins-short l (drop i x) k in
+        let v = length-drop i x in
+        absurd (let o = leb-false (length l) (length x - i) m in omega arith)
+
 -- a declared symbol is the one in the table
 declared-is : (b t : List ℕ) (c k i : ℕ) (d : Declaration) → getElem? (declarationsFrom b t c k) i ≡ some d → declarationAt b t (k + i) ≡ d
 unfolding declarationsFrom
@@ -128,25 +145,23 @@ module _ (b t : List ℕ) (symbols : ℕ) (names : Names (declarationsFrom b t s
 
   -- a name
   along-name : (k n i : ℕ) → Declares ds true k n → alongName b t k x i ≡ reach (nameOf ds k) x i
-  unfolding alongName reach
+  unfolding alongName
   along-name k n i d =
       let a = nameOf ds k in
       let e = name-bytes k n d in
       let l : nameSize b t k ≡ length a = sym (ap length e ∙ size-length b t k) in
       let m = nameLength t k in
       let y = drop (nameStart t k) b in
-      rw (
-        l,
-        range-begins a (drop m y) b (nameStart t k) x i (sym (take-append-drop m y) ∙ ap (_++ drop m y) (sym e))
-            (name-solid a (name-kinds a (name-of ds k n names d))),
-      )
+      rw l
+      (along-range a (drop m y) b (nameStart t k) x i (sym (take-append-drop m y) ∙ ap (_++ drop m y) (sym e))
+      (name-solid a (name-kinds a (name-of ds k n names d))))
 
   -- a term of the text
-  along-slot : (s e i : ℕ) (u : Ground) → Placed ds x s e u → alongSlot x s e i ≡ reach (spellTerm u ds) x i
-  unfolding alongSlot reach
-  along-slot s e i u p =
-      let l : e - s ≡ length (spellTerm u ds) = (let q = p .end in omega arith) in
-      rw (l, range-begins (spellTerm u ds) (drop e x) x s x i (p .spelled) (spelling-solid u ds names (p .writable)))
+  along-slot : (w : List ℕ) (g v i : ℕ) (u : Ground) → Placed ds x (slotStart w g v) (slotEnd w g v) u → alongSlot x w g v i ≡ reach (spellTerm u ds) x i
+  unfolding alongSlot
+  along-slot w g v i u p =
+      let l : slotEnd w g v - slotStart w g v ≡ length (spellTerm u ds) = (let q = p .end in omega arith) in
+      rw l (along-range (spellTerm u ds) (drop (slotEnd w g v) x) x (slotStart w g v) x i (p .spelled) (spelling-solid u ds names (p .writable)))
 
 -- frames
 
@@ -270,7 +285,7 @@ module _ (b t : List ℕ) (symbols : ℕ) (names : Names (declarationsFrom b t s
       let v = labelOf t m in
       let p = subst (λ (y : Term ℕ). FormedTerm y (declarationsFrom b t symbols 0)) tree formed in
       let s = frame v p (subst (λ (y : Term ℕ). freeT y v ≡ true) (sym tree) (eq-eqb v v refl)) in
-      rw (along, z) (along-slot b t symbols names x (slotStart w g v) (slotEnd w g v) i (e v) s ∙ ap (λ (y : Term ℕ). reach (spellTerm (substitute y e) (declarationsFrom b t symbols 0)) x i) (sym tree))
+      rw (along, z) (along-slot b t symbols names x w g v i (e v) s ∙ ap (λ (y : Term ℕ). reach (spellTerm (substitute y e) (declarationsFrom b t symbols 0)) x i) (sym tree))
 
   -- an application
   along-applied : (f m : ℕ) → kindOf t m ≡ 1 → ((k : ℕ) → Instance f k) → Instance (suc f) m

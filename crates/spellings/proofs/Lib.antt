@@ -5,6 +5,10 @@ pub mod Names
 pub mod Scanning
 pub mod Placed
 pub mod Along
+pub mod Depth
+pub mod Nodes
+pub mod Classes
+pub mod Elements
 pub mod Instances
 pub mod Records
 pub mod Frames

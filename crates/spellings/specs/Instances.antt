@@ -1,9 +1,11 @@
--- Comparing instances of sheet terms without unfolding them: a node of the table with a frame, whose names are places in the text.
+-- Comparing instances of sheet terms without unfolding them: a node of the table with a frame, whose names are places in the text. Terms
+-- found to be the same are put into one class, so the work grows with the nodes of two atoms and with the texts of their names, however
+-- often these stand in the atoms.
 use Prim.Native.Nat.{ℕ, zero, suc, _+_, _-_}
 use mathlib.Core.Bool.{Bool, true, false, cond}
 use mathlib.Core.List.{List}
-use lib.Dec.{eqb}
-use lib.ListN.{getD}
+use lib.Dec.{eqb, leb}
+use lib.ListN.{length, getD, set}
 use Rattle.sheets.specs.Limits.{maxNodes}
 use Rattle.tables.specs.Layout.{kindOf, childCount, labelOf, childOf, nameStart}
 use Rattle.spellings.specs.declared.Reach.{Reach}
@@ -11,6 +13,7 @@ use Rattle.spellings.specs.declared.Reach.the-variants.{To, Differs}
 use Rattle.spellings.specs.Ranges.{sameRange}
 use Rattle.spellings.specs.Scanning.{nameSize}
 use Rattle.spellings.specs.Frames.{slotStart, slotEnd}
+use Rattle.spellings.specs.Classes.{nodeElement, isName, elementSide, elementName, elementNode, elementChild, frameOn, separate, rootOf}
 
 -- Two terms of the text, from s to e and from i to j. Where they start at one place they are one term.
 unfoldable pub sameSlots : List ℕ → ℕ → ℕ → ℕ → ℕ → Bool
@@ -18,13 +21,17 @@ sameSlots x s e i j = cond (eqb s i) true (cond (eqb (e - s) (j - i)) (sameRange
 
 -- going along with a spelling
 
--- The name of symbol k stands at place i.
-unfoldable pub alongName : List ℕ → List ℕ → ℕ → List ℕ → ℕ → Reach
-alongName b t k x i = cond (sameRange (nameSize b t k) b (nameStart t k) x i) (To (i + nameSize b t k)) Differs
+-- The n bytes of a from s on stand at place i, within the text.
+unfoldable pub alongRange : ℕ → List ℕ → ℕ → List ℕ → ℕ → Reach
+alongRange n a s x i = cond (leb n (length x - i)) (cond (sameRange n a s x i) (To (i + n)) Differs) Differs
 
--- The term from s to e stands at place i.
-unfoldable pub alongSlot : List ℕ → ℕ → ℕ → ℕ → Reach
-alongSlot x s e i = cond (sameRange (e - s) x s x i) (To (i + (e - s))) Differs
+-- So does the name of symbol k.
+unfoldable pub alongName : List ℕ → List ℕ → ℕ → List ℕ → ℕ → Reach
+alongName b t k x i = alongRange (nameSize b t k) b (nameStart t k) x i
+
+-- So does the term of name v in frame g.
+unfoldable pub alongSlot : List ℕ → List ℕ → ℕ → ℕ → ℕ → Reach
+alongSlot x w g v i = alongRange (slotEnd w g v - slotStart w g v) x (slotStart w g v) x i
 
 -- So do n children of node m from the j-th on, the first after the byte c, each other one after a comma, and the closing bracket.
 unfoldable pub alongMore : (ℕ → ℕ → Reach) → ℕ → List ℕ → ℕ → ℕ → List ℕ → ℕ → ℕ → Reach
@@ -45,7 +52,7 @@ unfoldable pub along : ℕ → List ℕ → List ℕ → List ℕ → List ℕ �
 along zero b t x w g m i = Differs
 along (suc f) b t x w g m i =
     cond (eqb (kindOf t m) 0)
-    (alongSlot x (slotStart w g (labelOf t m)) (slotEnd w g (labelOf t m)) i)
+    (alongSlot x w g (labelOf t m) i)
     (alongApplication (along f b t x w g) b t m x i)
 
 -- The term of the text from s to e is the instance of node m in frame g.
@@ -59,27 +66,63 @@ isInstance b t x w s e g m = endsAt (along maxNodes b t x w g m s) e
 
 -- two instances
 
--- n children of the nodes k and m from the j-th on are the same, by the test r.
-unfoldable pub sameChildren : (ℕ → ℕ → Bool) → ℕ → List ℕ → ℕ → ℕ → ℕ → Bool
-sameChildren r zero t k m j = true
-sameChildren r (suc n) t k m j = cond (r (childOf t k j) (childOf t m j)) (sameChildren r n t k m (j + 1)) false
+-- What a comparison leaves: the classes, and whether the terms are the same.
+pub record Compared : Type 0 where
+  pub classes : List ℕ
+  pub same : Bool
 
--- The same symbol, and the same children.
-unfoldable pub sameNodes : (ℕ → ℕ → Bool) → List ℕ → ℕ → ℕ → Bool
-sameNodes r t k m = cond (eqb (labelOf t k) (labelOf t m)) (sameChildren r (childCount t k) t k m 0) false
+-- the two together
+abbrev pub compared : List ℕ → Bool → Compared
+compared c z = record { classes = c; same = z }
 
--- The instance of node k in frame f is that of node m in frame g.
-unfoldable pub sameInstances : ℕ → List ℕ → List ℕ → List ℕ → List ℕ → ℕ → ℕ → ℕ → ℕ → Bool
-sameInstances zero b t x w f g k m = false
-sameInstances (suc n) b t x w f g k m =
-    cond (eqb (kindOf t k) 0)
-    (cond (eqb (kindOf t m) 0)
-    (sameSlots x (slotStart w f (labelOf t k)) (slotEnd w f (labelOf t k)) (slotStart w g (labelOf t m)) (slotEnd w g (labelOf t m)))
-    (isInstance b t x w (slotStart w f (labelOf t k)) (slotEnd w f (labelOf t k)) g m))
-    (cond (eqb (kindOf t m) 0)
-    (isInstance b t x w (slotStart w g (labelOf t m)) (slotEnd w g (labelOf t m)) f k)
-    (sameNodes (sameInstances n b t x w f g) t k m))
+-- Element i joins the class of element j if their terms are the same.
+unfoldable pub joined : Compared → ℕ → ℕ → Compared
+joined o i j = cond (o .same) (compared (set (o .classes) i j) true) (compared (o .classes) false)
 
--- The atoms at the nodes k and m, in the frames f and g, are the same.
+-- Where the term of name i starts, in its side's frame.
+unfoldable pub startOf : List ℕ → ℕ → ℕ → ℕ → ℕ
+startOf w f g i = slotStart w (frameOn f g (elementSide i)) (elementName i)
+
+-- where it ends
+unfoldable pub endOf : List ℕ → ℕ → ℕ → ℕ → ℕ
+endOf w f g i = slotEnd w (frameOn f g (elementSide i)) (elementName i)
+
+-- The term of name i is that of element j, a name or an application.
+unfoldable pub sameName : List ℕ → List ℕ → List ℕ → List ℕ → ℕ → ℕ → ℕ → ℕ → Bool
+sameName b t x w f g i j =
+    cond (isName j) (sameSlots x (startOf w f g i) (endOf w f g i) (startOf w f g j) (endOf w f g j))
+    (isInstance b t x w (startOf w f g i) (endOf w f g i) (frameOn f g (elementSide j)) (elementNode j))
+
+-- A name joins the class of an element with the same term.
+unfoldable pub joinName : List ℕ → List ℕ → List ℕ → List ℕ → ℕ → ℕ → List ℕ → ℕ → ℕ → Compared
+joinName b t x w f g c i j = joined (compared c (sameName b t x w f g i j)) i j
+
+-- n children of the applications i and j from the k-th on, by the comparison r.
+unfoldable pub sameChildren : (List ℕ → ℕ → ℕ → Compared) → ℕ → List ℕ → ℕ → ℕ → ℕ → List ℕ → Compared
+sameChildren r zero t i j k c = compared c true
+sameChildren r (suc n) t i j k c =
+    let o = r c (elementChild t i k) (elementChild t j k) in
+    cond (o .same) (sameChildren r n t i j (k + 1) (o .classes)) o
+
+-- Two applications: the same symbol, and the same children.
+unfoldable pub sameNodes : (List ℕ → ℕ → ℕ → Compared) → List ℕ → ℕ → ℕ → List ℕ → Compared
+sameNodes r t i j c = cond (eqb (labelOf t (elementNode i)) (labelOf t (elementNode j))) (joined (sameChildren r (childCount t (elementNode i)) t i j 0 c) i j) (compared c false)
+
+-- Two representatives. Of an application the children are at hand, so a name joins it.
+unfoldable pub sameRoots : (List ℕ → ℕ → ℕ → Compared) → List ℕ → List ℕ → List ℕ → List ℕ → ℕ → ℕ → ℕ → ℕ → List ℕ → Compared
+sameRoots r b t x w f g i j c =
+    cond (eqb i j) (compared c true)
+    (cond (isName i) (joinName b t x w f g c i j) (cond (isName j) (joinName b t x w f g c j i) (sameNodes r t i j c)))
+
+-- Two elements, whose terms are nested less deep than the first argument says.
+unfoldable pub sameElements : ℕ → List ℕ → List ℕ → List ℕ → List ℕ → ℕ → ℕ → List ℕ → ℕ → ℕ → Compared
+sameElements zero b t x w f g c i j = compared c false
+sameElements (suc n) b t x w f g c i j =
+    let p = rootOf c i in
+    let q = rootOf (p .classes) j in
+    sameRoots (sameElements n b t x w f g) b t x w f g (p .root) (q .root) (q .classes)
+
+-- The atoms at the nodes k and m, in the frames f and g, are the same. A term of the sheet is nested less deep than its node's number,
+-- a term of the text less deep than the text is long.
 unfoldable pub sameAtoms : List ℕ → List ℕ → List ℕ → List ℕ → ℕ → ℕ → ℕ → ℕ → Bool
-sameAtoms b t x w f g k m = sameNodes (sameInstances maxNodes b t x w f g) t k m
+sameAtoms b t x w f g k m = sameElements (maxNodes + length x) b t x w f g separate (nodeElement 0 k) (nodeElement 1 m) .same

@@ -2,5 +2,6 @@
 pub mod Ranges
 pub mod Scanning
 pub mod Frames
+pub mod Classes
 pub mod Instances
 pub mod Showing

@@ -1,0 +1,57 @@
+use Prim.Native.Nat.{_+_}
+use Rattle.frames.proofs.Laws.{copy-end, copy-on}
+use Rattle.spellings.specs.Frames.{copyFrame}
+use borrow.Author.Needs.{needs}
+use lib.ListN.{length}
+use mathlib.Core.Path.{_∙_, _≡_, sym}
+use Rattle.frames.proofs.copy_frame.Statement.{statement}
+use Rattle.frames.proofs.copy_frame.Tie as tie
+
+abbrev Inv-loop : tie.InvT-loop
+Inv-loop n w₀ r q f left₀ at₀ w left at = (at + left ≡ f + n) × (length w ≡ length w₀) × (copyFrame n w₀ r q f ≡ copyFrame left w r q at)
+
+abbrev μ-loop : tie.MeasureT-loop
+μ-loop n w₀ r q f left₀ at₀ w left at = left
+
+loop-holds : tie.Need-loop-holds Inv-loop μ-loop
+loop-holds c = search needs
+
+field-requires : tie.Need-field-requires Inv-loop μ-loop
+field-requires c κs = search needs
+
+put-field-requires : tie.Need-put-field-requires Inv-loop μ-loop
+put-field-requires c κs = search needs
+
+add-at : tie.Need-add-at Inv-loop μ-loop
+add-at c = search needs
+
+sub-left : tie.Need-sub-left Inv-loop μ-loop
+sub-left c = search needs
+
+loop-less : tie.Need-loop-less Inv-loop μ-loop
+loop-less c = search needs
+
+loop-again : tie.Need-loop-again Inv-loop μ-loop
+loop-again c = (search needs, (c .before .before .put-field .kept .0) ∙ (c .before .before .before .before .before .before .before .loop .inv .1), (c .before .before .before .before .before .before .before .loop .inv .2) ∙ copy-on _ _ _ _ _ _ _ (c .before .before .before .before .before .before .loop-test .taken) (c .before .before .before .before .field .ensures) (c .before .before .put-field .ensures))
+
+same-length : tie.Need-same-length Inv-loop μ-loop
+same-length c = search needs
+
+returns : tie.Need-returns Inv-loop μ-loop
+returns c = sym ((c .before .loop .inv .2) ∙ copy-end _ _ _ _ _ (c .loop-test .left))
+
+pub copy-frame-spec : {M : Type 1} → statement M
+copy-frame-spec =
+    tie.close
+    (tie.spec
+    Inv-loop
+    μ-loop
+    loop-holds
+    field-requires
+    put-field-requires
+    add-at
+    sub-left
+    loop-less
+    loop-again
+    same-length
+    returns)

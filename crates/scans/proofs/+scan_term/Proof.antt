@@ -1,0 +1,741 @@
+use Prim.Native.Nat.{_-_, _<_, ℕ}
+use Rattle.scans.proofs.Laws.{inside, mark-inside, more-closed, more-none, more-on, more-other, term-applied, term-constant, term-mark, term-rank, term-unknown}
+use Rattle.spellings.specs.Scanning.{scanMore, scanTerm}
+use borrow.Author.Needs.{needs}
+use borrow.Fn.Kinds.{In}
+use borrow.Fn.PlainCycle.{Measures, and, falls, is}
+use mathlib.Core.Path.{_∙_, _≡_, sym}
+use native.Mathlib.Omega.{arith}
+use Rattle.scans.proofs.scan_term.Reads as scan-term
+use Rattle.scans.proofs.scan_term.Kinds as scan-term-kinds
+use Rattle.scans.proofs.+scan_term.Lts-scan_term as scan-term-lts
+use Rattle.memory.proofs.byte.Reads as byte-reads
+use Rattle.scans.proofs.higher_of.Reads as higher-of-reads
+use Rattle.scans.proofs.is_applied.Reads as is-applied-reads
+use Rattle.scans.proofs.is_mark.Reads as is-mark-reads
+use Rattle.scans.proofs.name_end.Reads as name-end-reads
+use Rattle.scans.proofs.scan_close.Reads as scan-close-reads
+use Rattle.scans.proofs.scan_symbol.Reads as scan-symbol-reads
+use Rattle.scans.proofs.symbol_from.Reads as symbol-from-reads
+use Rattle.tables.proofs.arity.Reads as arity-reads
+use Rattle.scans.proofs.+scan_term.{statement}
+use Rattle.scans.proofs.+scan_term.Tie.{close}
+
+abbrev μ-scan-term : Measures 3 scan-term-kinds.ps ℕ
+μ-scan-term κs a = a .0
+
+abbrev scan-term-at : ℕ → In 3 scan-term-kinds.ps
+scan-term-at t = and 3 scan-term-kinds.ps (is 3 scan-term-kinds.ps μ-scan-term t) scan-term.Pre
+
+abbrev scan-term-below : ℕ → In 3 scan-term-kinds.ps
+scan-term-below t =
+    and 3 scan-term-kinds.ps (falls 3 scan-term-kinds.ps _<_ μ-scan-term t) scan-term.Pre
+
+abbrev scan-term-Inv-loop : scan-term-lts.InvT-loop
+scan-term-Inv-loop rank sheet t symbols text i at₀ k left₀ mark₀ level₀ at left mark level = (0 < mark) × (scanMore (scanTerm (rank - 1) sheet t symbols text) left₀ text mark₀ at₀ level₀ ≡ scanMore (scanTerm (rank - 1) sheet t symbols text) left text mark at level)
+
+abbrev scan-term-μ-loop : scan-term-lts.MeasureT-loop
+scan-term-μ-loop rank sheet t symbols text i at₀ k left₀ mark₀ level₀ at left mark level = left
+
+scan-term-returns : (t : ℕ) → scan-term-lts.Need-returns (
+  byte-reads.Asked,
+  byte-reads.Learnt,
+  is-mark-reads.Asked,
+  is-mark-reads.Learnt,
+  scan-symbol-reads.Asked,
+  scan-symbol-reads.Learnt,
+  name-end-reads.Asked,
+  name-end-reads.Learnt,
+  symbol-from-reads.Asked,
+  symbol-from-reads.Learnt,
+  is-applied-reads.Asked,
+  is-applied-reads.Learnt,
+  arity-reads.Asked,
+  arity-reads.Learnt,
+  scan-term-below t,
+  scan-term.Post,
+  higher-of-reads.Asked,
+  higher-of-reads.Learnt,
+  scan-close-reads.Asked,
+  scan-close-reads.Learnt,
+) (scan-term-at t) scan-term.Post scan-term-Inv-loop scan-term-μ-loop
+scan-term-returns t c = sym (term-rank _ _ _ _ _ _ (c .if1 .taken))
+
+scan-term-byte-requires : (t : ℕ) → scan-term-lts.Need-byte-requires (
+  byte-reads.Asked,
+  byte-reads.Learnt,
+  is-mark-reads.Asked,
+  is-mark-reads.Learnt,
+  scan-symbol-reads.Asked,
+  scan-symbol-reads.Learnt,
+  name-end-reads.Asked,
+  name-end-reads.Learnt,
+  symbol-from-reads.Asked,
+  symbol-from-reads.Learnt,
+  is-applied-reads.Asked,
+  is-applied-reads.Learnt,
+  arity-reads.Asked,
+  arity-reads.Learnt,
+  scan-term-below t,
+  scan-term.Post,
+  higher-of-reads.Asked,
+  higher-of-reads.Learnt,
+  scan-close-reads.Asked,
+  scan-close-reads.Learnt,
+) (scan-term-at t) scan-term.Post scan-term-Inv-loop scan-term-μ-loop
+scan-term-byte-requires t c κs = search needs
+
+scan-term-is-mark-requires : (t : ℕ) → scan-term-lts.Need-is-mark-requires (
+  byte-reads.Asked,
+  byte-reads.Learnt,
+  is-mark-reads.Asked,
+  is-mark-reads.Learnt,
+  scan-symbol-reads.Asked,
+  scan-symbol-reads.Learnt,
+  name-end-reads.Asked,
+  name-end-reads.Learnt,
+  symbol-from-reads.Asked,
+  symbol-from-reads.Learnt,
+  is-applied-reads.Asked,
+  is-applied-reads.Learnt,
+  arity-reads.Asked,
+  arity-reads.Learnt,
+  scan-term-below t,
+  scan-term.Post,
+  higher-of-reads.Asked,
+  higher-of-reads.Learnt,
+  scan-close-reads.Asked,
+  scan-close-reads.Learnt,
+) (scan-term-at t) scan-term.Post scan-term-Inv-loop scan-term-μ-loop
+scan-term-is-mark-requires t c κs = search needs
+
+scan-term-add-scan-symbol : (t : ℕ) → scan-term-lts.Need-add-scan-symbol (
+  byte-reads.Asked,
+  byte-reads.Learnt,
+  is-mark-reads.Asked,
+  is-mark-reads.Learnt,
+  scan-symbol-reads.Asked,
+  scan-symbol-reads.Learnt,
+  name-end-reads.Asked,
+  name-end-reads.Learnt,
+  symbol-from-reads.Asked,
+  symbol-from-reads.Learnt,
+  is-applied-reads.Asked,
+  is-applied-reads.Learnt,
+  arity-reads.Asked,
+  arity-reads.Learnt,
+  scan-term-below t,
+  scan-term.Post,
+  higher-of-reads.Asked,
+  higher-of-reads.Learnt,
+  scan-close-reads.Asked,
+  scan-close-reads.Learnt,
+) (scan-term-at t) scan-term.Post scan-term-Inv-loop scan-term-μ-loop
+scan-term-add-scan-symbol t c = omega (arith, mark-inside (c .before .before .before .before .before .before .before .args .text .now) _ _ _ (c .before .before .byte .ensures) (c .before .is-mark .ensures) (c .if2 .taken))
+
+scan-term-scan-symbol-requires : (t : ℕ) → scan-term-lts.Need-scan-symbol-requires (
+  byte-reads.Asked,
+  byte-reads.Learnt,
+  is-mark-reads.Asked,
+  is-mark-reads.Learnt,
+  scan-symbol-reads.Asked,
+  scan-symbol-reads.Learnt,
+  name-end-reads.Asked,
+  name-end-reads.Learnt,
+  symbol-from-reads.Asked,
+  symbol-from-reads.Learnt,
+  is-applied-reads.Asked,
+  is-applied-reads.Learnt,
+  arity-reads.Asked,
+  arity-reads.Learnt,
+  scan-term-below t,
+  scan-term.Post,
+  higher-of-reads.Asked,
+  higher-of-reads.Learnt,
+  scan-close-reads.Asked,
+  scan-close-reads.Learnt,
+) (scan-term-at t) scan-term.Post scan-term-Inv-loop scan-term-μ-loop
+scan-term-scan-symbol-requires t c κs = search needs
+
+scan-term-returns-2 : (t : ℕ) → scan-term-lts.Need-returns-2 (
+  byte-reads.Asked,
+  byte-reads.Learnt,
+  is-mark-reads.Asked,
+  is-mark-reads.Learnt,
+  scan-symbol-reads.Asked,
+  scan-symbol-reads.Learnt,
+  name-end-reads.Asked,
+  name-end-reads.Learnt,
+  symbol-from-reads.Asked,
+  symbol-from-reads.Learnt,
+  is-applied-reads.Asked,
+  is-applied-reads.Learnt,
+  arity-reads.Asked,
+  arity-reads.Learnt,
+  scan-term-below t,
+  scan-term.Post,
+  higher-of-reads.Asked,
+  higher-of-reads.Learnt,
+  scan-close-reads.Asked,
+  scan-close-reads.Learnt,
+) (scan-term-at t) scan-term.Post scan-term-Inv-loop scan-term-μ-loop
+scan-term-returns-2 t c = term-mark _ _ _ _ _ _ _ _ _ (c .before .before .before .before .if1 .left) (c .before .before .before .byte .ensures) (c .before .before .is-mark .ensures) (c .before .if2 .taken) (c .scan-symbol .ensures)
+
+scan-term-name-end-requires : (t : ℕ) → scan-term-lts.Need-name-end-requires (
+  byte-reads.Asked,
+  byte-reads.Learnt,
+  is-mark-reads.Asked,
+  is-mark-reads.Learnt,
+  scan-symbol-reads.Asked,
+  scan-symbol-reads.Learnt,
+  name-end-reads.Asked,
+  name-end-reads.Learnt,
+  symbol-from-reads.Asked,
+  symbol-from-reads.Learnt,
+  is-applied-reads.Asked,
+  is-applied-reads.Learnt,
+  arity-reads.Asked,
+  arity-reads.Learnt,
+  scan-term-below t,
+  scan-term.Post,
+  higher-of-reads.Asked,
+  higher-of-reads.Learnt,
+  scan-close-reads.Asked,
+  scan-close-reads.Learnt,
+) (scan-term-at t) scan-term.Post scan-term-Inv-loop scan-term-μ-loop
+scan-term-name-end-requires t c κs = search needs
+
+scan-term-symbol-from-requires : (t : ℕ) → scan-term-lts.Need-symbol-from-requires (
+  byte-reads.Asked,
+  byte-reads.Learnt,
+  is-mark-reads.Asked,
+  is-mark-reads.Learnt,
+  scan-symbol-reads.Asked,
+  scan-symbol-reads.Learnt,
+  name-end-reads.Asked,
+  name-end-reads.Learnt,
+  symbol-from-reads.Asked,
+  symbol-from-reads.Learnt,
+  is-applied-reads.Asked,
+  is-applied-reads.Learnt,
+  arity-reads.Asked,
+  arity-reads.Learnt,
+  scan-term-below t,
+  scan-term.Post,
+  higher-of-reads.Asked,
+  higher-of-reads.Learnt,
+  scan-close-reads.Asked,
+  scan-close-reads.Learnt,
+) (scan-term-at t) scan-term.Post scan-term-Inv-loop scan-term-μ-loop
+scan-term-symbol-from-requires t c κs = search needs
+
+scan-term-is-applied-requires : (t : ℕ) → scan-term-lts.Need-is-applied-requires (
+  byte-reads.Asked,
+  byte-reads.Learnt,
+  is-mark-reads.Asked,
+  is-mark-reads.Learnt,
+  scan-symbol-reads.Asked,
+  scan-symbol-reads.Learnt,
+  name-end-reads.Asked,
+  name-end-reads.Learnt,
+  symbol-from-reads.Asked,
+  symbol-from-reads.Learnt,
+  is-applied-reads.Asked,
+  is-applied-reads.Learnt,
+  arity-reads.Asked,
+  arity-reads.Learnt,
+  scan-term-below t,
+  scan-term.Post,
+  higher-of-reads.Asked,
+  higher-of-reads.Learnt,
+  scan-close-reads.Asked,
+  scan-close-reads.Learnt,
+) (scan-term-at t) scan-term.Post scan-term-Inv-loop scan-term-μ-loop
+scan-term-is-applied-requires t c κs = search needs
+
+scan-term-arity-requires : (t : ℕ) → scan-term-lts.Need-arity-requires (
+  byte-reads.Asked,
+  byte-reads.Learnt,
+  is-mark-reads.Asked,
+  is-mark-reads.Learnt,
+  scan-symbol-reads.Asked,
+  scan-symbol-reads.Learnt,
+  name-end-reads.Asked,
+  name-end-reads.Learnt,
+  symbol-from-reads.Asked,
+  symbol-from-reads.Learnt,
+  is-applied-reads.Asked,
+  is-applied-reads.Learnt,
+  arity-reads.Asked,
+  arity-reads.Learnt,
+  scan-term-below t,
+  scan-term.Post,
+  higher-of-reads.Asked,
+  higher-of-reads.Learnt,
+  scan-close-reads.Asked,
+  scan-close-reads.Learnt,
+) (scan-term-at t) scan-term.Post scan-term-Inv-loop scan-term-μ-loop
+scan-term-arity-requires t c κs = search needs
+
+scan-term-returns-3 : (t : ℕ) → scan-term-lts.Need-returns-3 (
+  byte-reads.Asked,
+  byte-reads.Learnt,
+  is-mark-reads.Asked,
+  is-mark-reads.Learnt,
+  scan-symbol-reads.Asked,
+  scan-symbol-reads.Learnt,
+  name-end-reads.Asked,
+  name-end-reads.Learnt,
+  symbol-from-reads.Asked,
+  symbol-from-reads.Learnt,
+  is-applied-reads.Asked,
+  is-applied-reads.Learnt,
+  arity-reads.Asked,
+  arity-reads.Learnt,
+  scan-term-below t,
+  scan-term.Post,
+  higher-of-reads.Asked,
+  higher-of-reads.Learnt,
+  scan-close-reads.Asked,
+  scan-close-reads.Learnt,
+) (scan-term-at t) scan-term.Post scan-term-Inv-loop scan-term-μ-loop
+scan-term-returns-3 t c = term-constant _ _ _ _ _ _ _ _ _ _ _ _ (c .before .before .before .before .before .before .before .before .before .if1 .left) (c .before .before .before .before .before .before .before .before .byte .ensures) (c .before .before .before .before .before .before .before .is-mark .ensures) (c .before .before .before .before .before .before .if2 .left) (c .before .before .before .before .before .name-end .ensures) (c .before .before .before .before .symbol-from .ensures) (c .before .before .before .is-applied .ensures) (c .before .before .if3 .taken) (c .before .arity .ensures) (c .if4 .taken)
+
+scan-term-loop-holds : (t : ℕ) → scan-term-lts.Need-loop-holds (
+  byte-reads.Asked,
+  byte-reads.Learnt,
+  is-mark-reads.Asked,
+  is-mark-reads.Learnt,
+  scan-symbol-reads.Asked,
+  scan-symbol-reads.Learnt,
+  name-end-reads.Asked,
+  name-end-reads.Learnt,
+  symbol-from-reads.Asked,
+  symbol-from-reads.Learnt,
+  is-applied-reads.Asked,
+  is-applied-reads.Learnt,
+  arity-reads.Asked,
+  arity-reads.Learnt,
+  scan-term-below t,
+  scan-term.Post,
+  higher-of-reads.Asked,
+  higher-of-reads.Learnt,
+  scan-close-reads.Asked,
+  scan-close-reads.Learnt,
+) (scan-term-at t) scan-term.Post scan-term-Inv-loop scan-term-μ-loop
+scan-term-loop-holds t c = search needs
+
+scan-term-byte-requires-2 : (t : ℕ) → scan-term-lts.Need-byte-requires-2 (
+  byte-reads.Asked,
+  byte-reads.Learnt,
+  is-mark-reads.Asked,
+  is-mark-reads.Learnt,
+  scan-symbol-reads.Asked,
+  scan-symbol-reads.Learnt,
+  name-end-reads.Asked,
+  name-end-reads.Learnt,
+  symbol-from-reads.Asked,
+  symbol-from-reads.Learnt,
+  is-applied-reads.Asked,
+  is-applied-reads.Learnt,
+  arity-reads.Asked,
+  arity-reads.Learnt,
+  scan-term-below t,
+  scan-term.Post,
+  higher-of-reads.Asked,
+  higher-of-reads.Learnt,
+  scan-close-reads.Asked,
+  scan-close-reads.Learnt,
+) (scan-term-at t) scan-term.Post scan-term-Inv-loop scan-term-μ-loop
+scan-term-byte-requires-2 t c κs = search needs
+
+scan-term-sub-scan-term : (t : ℕ) → scan-term-lts.Need-sub-scan-term (
+  byte-reads.Asked,
+  byte-reads.Learnt,
+  is-mark-reads.Asked,
+  is-mark-reads.Learnt,
+  scan-symbol-reads.Asked,
+  scan-symbol-reads.Learnt,
+  name-end-reads.Asked,
+  name-end-reads.Learnt,
+  symbol-from-reads.Asked,
+  symbol-from-reads.Learnt,
+  is-applied-reads.Asked,
+  is-applied-reads.Learnt,
+  arity-reads.Asked,
+  arity-reads.Learnt,
+  scan-term-below t,
+  scan-term.Post,
+  higher-of-reads.Asked,
+  higher-of-reads.Learnt,
+  scan-close-reads.Asked,
+  scan-close-reads.Learnt,
+) (scan-term-at t) scan-term.Post scan-term-Inv-loop scan-term-μ-loop
+scan-term-sub-scan-term t c = search needs
+
+scan-term-add-scan-term : (t : ℕ) → scan-term-lts.Need-add-scan-term (
+  byte-reads.Asked,
+  byte-reads.Learnt,
+  is-mark-reads.Asked,
+  is-mark-reads.Learnt,
+  scan-symbol-reads.Asked,
+  scan-symbol-reads.Learnt,
+  name-end-reads.Asked,
+  name-end-reads.Learnt,
+  symbol-from-reads.Asked,
+  symbol-from-reads.Learnt,
+  is-applied-reads.Asked,
+  is-applied-reads.Learnt,
+  arity-reads.Asked,
+  arity-reads.Learnt,
+  scan-term-below t,
+  scan-term.Post,
+  higher-of-reads.Asked,
+  higher-of-reads.Learnt,
+  scan-close-reads.Asked,
+  scan-close-reads.Learnt,
+) (scan-term-at t) scan-term.Post scan-term-Inv-loop scan-term-μ-loop
+scan-term-add-scan-term t c = omega (arith, inside (c .before .before .before .before .before .before .before .before .before .before .before .before .before .before .before .before .before .args .text .now) _ _ _ (c .before .byte2 .ensures) (c .if5 .taken) (c .before .before .before .loop .inv .0))
+
+scan-term-scan-term-requires : (t : ℕ) → scan-term-lts.Need-scan-term-requires (
+  byte-reads.Asked,
+  byte-reads.Learnt,
+  is-mark-reads.Asked,
+  is-mark-reads.Learnt,
+  scan-symbol-reads.Asked,
+  scan-symbol-reads.Learnt,
+  name-end-reads.Asked,
+  name-end-reads.Learnt,
+  symbol-from-reads.Asked,
+  symbol-from-reads.Learnt,
+  is-applied-reads.Asked,
+  is-applied-reads.Learnt,
+  arity-reads.Asked,
+  arity-reads.Learnt,
+  scan-term-below t,
+  scan-term.Post,
+  higher-of-reads.Asked,
+  higher-of-reads.Learnt,
+  scan-close-reads.Asked,
+  scan-close-reads.Learnt,
+) (scan-term-at t) scan-term.Post scan-term-Inv-loop scan-term-μ-loop
+scan-term-scan-term-requires t c κs = search needs
+
+scan-term-enum-known-e : (t : ℕ) → scan-term-lts.Need-enum-known-e (
+  byte-reads.Asked,
+  byte-reads.Learnt,
+  is-mark-reads.Asked,
+  is-mark-reads.Learnt,
+  scan-symbol-reads.Asked,
+  scan-symbol-reads.Learnt,
+  name-end-reads.Asked,
+  name-end-reads.Learnt,
+  symbol-from-reads.Asked,
+  symbol-from-reads.Learnt,
+  is-applied-reads.Asked,
+  is-applied-reads.Learnt,
+  arity-reads.Asked,
+  arity-reads.Learnt,
+  scan-term-below t,
+  scan-term.Post,
+  higher-of-reads.Asked,
+  higher-of-reads.Learnt,
+  scan-close-reads.Asked,
+  scan-close-reads.Learnt,
+) (scan-term-at t) scan-term.Post scan-term-Inv-loop scan-term-μ-loop
+scan-term-enum-known-e t c = search needs
+
+scan-term-enum-told : (t : ℕ) → scan-term-lts.Need-enum-told (
+  byte-reads.Asked,
+  byte-reads.Learnt,
+  is-mark-reads.Asked,
+  is-mark-reads.Learnt,
+  scan-symbol-reads.Asked,
+  scan-symbol-reads.Learnt,
+  name-end-reads.Asked,
+  name-end-reads.Learnt,
+  symbol-from-reads.Asked,
+  symbol-from-reads.Learnt,
+  is-applied-reads.Asked,
+  is-applied-reads.Learnt,
+  arity-reads.Asked,
+  arity-reads.Learnt,
+  scan-term-below t,
+  scan-term.Post,
+  higher-of-reads.Asked,
+  higher-of-reads.Learnt,
+  scan-close-reads.Asked,
+  scan-close-reads.Learnt,
+) (scan-term-at t) scan-term.Post scan-term-Inv-loop scan-term-μ-loop
+scan-term-enum-told t c = search needs
+
+scan-term-returns-4 : (t : ℕ) → scan-term-lts.Need-returns-4 (
+  byte-reads.Asked,
+  byte-reads.Learnt,
+  is-mark-reads.Asked,
+  is-mark-reads.Learnt,
+  scan-symbol-reads.Asked,
+  scan-symbol-reads.Learnt,
+  name-end-reads.Asked,
+  name-end-reads.Learnt,
+  symbol-from-reads.Asked,
+  symbol-from-reads.Learnt,
+  is-applied-reads.Asked,
+  is-applied-reads.Learnt,
+  arity-reads.Asked,
+  arity-reads.Learnt,
+  scan-term-below t,
+  scan-term.Post,
+  higher-of-reads.Asked,
+  higher-of-reads.Learnt,
+  scan-close-reads.Asked,
+  scan-close-reads.Learnt,
+) (scan-term-at t) scan-term.Post scan-term-Inv-loop scan-term-μ-loop
+scan-term-returns-4 t c = sym (term-applied _ _ _ _ _ _ _ _ _ _ _ _ (c .before .before .before .before .before .before .before .before .before .before .before .before .before .before .before .before .if1 .left) (c .before .before .before .before .before .before .before .before .before .before .before .before .before .before .before .byte .ensures) (c .before .before .before .before .before .before .before .before .before .before .before .before .before .before .is-mark .ensures) (c .before .before .before .before .before .before .before .before .before .before .before .before .before .if2 .left) (c .before .before .before .before .before .before .before .before .before .before .before .before .name-end .ensures) (c .before .before .before .before .before .before .before .before .before .before .before .symbol-from .ensures) (c .before .before .before .before .before .before .before .before .before .before .is-applied .ensures) (c .before .before .before .before .before .before .before .before .before .if3 .taken) (c .before .before .before .before .before .before .before .before .arity .ensures) (c .before .before .before .before .before .before .before .if4 .left) ∙ (c .before .before .before .before .before .before .loop .inv .1) ∙ more-none _ _ _ _ _ _ _ _ (c .before .before .before .before .before .loop-test .taken) (c .before .before .before .before .byte2 .ensures) (c .before .before .before .if5 .taken) (c .before .before .scan-term .ensures) (c .enum-told .given .1))
+
+scan-term-higher-of-requires : (t : ℕ) → scan-term-lts.Need-higher-of-requires (
+  byte-reads.Asked,
+  byte-reads.Learnt,
+  is-mark-reads.Asked,
+  is-mark-reads.Learnt,
+  scan-symbol-reads.Asked,
+  scan-symbol-reads.Learnt,
+  name-end-reads.Asked,
+  name-end-reads.Learnt,
+  symbol-from-reads.Asked,
+  symbol-from-reads.Learnt,
+  is-applied-reads.Asked,
+  is-applied-reads.Learnt,
+  arity-reads.Asked,
+  arity-reads.Learnt,
+  scan-term-below t,
+  scan-term.Post,
+  higher-of-reads.Asked,
+  higher-of-reads.Learnt,
+  scan-close-reads.Asked,
+  scan-close-reads.Learnt,
+) (scan-term-at t) scan-term.Post scan-term-Inv-loop scan-term-μ-loop
+scan-term-higher-of-requires t c κs = search needs
+
+scan-term-sub-left : (t : ℕ) → scan-term-lts.Need-sub-left (
+  byte-reads.Asked,
+  byte-reads.Learnt,
+  is-mark-reads.Asked,
+  is-mark-reads.Learnt,
+  scan-symbol-reads.Asked,
+  scan-symbol-reads.Learnt,
+  name-end-reads.Asked,
+  name-end-reads.Learnt,
+  symbol-from-reads.Asked,
+  symbol-from-reads.Learnt,
+  is-applied-reads.Asked,
+  is-applied-reads.Learnt,
+  arity-reads.Asked,
+  arity-reads.Learnt,
+  scan-term-below t,
+  scan-term.Post,
+  higher-of-reads.Asked,
+  higher-of-reads.Learnt,
+  scan-close-reads.Asked,
+  scan-close-reads.Learnt,
+) (scan-term-at t) scan-term.Post scan-term-Inv-loop scan-term-μ-loop
+scan-term-sub-left t c = search needs
+
+scan-term-loop-less : (t : ℕ) → scan-term-lts.Need-loop-less (
+  byte-reads.Asked,
+  byte-reads.Learnt,
+  is-mark-reads.Asked,
+  is-mark-reads.Learnt,
+  scan-symbol-reads.Asked,
+  scan-symbol-reads.Learnt,
+  name-end-reads.Asked,
+  name-end-reads.Learnt,
+  symbol-from-reads.Asked,
+  symbol-from-reads.Learnt,
+  is-applied-reads.Asked,
+  is-applied-reads.Learnt,
+  arity-reads.Asked,
+  arity-reads.Learnt,
+  scan-term-below t,
+  scan-term.Post,
+  higher-of-reads.Asked,
+  higher-of-reads.Learnt,
+  scan-close-reads.Asked,
+  scan-close-reads.Learnt,
+) (scan-term-at t) scan-term.Post scan-term-Inv-loop scan-term-μ-loop
+scan-term-loop-less t c = search needs
+
+scan-term-loop-again : (t : ℕ) → scan-term-lts.Need-loop-again (
+  byte-reads.Asked,
+  byte-reads.Learnt,
+  is-mark-reads.Asked,
+  is-mark-reads.Learnt,
+  scan-symbol-reads.Asked,
+  scan-symbol-reads.Learnt,
+  name-end-reads.Asked,
+  name-end-reads.Learnt,
+  symbol-from-reads.Asked,
+  symbol-from-reads.Learnt,
+  is-applied-reads.Asked,
+  is-applied-reads.Learnt,
+  arity-reads.Asked,
+  arity-reads.Learnt,
+  scan-term-below t,
+  scan-term.Post,
+  higher-of-reads.Asked,
+  higher-of-reads.Learnt,
+  scan-close-reads.Asked,
+  scan-close-reads.Learnt,
+) (scan-term-at t) scan-term.Post scan-term-Inv-loop scan-term-μ-loop
+scan-term-loop-again t c = (search needs, (c .before .before .before .before .before .before .before .before .loop .inv .1) ∙ more-on _ _ _ _ _ _ _ _ _ _ _ (c .before .before .before .before .before .before .before .loop-test .taken) (c .before .before .before .before .before .before .byte2 .ensures) (c .before .before .before .before .before .if5 .taken) (c .before .before .before .before .scan-term .ensures) (c .before .before .e .given .1) (c .higher-of .ensures))
+
+scan-term-returns-5 : (t : ℕ) → scan-term-lts.Need-returns-5 (
+  byte-reads.Asked,
+  byte-reads.Learnt,
+  is-mark-reads.Asked,
+  is-mark-reads.Learnt,
+  scan-symbol-reads.Asked,
+  scan-symbol-reads.Learnt,
+  name-end-reads.Asked,
+  name-end-reads.Learnt,
+  symbol-from-reads.Asked,
+  symbol-from-reads.Learnt,
+  is-applied-reads.Asked,
+  is-applied-reads.Learnt,
+  arity-reads.Asked,
+  arity-reads.Learnt,
+  scan-term-below t,
+  scan-term.Post,
+  higher-of-reads.Asked,
+  higher-of-reads.Learnt,
+  scan-close-reads.Asked,
+  scan-close-reads.Learnt,
+) (scan-term-at t) scan-term.Post scan-term-Inv-loop scan-term-μ-loop
+scan-term-returns-5 t c = sym (term-applied _ _ _ _ _ _ _ _ _ _ _ _ (c .before .before .before .before .before .before .before .before .before .before .before .before .before .if1 .left) (c .before .before .before .before .before .before .before .before .before .before .before .before .byte .ensures) (c .before .before .before .before .before .before .before .before .before .before .before .is-mark .ensures) (c .before .before .before .before .before .before .before .before .before .before .if2 .left) (c .before .before .before .before .before .before .before .before .before .name-end .ensures) (c .before .before .before .before .before .before .before .before .symbol-from .ensures) (c .before .before .before .before .before .before .before .is-applied .ensures) (c .before .before .before .before .before .before .if3 .taken) (c .before .before .before .before .before .arity .ensures) (c .before .before .before .before .if4 .left) ∙ (c .before .before .before .loop .inv .1) ∙ more-other _ _ _ _ _ _ _ (c .before .before .loop-test .taken) (c .before .byte2 .ensures) (c .if5 .left))
+
+scan-term-scan-close-requires : (t : ℕ) → scan-term-lts.Need-scan-close-requires (
+  byte-reads.Asked,
+  byte-reads.Learnt,
+  is-mark-reads.Asked,
+  is-mark-reads.Learnt,
+  scan-symbol-reads.Asked,
+  scan-symbol-reads.Learnt,
+  name-end-reads.Asked,
+  name-end-reads.Learnt,
+  symbol-from-reads.Asked,
+  symbol-from-reads.Learnt,
+  is-applied-reads.Asked,
+  is-applied-reads.Learnt,
+  arity-reads.Asked,
+  arity-reads.Learnt,
+  scan-term-below t,
+  scan-term.Post,
+  higher-of-reads.Asked,
+  higher-of-reads.Learnt,
+  scan-close-reads.Asked,
+  scan-close-reads.Learnt,
+) (scan-term-at t) scan-term.Post scan-term-Inv-loop scan-term-μ-loop
+scan-term-scan-close-requires t c κs = search needs
+
+scan-term-returns-6 : (t : ℕ) → scan-term-lts.Need-returns-6 (
+  byte-reads.Asked,
+  byte-reads.Learnt,
+  is-mark-reads.Asked,
+  is-mark-reads.Learnt,
+  scan-symbol-reads.Asked,
+  scan-symbol-reads.Learnt,
+  name-end-reads.Asked,
+  name-end-reads.Learnt,
+  symbol-from-reads.Asked,
+  symbol-from-reads.Learnt,
+  is-applied-reads.Asked,
+  is-applied-reads.Learnt,
+  arity-reads.Asked,
+  arity-reads.Learnt,
+  scan-term-below t,
+  scan-term.Post,
+  higher-of-reads.Asked,
+  higher-of-reads.Learnt,
+  scan-close-reads.Asked,
+  scan-close-reads.Learnt,
+) (scan-term-at t) scan-term.Post scan-term-Inv-loop scan-term-μ-loop
+scan-term-returns-6 t c = more-closed _ _ _ _ _ _ _ (c .before .loop-test .left) (c .scan-close .ensures) ∙ sym (term-applied _ _ _ _ _ _ _ _ _ _ _ _ (c .before .before .before .before .before .before .before .before .before .before .before .before .if1 .left) (c .before .before .before .before .before .before .before .before .before .before .before .byte .ensures) (c .before .before .before .before .before .before .before .before .before .before .is-mark .ensures) (c .before .before .before .before .before .before .before .before .before .if2 .left) (c .before .before .before .before .before .before .before .before .name-end .ensures) (c .before .before .before .before .before .before .before .symbol-from .ensures) (c .before .before .before .before .before .before .is-applied .ensures) (c .before .before .before .before .before .if3 .taken) (c .before .before .before .before .arity .ensures) (c .before .before .before .if4 .left) ∙ (c .before .before .loop .inv .1))
+
+scan-term-returns-7 : (t : ℕ) → scan-term-lts.Need-returns-7 (
+  byte-reads.Asked,
+  byte-reads.Learnt,
+  is-mark-reads.Asked,
+  is-mark-reads.Learnt,
+  scan-symbol-reads.Asked,
+  scan-symbol-reads.Learnt,
+  name-end-reads.Asked,
+  name-end-reads.Learnt,
+  symbol-from-reads.Asked,
+  symbol-from-reads.Learnt,
+  is-applied-reads.Asked,
+  is-applied-reads.Learnt,
+  arity-reads.Asked,
+  arity-reads.Learnt,
+  scan-term-below t,
+  scan-term.Post,
+  higher-of-reads.Asked,
+  higher-of-reads.Learnt,
+  scan-close-reads.Asked,
+  scan-close-reads.Learnt,
+) (scan-term-at t) scan-term.Post scan-term-Inv-loop scan-term-μ-loop
+scan-term-returns-7 t c = term-unknown _ _ _ _ _ _ _ _ _ _ _ (c .before .before .before .before .before .before .before .if1 .left) (c .before .before .before .before .before .before .byte .ensures) (c .before .before .before .before .before .is-mark .ensures) (c .before .before .before .before .if2 .left) (c .before .before .before .name-end .ensures) (c .before .before .symbol-from .ensures) (c .before .is-applied .ensures) (c .if3 .left)
+
+pub +scan-term-spec : {M : Type 1} → statement M
++scan-term-spec = close μ-scan-term λ t. scan-term-lts.spec (
+  byte-reads.Asked,
+  byte-reads.Learnt,
+  is-mark-reads.Asked,
+  is-mark-reads.Learnt,
+  scan-symbol-reads.Asked,
+  scan-symbol-reads.Learnt,
+  name-end-reads.Asked,
+  name-end-reads.Learnt,
+  symbol-from-reads.Asked,
+  symbol-from-reads.Learnt,
+  is-applied-reads.Asked,
+  is-applied-reads.Learnt,
+  arity-reads.Asked,
+  arity-reads.Learnt,
+  scan-term-below t,
+  scan-term.Post,
+  higher-of-reads.Asked,
+  higher-of-reads.Learnt,
+  scan-close-reads.Asked,
+  scan-close-reads.Learnt,
+)
+    (scan-term-at t)
+    scan-term.Post
+    scan-term-Inv-loop
+    scan-term-μ-loop
+    (scan-term-returns t)
+    (scan-term-byte-requires t)
+    (scan-term-is-mark-requires t)
+    (scan-term-add-scan-symbol t)
+    (scan-term-scan-symbol-requires t)
+    (scan-term-returns-2 t)
+    (scan-term-name-end-requires t)
+    (scan-term-symbol-from-requires t)
+    (scan-term-is-applied-requires t)
+    (scan-term-arity-requires t)
+    (scan-term-returns-3 t)
+    (scan-term-loop-holds t)
+    (scan-term-byte-requires-2 t)
+    (scan-term-sub-scan-term t)
+    (scan-term-add-scan-term t)
+    (scan-term-scan-term-requires t)
+    (scan-term-enum-known-e t)
+    (scan-term-enum-told t)
+    (scan-term-returns-4 t)
+    (scan-term-higher-of-requires t)
+    (scan-term-sub-left t)
+    (scan-term-loop-less t)
+    (scan-term-loop-again t)
+    (scan-term-returns-5 t)
+    (scan-term-scan-close-requires t)
+    (scan-term-returns-6 t)
+    (scan-term-returns-7 t)

@@ -1,0 +1,23 @@
+use Rattle.scans.proofs.Laws.{level-none, level-some}
+use borrow.Author.Needs.{needs}
+use Rattle.scans.proofs.scan_level.Statement.{statement}
+use Rattle.scans.proofs.scan_level.Tie as tie
+
+read-number-requires : tie.Need-read-number-requires
+read-number-requires c κs = search needs
+
+enum-known-k : tie.Need-enum-known-k
+enum-known-k c = search needs
+
+enum-told : tie.Need-enum-told
+enum-told c = search needs
+
+returns : tie.Need-returns
+returns c = level-some _ _ _ _ _ (c .before .before .before .read-number .ensures) (c .before .k .given .1)
+
+returns-2 : tie.Need-returns-2
+returns-2 c = level-none _ _ _ (c .before .before .read-number .ensures) (c .enum-told .given .1)
+
+pub scan-level-spec : {M : Type 1} → statement M
+scan-level-spec =
+    tie.close (tie.spec read-number-requires enum-known-k enum-told returns returns-2)

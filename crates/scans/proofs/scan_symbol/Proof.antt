@@ -1,0 +1,27 @@
+use Rattle.scans.proofs.Laws.{symbol-none, symbol-some}
+use borrow.Author.Needs.{needs}
+use Rattle.scans.proofs.scan_symbol.Statement.{statement}
+use Rattle.scans.proofs.scan_symbol.Tie as tie
+
+read-number-requires : tie.Need-read-number-requires
+read-number-requires c κs = search needs
+
+enum-known-e : tie.Need-enum-known-e
+enum-known-e c = search needs
+
+scan-mark-requires : tie.Need-scan-mark-requires
+scan-mark-requires c κs = search needs
+
+enum-told : tie.Need-enum-told
+enum-told c = search needs
+
+returns : tie.Need-returns
+returns c = symbol-some _ _ _ _ _ _ (c .before .before .before .before .read-number .ensures) (c .before .before .e .given .1) (c .scan-mark .ensures)
+
+returns-2 : tie.Need-returns-2
+returns-2 c = symbol-none _ _ _ (c .before .before .read-number .ensures) (c .enum-told .given .1)
+
+pub scan-symbol-spec : {M : Type 1} → statement M
+scan-symbol-spec =
+    tie.close
+    (tie.spec read-number-requires enum-known-e scan-mark-requires enum-told returns returns-2)
