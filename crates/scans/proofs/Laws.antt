@@ -15,7 +15,7 @@ use Rattle.spellings.specs.declared.Number.{Number}
 use Rattle.spellings.specs.declared.Number.the-variants.{Value, Missing}
 use Rattle.spellings.specs.declared.Scan.{Scan}
 use Rattle.spellings.specs.declared.Scan.the-variants.{Term, Malformed}
-use Rattle.spellings.specs.Ranges.{sameRange, findByte, lineEnd, numberFrom, readNumber}
+use Rattle.spellings.specs.Ranges.{sameRange, findByte, numberFrom, readNumber}
 use Rattle.spellings.specs.Scanning.{nameFrom, nameEnd, nameSize, isNamed, symbolFrom, scanLevel, scanMark, scanSymbol, higher, scanMore, scanArguments, scanApplication, scanTerm}
 
 -- bytes of names
@@ -131,27 +131,23 @@ range-more k a i b j z h = rw (h, add-one k) (sym (range-last k a i b j))
 pub range-all : (n k : ℕ) (a : List ℕ) (i : ℕ) (b : List ℕ) (j : ℕ) (z : Bool) → k ≤ n → n ≤ k → z ≡ sameRange k a i b j → z ≡ sameRange n a i b j
 range-all n k a i b j z p q h = let e : k ≡ n = omega arith in rw e at h
 
--- the end of a line
-
-pub line-start : (x : List ℕ) (i : ℕ) → lineEnd x i ≡ findByte (length x - i) x 10 i
-unfolding lineEnd
-line-start x i = refl
+-- finding a byte
 
 -- what is left after one place
 one-less : (x : List ℕ) (i : ℕ) → i < length x → length x - i ≡ suc (length x - (i + 1))
 one-less x i h = omega arith
 
-pub line-stop : (x : List ℕ) (i : ℕ) → length x ≤ i → findByte (length x - i) x 10 i ≡ i
+pub find-stop : (x : List ℕ) (c i : ℕ) → length x ≤ i → findByte (length x - i) x c i ≡ i
 unfolding findByte
-line-stop x i h = let e : length x - i ≡ 0 = omega arith in rw e
+find-stop x c i h = let e : length x - i ≡ 0 = omega arith in rw e
 
-pub line-here : (x : List ℕ) (i : ℕ) → i < length x → getD x i 0 ≡ 10 → findByte (length x - i) x 10 i ≡ i
+pub find-here : (x : List ℕ) (c i : ℕ) → i < length x → getD x i 0 ≡ c → findByte (length x - i) x c i ≡ i
 unfolding findByte
-line-here x i h e = rw (one-less x i h, eq-eqb (getD x i 0) 10 e)
+find-here x c i h e = rw (one-less x i h, eq-eqb (getD x i 0) c e)
 
-pub line-on : (x : List ℕ) (i : ℕ) → i < length x → (getD x i 0 ≡ 10 → ⊥) → findByte (length x - i) x 10 i ≡ findByte (length x - (i + 1)) x 10 (i + 1)
+pub find-on : (x : List ℕ) (c i : ℕ) → i < length x → (getD x i 0 ≡ c → ⊥) → findByte (length x - i) x c i ≡ findByte (length x - (i + 1)) x c (i + 1)
 unfolding findByte
-line-on x i h e = rw (one-less x i h, ne-eqb (getD x i 0) 10 e)
+find-on x c i h e = rw (one-less x i h, ne-eqb (getD x i 0) c e)
 
 -- the end of a name
 

@@ -14,7 +14,7 @@ ghost use lib.Dec.{eqb, ltb};
 ghost use lib.ListN.{length, getD};
 ghost use Rattle.sheets.specs.Bytes.{isDigit, isLetter, isNameByte};
 ghost use Rattle.tables.specs.Layout.{isFunctionBit};
-ghost use Rattle.spellings.specs.Ranges.{sameRange, lineEnd, numberFrom, numberZero, readNumber};
+ghost use Rattle.spellings.specs.Ranges.{sameRange, findByte, lineEnd, numberFrom, numberZero, readNumber};
 ghost use Rattle.spellings.specs.Scanning.{nameEnd, nameSize, isNamed, symbolFrom, scanLevel, scanMark, scanSymbol, higher, scanTerm};
 
 // 0 to 9
@@ -125,18 +125,25 @@ pub fn same_range(n: usize, a: &[u8], i: usize, b: &[u8], j: usize) -> bool
     same_inside(n, a, i, b, j)
 }
 
-// Where the line from i on ends: at its LF, or at the end of the text.
-pub fn line_end(text: &[u8], i: usize) -> usize
-    ensures { λ r. ⌜ r ≡ lineEnd (now (text .entry)) i ⌝ }
+// The first place from i on that has the byte c; the end of the text, or i past it, if none has.
+pub fn find_byte(text: &[u8], c: u8, i: usize) -> usize
+    ensures { λ r. ⌜ r ≡ findByte (length (now (text .entry)) - i) (now (text .entry)) c i ⌝ }
 {
     let mut at = i;
     while at < text.len() {
-        if text[at] == b'\n' {
+        if text[at] == c {
             return at;
         }
         at += 1;
     }
     at
+}
+
+// Where the line from i on ends: at its LF, or at the end of the text.
+pub fn line_end(text: &[u8], i: usize) -> usize
+    ensures { λ r. ⌜ r ≡ lineEnd (now (text .entry)) i ⌝ }
+{
+    find_byte(text, b'\n', i)
 }
 
 // A number, with the value v before place i.
