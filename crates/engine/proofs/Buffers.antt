@@ -7,7 +7,7 @@ use Rattle.engine.specs.EngineRun.{Answer, Result, answered, turnedBack,
 use Rattle.engine.specs.Promises.{HandedBack, handedBack, RunContract, BuffersDoNotMatter}
 
 -- the first bytes of a text put in front of others
-take-front : (x y : List ℕ) → take (length x) (x ++ y) ≡ x
+pub take-front : (x y : List ℕ) → take (length x) (x ++ y) ≡ x
 take-front [] y = refl
 take-front (a ∷ x) y = ap (a ∷_) (take-front x y)
 

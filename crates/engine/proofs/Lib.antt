@@ -3,4 +3,9 @@ pub mod Cases
 pub mod Answered
 pub mod Demand3
 pub mod Buffers
+pub mod Callers
 pub mod Promises
+pub mod Refusals
+pub mod Gates
+pub mod Laws
+pub mod Answering

@@ -12,10 +12,11 @@ use Rattle.texts.specs.Spelled.{SpellsDerivation}
 use Rattle.texts.specs.Promises.{searchText}
 use Rattle.texts.proofs.Promises.{textSound}
 use Rattle.engine.specs.EngineRun.{Told, toldProved, toldNo, toldSpent, Answer, answered, answerTo, engineRun}
-use Rattle.engine.specs.Promises.{RunSound, AllDemand3, BuffersDoNotMatter}
+use Rattle.engine.specs.Promises.{RunSound, AllDemand3, BuffersDoNotMatter, CallersTold, ToldAgain}
 use Rattle.engine.proofs.Answered.{answered-answers}
 use Rattle.engine.proofs.Demand3.{demand3}
 use Rattle.engine.proofs.Buffers as Buffers
+use Rattle.engine.proofs.Callers.{callers-told, told-again}
 
 -- an answer that tells proved has the text of a proved search
 spells : (bytes : List ℕ) (s : Sheet) (budget : ℕ) (o : Outcome) (x : Answer) → readSheet bytes ≡ sheet s → budget ≤ maxBudget → search budget (s .clauses) (s .goal) ≡ o
@@ -40,3 +41,10 @@ allDemand3 bytes s read = let g = good bytes s read in demand3 bytes s read (g .
 -- T10
 pub buffersDoNotMatter : BuffersDoNotMatter
 buffersDoNotMatter = Buffers.buffersDoNotMatter
+
+-- T5 and T8 for callers
+pub callersTold : CallersTold
+callersTold = callers-told runSound allDemand3
+
+pub toldAgain : ToldAgain
+toldAgain = told-again allDemand3

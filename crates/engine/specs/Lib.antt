@@ -1,3 +1,5 @@
 -- The engine's run: what it answers and what each lent buffer then holds, for every input.
 pub mod EngineRun
 pub mod Promises
+pub mod Handed
+pub mod Answering

@@ -1,4 +1,4 @@
--- Promises T1, T8 and T10 about the engine's run (demands 1 and 3).
+-- Promises T1, T5, T8 and T10 about the engine's run (demands 1 to 3).
 use Prim.Native.Nat.{ℕ, _≤_, _<_}
 use mathlib.Core.Path.{_≡_}
 use mathlib.Core.List.{List}
@@ -7,7 +7,7 @@ use lib.ListN.{length, take}
 use Rattle.sequents.specs.Symbols.{Symbol}
 use Rattle.sequents.specs.Sequents.{Environment}
 use Rattle.sequents.specs.Derivations.{InstanceDerivation}
-use Rattle.search.specs.Search.{Verdict, ComesTo, ends}
+use Rattle.search.specs.Search.{Verdict, proved, noProof, ComesTo, ends}
 use Rattle.sheets.specs.Limits.{maxBudget}
 use Rattle.sheets.specs.Sheets.{Sheet, Refusal, Read, sheet, readSheet}
 use Rattle.texts.specs.Spelled.{SpellsDerivation}
@@ -71,3 +71,36 @@ BuffersDoNotMatter = (bytes : List ℕ) (budget : ℕ) (table work answer table�
     → RunContract bytes budget table work answer table′ work′ answer′ r → RunContract bytes budget table₂ work₂ answer₂ table₂′ work₂′ answer₂′ r₂
     → length table ≡ length table₂ → length work ≡ length work₂ → length answer ≡ length answer₂
     → (r ≡ r₂) × (take (r .length) answer′ ≡ take (r₂ .length) answer₂′)
+
+-- What a search comes to, in the numbers handed back.
+unfoldable pub verdictTold : Verdict → ℕ
+verdictTold (proved s ls) = 0
+verdictTold noProof = 1
+
+-- T5 and T8 in the numbers handed back: what a caller is told by a run that keeps T1.
+pub record CallerTold (bytes : List ℕ) (budget : ℕ) (answer answer′ : List ℕ) (r : HandedBack) : Type 0 where
+  -- told an outcome: the bytes are a sheet
+  pub isSheet : r .outcome ≤ 2 → (s : Sheet) × (readSheet bytes ≡ sheet s)
+  -- told proved: the text in the answer buffer spells a derivation of an instance of the goal
+  pub spells : (s : Sheet) → readSheet bytes ≡ sheet s → r .outcome ≡ 0 → SpellsDerivation s (take (r .length) answer′)
+  -- told no: no instance of the goal has a derivation
+  pub neverNo : (s : Sheet) → readSheet bytes ≡ sheet s → r .outcome ≡ 1 → (e : Environment Symbol) → InstanceDerivation (s .clauses) (s .goal) e → ⊥
+  -- told proved or no: what the walk comes to, after as many units as are told
+  pub comesTo : (s : Sheet) → readSheet bytes ≡ sheet s → r .outcome ≤ 1 → (v : Verdict) × ComesTo (s .clauses) (s .goal) (r .units) v × (r .outcome ≡ verdictTold v)
+  -- told an outcome: spent exactly if the walk needs more units than the budget
+  pub spends : (s : Sheet) → readSheet bytes ≡ sheet s → r .outcome ≤ 2 → (r .outcome ≡ 2) ↔ ((n : ℕ) (v : Verdict) → ComesTo (s .clauses) (s .goal) n v → budget < n)
+  -- the text lies in the answer buffer
+  pub fits : r .length ≤ length answer
+
+-- Every caller of such a run.
+abbrev pub CallersTold : Type 0
+CallersTold = (bytes : List ℕ) (budget : ℕ) (table work answer table′ work′ answer′ : List ℕ) (r : HandedBack)
+    → RunContract bytes budget table work answer table′ work′ answer′ r → CallerTold bytes budget answer answer′ r
+
+-- T8 in the numbers handed back: who was told proved or no and asks again with a larger permitted budget is handed back the same,
+-- with the same text, or refusal 2, 5 or 12.
+abbrev pub ToldAgain : Type 0
+ToldAgain = (bytes : List ℕ) (budget : ℕ) (table work answer table′ work′ answer′ : List ℕ) (r : HandedBack) (larger : ℕ) (table₂ work₂ answer₂ table₂′ work₂′ answer₂′ : List ℕ) (r₂ : HandedBack)
+    → RunContract bytes budget table work answer table′ work′ answer′ r → RunContract bytes larger table₂ work₂ answer₂ table₂′ work₂′ answer₂′ r₂
+    → r .outcome ≤ 1 → budget ≤ larger → larger ≤ maxBudget
+    → ((r₂ ≡ r) × (take (r₂ .length) answer₂′ ≡ take (r .length) answer′)) ⊎ ((r₂ .number ≡ 2) ⊎ ((r₂ .number ≡ 5) ⊎ (r₂ .number ≡ 12)))

@@ -1,0 +1,31 @@
+// The sheet runner of document 01: reads a sheet from standard input, runs it with 256 units, and prints the answer text, or `X`,
+// number and line of the refusal. A sheet of more bytes than it reads has over 16,384 of them, so refusal 1 is told all the same.
+use libc::STDIN_FILENO;
+use libc::STDOUT_FILENO;
+use memory::wide;
+use outcomes::Outcome;
+
+fn print_refusal(number: u32, line: u32) {
+    io::write_all(STDOUT_FILENO, b"X\t");
+    io::print_decimal(STDOUT_FILENO, number as u64);
+    io::write_all(STDOUT_FILENO, b"\t");
+    io::print_decimal(STDOUT_FILENO, line as u64);
+    io::write_all(STDOUT_FILENO, b"\n");
+}
+
+fn main() {
+    let mut sheet = io::large_buffer();
+    let n = io::read_full(STDIN_FILENO, &mut sheet);
+    let mut table = [0u32; 8192];
+    let mut work = [0u32; 16384];
+    let mut answer = [0u8; 16384];
+    let r = engine::run(&sheet[..n], 256, &mut table, &mut work, &mut answer);
+    let length = wide(r.length);
+    let outcome = r.outcome;
+    match outcome {
+        Outcome::Refused(f) => print_refusal(f.number, f.line),
+        _ => {
+            io::write_all(STDOUT_FILENO, &answer[..length]);
+        }
+    }
+}
