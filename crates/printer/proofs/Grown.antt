@@ -108,7 +108,3 @@ module _ (limit : ℕ) (small : limit ≤ 65535) (g u : Page) where
 
   pub term-after : (sheet t : List ℕ) (rank turns a : ℕ) → u ≡ writeTerm rank sheet t turns limit g a → g .pen .at ≤ u .pen .at
   term-after sheet t rank turns a e = after g _ u (term-grown limit small sheet t rank turns g a) e
-
--- The measure falls where the position has not fallen and the rank is one less.
-pub less : (limit at to rank m : ℕ) → limit - at + rank ≡ m → (rank ≡ 0 → ⊥) → at ≤ to → limit - to + (rank - 1) < m
-less limit at to rank m e n h = omega arith

@@ -22,8 +22,9 @@ use writing::Pen;
 ghost use mathlib.Core.Path.{_≡_};
 ghost use mathlib.Core.List.{List};
 ghost use Prim.Native.Nat.{ℕ, _≤_};
-ghost use Rattle.writing.specs.Marks.{page};
+ghost use Rattle.writing.specs.Marks.{page, showVariable, showConstant};
 ghost use Rattle.writing.specs.WriteTerms.{emitTo, writeName, separator, writeTerm, termTo};
+ghost use Rattle.printer.specs.State.{stateOf, penIn, boundsIn};
 
 pub fn emit_to(limit: u32, out: &mut [u8], p: Pen, b: u8) -> Pen
     ensures { λ q. ⌜ ((m : List ℕ) → page m (now (out .exit)) q ≡ emitTo limit (page m (now (out .entry)) p) b) ⌝ }
@@ -51,52 +52,100 @@ fn separator(j: u32) -> u8
     b','
 }
 
+// The state of a writing is the pen, the turns and the limit. All levels of a term share one by reference, so that a level takes
+// little stack: 192 bytes at -O3. It is an array since the prover has no rules for a reference to a struct.
+fn pen_in(s: &[u32; 5]) -> Pen
+    ensures { λ p. ⌜ p ≡ penIn (now (s .entry)) ⌝ }
+{
+    Pen {
+        at: s[0],
+        variables: s[1],
+        constants: s[2],
+    }
+}
+
+fn put_pen(s: &mut [u32; 5], p: Pen)
+    ensures { λ _. ⌜ now (s .exit) ≡ stateOf p (boundsIn (now (s .entry))) ⌝ }
+{
+    let turns = s[3];
+    let limit = s[4];
+    *s = [p.at, p.variables, p.constants, turns, limit];
+}
+
+// The functions above, and those of pages that show a symbol, on the pen in the state.
+fn emit_in(out: &mut [u8], s: &mut [u32; 5], b: u8)
+    ensures { λ _. ⌜ ((m : List ℕ) → page m (now (out .exit)) (penIn (now (s .exit))) ≡ emitTo (boundsIn (now (s .entry)) .limit) (page m (now (out .entry)) (penIn (now (s .entry)))) b) × (boundsIn (now (s .exit)) ≡ boundsIn (now (s .entry))) ⌝ }
+{
+    let q = emit_to(s[4], out, pen_in(s), b);
+    put_pen(s, q);
+}
+
+fn write_name_in(sheet: &[u8], t: &[u32], out: &mut [u8], s: &mut [u32; 5], f: u32)
+    ensures { λ _. ⌜ ((m : List ℕ) → page m (now (out .exit)) (penIn (now (s .exit))) ≡ writeName (now (sheet .entry)) (now (t .entry)) (boundsIn (now (s .entry)) .limit) (page m (now (out .entry)) (penIn (now (s .entry)))) f) × (boundsIn (now (s .exit)) ≡ boundsIn (now (s .entry))) ⌝ }
+{
+    let q = write_name(sheet, t, s[4], out, pen_in(s), f);
+    put_pen(s, q);
+}
+
+fn show_variable_in(w: &mut [u32], out: &mut [u8], s: &mut [u32; 5], x: u32)
+    ensures { λ _. ⌜ (page (now (w .exit)) (now (out .exit)) (penIn (now (s .exit))) ≡ showVariable (boundsIn (now (s .entry)) .limit) (page (now (w .entry)) (now (out .entry)) (penIn (now (s .entry)))) x) × (boundsIn (now (s .exit)) ≡ boundsIn (now (s .entry))) ⌝ }
+{
+    let q = show_variable(s[4], w, out, pen_in(s), x);
+    put_pen(s, q);
+}
+
+fn show_constant_in(w: &mut [u32], out: &mut [u8], s: &mut [u32; 5], x: u32)
+    ensures { λ _. ⌜ (page (now (w .exit)) (now (out .exit)) (penIn (now (s .exit))) ≡ showConstant (boundsIn (now (s .entry)) .limit) (page (now (w .entry)) (now (out .entry)) (penIn (now (s .entry)))) x) × (boundsIn (now (s .exit)) ≡ boundsIn (now (s .entry))) ⌝ }
+{
+    let q = show_constant(s[4], w, out, pen_in(s), x);
+    put_pen(s, q);
+}
+
 // The term of word a: its name, and its arguments in brackets by calls of itself. It ends since the remaining answer bytes plus the
-// rank fall.
+// rank fall. The sheet and the table are lent as references to slices: a slice itself is a pair, which each level would copy.
 pub fn write_term(
     rank: u32,
-    sheet: &[u8],
-    t: &[u32],
-    turns: u32,
-    limit: u32,
+    sheet: &&[u8],
+    t: &&[u32],
     w: &mut [u32],
     out: &mut [u8],
-    p: Pen,
+    s: &mut [u32; 5],
     a: u32,
-) -> Pen
-    requires { ⌜ limit ≤ 65535 ⌝ }
-    ensures { λ q. ⌜ page (now (w .exit)) (now (out .exit)) q ≡ writeTerm rank (now (sheet .entry)) (now (t .entry)) turns limit (page (now (w .entry)) (now (out .entry)) p) a ⌝ }
+)
+    requires { ⌜ boundsIn (now s) .limit ≤ 65535 ⌝ }
+    ensures { λ _. ⌜ (page (now (w .exit)) (now (out .exit)) (penIn (now (s .exit))) ≡ writeTerm rank (now (now (sheet .entry))) (now (now (t .entry))) (boundsIn (now (s .entry)) .turns) (boundsIn (now (s .entry)) .limit) (page (now (w .entry)) (now (out .entry)) (penIn (now (s .entry)))) a) × (boundsIn (now (s .exit)) ≡ boundsIn (now (s .entry))) ⌝ }
 {
     if rank == 0 {
-        return p;
+        return;
     }
-    if limit < p.at {
-        return p;
+    if s[4] < s[0] {
+        return;
     }
-    let b = seek(turns, w, a);
+    let b = seek(s[3], w, a);
     let tag = tag_of(b);
     if tag == 1 {
-        return show_variable(limit, w, out, p, name_of(b));
+        show_variable_in(w, out, s, name_of(b));
+        return;
     }
     if tag == 2 {
-        return show_constant(limit, w, out, p, name_of(b));
+        show_constant_in(w, out, s, name_of(b));
+        return;
     }
     let n = node_of(b);
-    let s = write_name(sheet, t, limit, out, p, label(t, n));
-    let c = child_count(t, n);
+    write_name_in(*sheet, *t, out, s, label(*t, n));
+    let c = child_count(*t, n);
     if c == 0 {
-        return s;
+        return;
     }
     let f = frame_of(b);
-    let mut q = s;
     let mut j: u32 = 0;
     while j < c {
-        let e = emit_to(limit, out, q, separator(j));
-        let x = word_of(t, w, child(t, n, j), f);
-        q = write_term(rank - 1, sheet, t, turns, limit, w, out, e, x);
+        emit_in(out, s, separator(j));
+        let x = word_of(*t, w, child(*t, n, j), f);
+        write_term(rank - 1, sheet, t, w, out, s, x);
         j += 1;
     }
-    emit_to(limit, out, q, b')')
+    emit_in(out, s, b')');
 }
 
 // The same, at a rank that suffices.
@@ -113,5 +162,7 @@ pub fn term_to(
     requires { ⌜ limit ≤ 65535 ⌝ }
     ensures { λ q. ⌜ page (now (w .exit)) (now (out .exit)) q ≡ termTo (now (sheet .entry)) (now (t .entry)) turns limit (page (now (w .entry)) (now (out .entry)) p) a ⌝ }
 {
-    write_term(up(limit), sheet, t, turns, limit, w, out, p, a)
+    let mut s = [p.at, p.variables, p.constants, turns, limit];
+    write_term(up(limit), &sheet, &t, w, out, &mut s, a);
+    pen_in(&s)
 }

@@ -1,0 +1,3 @@
+-- The interface for C and Rust.
+pub mod Results
+pub mod RulesRun

@@ -1,0 +1,22 @@
+-- What `rules_run` promises: the engine's contract, and what the engine hands back as numbers in a lent list.
+use Prim.Native.Nat.{ℕ}
+use mathlib.Core.Path.{_≡_}
+use mathlib.Core.List.{List, [], _∷_}
+use lib.ListN.{length}
+use Rattle.engine.specs.EngineRun.{engineRun}
+use Rattle.engine.specs.Promises.{HandedBack, handedBack, RunContract}
+use Rattle.rules.specs.Results.{putFront}
+
+-- Outcome, units, text length, refusal number, line.
+unfoldable pub runNumbers : HandedBack → List ℕ
+runNumbers h = h .outcome ∷ h .units ∷ h .length ∷ h .number ∷ h .line ∷ []
+
+-- What the engine hands back for these bytes, this budget and buffers of these lengths.
+unfoldable pub runOf : List ℕ → ℕ → List ℕ → List ℕ → List ℕ → HandedBack
+runOf bytes budget table work answer = handedBack (engineRun bytes budget (length table) (length work) (length answer))
+
+-- For every input: the lent buffers as the engine leaves them, the outcome's number returned, all five numbers in `result`.
+pub record RulesRun (bytes : List ℕ) (budget : ℕ) (table work answer result table′ work′ answer′ result′ : List ℕ) (n : ℕ) : Type 0 where
+  pub runs : RunContract bytes budget table work answer table′ work′ answer′ (runOf bytes budget table work answer)
+  pub value : n ≡ runOf bytes budget table work answer .outcome
+  pub resultEnd : result′ ≡ putFront (runNumbers (runOf bytes budget table work answer)) result

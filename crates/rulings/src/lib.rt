@@ -1,0 +1,216 @@
+// Judging an answer text line by line: the first line that breaks, or valid. Each function is a definition of the crate judging, and
+// its contract says so.
+use bindings::bind_line;
+use bindings::open_line;
+use clauses::clause_line;
+use judging::Registers;
+use right_rules::all_line;
+use right_rules::and_line;
+use right_rules::assume_line;
+use right_rules::or_line;
+use right_rules::some_line;
+use right_rules::true_line;
+use scans::line_end;
+use showings::show_from;
+use spellings::Shown;
+use stages::broken;
+use stages::on_counts;
+use stages::start;
+use tables::kind;
+ghost use mathlib.Core.Path.{_≡_};
+ghost use mathlib.Core.List.{List};
+ghost use Prim.Native.Nat.{ℕ, _+_, _<_, _≤_};
+ghost use lib.ListN.{length};
+ghost use Rattle.judging.specs.Sequents.{made};
+ghost use Rattle.judging.specs.Judging.{quantifierLine, connectiveLine, sequentLine, stageLine, countLine, orderLine, judgeLine, judged, endVerdict, judgeText};
+
+// The goal is E or U.
+pub fn quantifier_line(
+    sheet: &[u8],
+    t: &[u32],
+    symbols: u32,
+    text: &[u8],
+    w: &mut [u32],
+    r: Registers,
+    q: u32,
+    i: usize,
+    e: usize,
+) -> Registers
+    requires { ⌜ (i + 7 < 4294967296) × (e < 4294967296) ⌝ }
+    ensures { λ s. ⌜ made (now (w .exit)) s ≡ quantifierLine (now (sheet .entry)) (now (t .entry)) symbols (now (text .entry)) (now (w .entry)) r q i e ⌝ }
+{
+    if kind(t, r.node) == 7 {
+        return some_line(sheet, t, symbols, text, w, r, q, i, e);
+    }
+    all_line(t, text, w, r, q, i, e)
+}
+
+// The goal is no atom and not Y.
+pub fn connective_line(
+    sheet: &[u8],
+    t: &[u32],
+    symbols: u32,
+    text: &[u8],
+    w: &mut [u32],
+    r: Registers,
+    q: u32,
+    i: usize,
+    e: usize,
+) -> Registers
+    requires { ⌜ (q + 1 < 4294967296) × (i + 7 < 4294967296) × (e < 4294967296) ⌝ }
+    ensures { λ s. ⌜ made (now (w .exit)) s ≡ connectiveLine (now (sheet .entry)) (now (t .entry)) symbols (now (text .entry)) (now (w .entry)) r q i e ⌝ }
+{
+    let sort = kind(t, r.node);
+    if sort == 4 {
+        return and_line(t, text, w, r, q, i, e);
+    }
+    if sort == 5 {
+        return or_line(t, text, r, i, e);
+    }
+    if sort == 6 {
+        return assume_line(t, text, w, r, q, i, e);
+    }
+    quantifier_line(sheet, t, symbols, text, w, r, q, i, e)
+}
+
+// A D line, by the kind of the goal that is due.
+pub fn sequent_line(
+    sheet: &[u8],
+    t: &[u32],
+    symbols: u32,
+    clauses: u32,
+    text: &[u8],
+    w: &mut [u32],
+    r: Registers,
+    q: u32,
+    i: usize,
+    e: usize,
+) -> Registers
+    requires { ⌜ (length (now text) < 4294967296) × (q + 1 < 4294967296) × (i + 7 < 4294967296) × (e < 4294967296) ⌝ }
+    ensures { λ s. ⌜ made (now (w .exit)) s ≡ sequentLine (now (sheet .entry)) (now (t .entry)) symbols clauses (now (text .entry)) (now (w .entry)) r q i e ⌝ }
+{
+    let sort = kind(t, r.node);
+    if sort == 2 {
+        return clause_line(sheet, t, symbols, clauses, text, w, r, q, i, e);
+    }
+    if sort == 3 {
+        return true_line(text, w, r, i, e);
+    }
+    connective_line(sheet, t, symbols, text, w, r, q, i, e)
+}
+
+// A line, by the stage; where no line is due it is a surplus one.
+pub fn stage_line(
+    sheet: &[u8],
+    t: &[u32],
+    symbols: u32,
+    clauses: u32,
+    goal: u32,
+    text: &[u8],
+    w: &mut [u32],
+    r: Registers,
+    q: u32,
+    i: usize,
+    e: usize,
+) -> Registers
+    requires { ⌜ (length (now text) < 4294967296) × (q + 1 < 4294967296) × (i + 7 < 4294967296) × (e < 4294967296) ⌝ }
+    ensures { λ s. ⌜ made (now (w .exit)) s ≡ stageLine (now (sheet .entry)) (now (t .entry)) symbols clauses goal (now (text .entry)) (now (w .entry)) r q i e ⌝ }
+{
+    let stage = r.stage;
+    if stage == 0 {
+        return open_line(t, goal, text, r, i, e);
+    }
+    if stage == 1 {
+        return bind_line(sheet, t, symbols, goal, text, w, r, q, i, e);
+    }
+    if stage == 2 {
+        return sequent_line(sheet, t, symbols, clauses, text, w, r, q, i, e);
+    }
+    broken(r)
+}
+
+// The symbols in the line are numbered by first showing.
+pub fn count_line(text: &[u8], r: Registers, i: usize, e: usize) -> Registers
+    ensures { λ s. ⌜ ((w : List ℕ) → made w s ≡ countLine (now (text .entry)) (made w r) i e) ⌝ }
+{
+    match show_from(text, i, e, r.made, r.leftover) {
+        Shown::Counts(m, l) => on_counts(r, m, l),
+        Shown::Misnumbered => broken(r),
+    }
+}
+
+// Unless the line has broken already.
+pub fn order_line(text: &[u8], r: Registers, i: usize, e: usize) -> Registers
+    ensures { λ s. ⌜ ((w : List ℕ) → made w s ≡ orderLine (now (text .entry)) (made w r) i e) ⌝ }
+{
+    let stage = r.stage;
+    if stage == 4 {
+        return r;
+    }
+    count_line(text, r, i, e)
+}
+
+// Line q, from i to e: at its stage, then its numbering.
+pub fn judge_line(
+    sheet: &[u8],
+    t: &[u32],
+    symbols: u32,
+    clauses: u32,
+    goal: u32,
+    text: &[u8],
+    w: &mut [u32],
+    r: Registers,
+    q: u32,
+    i: usize,
+    e: usize,
+) -> Registers
+    requires { ⌜ (length (now text) < 4294967296) × (q + 1 < 4294967296) × (i + 7 < 4294967296) × (e < 4294967296) ⌝ }
+    ensures { λ s. ⌜ made (now (w .exit)) s ≡ judgeLine (now (sheet .entry)) (now (t .entry)) symbols clauses goal (now (text .entry)) (now (w .entry)) r q i e ⌝ }
+{
+    let s = stage_line(sheet, t, symbols, clauses, goal, text, w, r, q, i, e);
+    order_line(text, s, i, e)
+}
+
+// No LF from i on: right if no byte is left and no line is due.
+pub fn end_verdict(text: &[u8], r: Registers, q: u32, i: usize) -> u32
+    requires { ⌜ q + 1 < 4294967296 ⌝ }
+    ensures { λ v. ⌜ v ≡ endVerdict (now (text .entry)) r q i ⌝ }
+{
+    if i == text.len() {
+        if r.stage == 3 {
+            return 0;
+        }
+        return q + 1;
+    }
+    q + 1
+}
+
+// The verdict on the whole text: 0 for valid, or the number of the line that breaks, counted from 1.
+pub fn judge_text(
+    sheet: &[u8],
+    t: &[u32],
+    symbols: u32,
+    clauses: u32,
+    goal: u32,
+    text: &[u8],
+    w: &mut [u32],
+) -> u32
+    requires { ⌜ length (now text) + 7 ≤ 4294967296 ⌝ }
+    ensures { λ v. ⌜ judged (now (w .exit)) v ≡ judgeText (now (sheet .entry)) (now (t .entry)) symbols clauses goal (now (text .entry)) (now (w .entry)) ⌝ }
+{
+    let mut r = start();
+    let mut q: u32 = 0;
+    let mut i: usize = 0;
+    let mut e = line_end(text, 0);
+    while e < text.len() {
+        r = judge_line(sheet, t, symbols, clauses, goal, text, w, r, q, i, e);
+        let stage = r.stage;
+        if stage == 4 {
+            return q + 1;
+        }
+        q += 1;
+        i = e + 1;
+        e = line_end(text, i);
+    }
+    end_verdict(text, r, q, i)
+}

@@ -1,0 +1,52 @@
+use Prim.Native.Nat.{_-_}
+use mathlib.Core.Path.{_≡_, sym, _∙_}
+use Rattle.judging.specs.Sequents.{freeFrom}
+use Rattle.stages.proofs.Laws.{free-none, free-here, free-on}
+use borrow.Author.Needs.{needs}
+use Rattle.stages.proofs.free_from.Statement.{statement}
+use Rattle.stages.proofs.free_from.Tie as tie
+
+abbrev Inv-loop : tie.InvT-loop
+Inv-loop mask v at₀ at = freeFrom (8 - v) mask v ≡ freeFrom (8 - at) mask at
+
+abbrev μ-loop : tie.MeasureT-loop
+μ-loop mask v at₀ at = 8 - at
+
+loop-holds : tie.Need-loop-holds Inv-loop μ-loop
+loop-holds c = search needs
+
+cast-bit-of : tie.Need-cast-bit-of Inv-loop μ-loop
+cast-bit-of c = search needs
+
+bit-of-requires : tie.Need-bit-of-requires Inv-loop μ-loop
+bit-of-requires c κs = search needs
+
+returns : tie.Need-returns Inv-loop μ-loop
+returns c = sym ((c .before .before .before .loop .inv) ∙ free-here _ _ _ (c .before .before .loop-test .taken) (c .before .bit-of .ensures) (c .if1 .taken))
+
+add-at : tie.Need-add-at Inv-loop μ-loop
+add-at c = search needs
+
+loop-less : tie.Need-loop-less Inv-loop μ-loop
+loop-less c = search needs
+
+loop-again : tie.Need-loop-again Inv-loop μ-loop
+loop-again c = (c .before .before .before .loop .inv) ∙ free-on _ _ _ (c .before .before .loop-test .taken) (c .before .bit-of .ensures) (c .if1 .left)
+
+returns-2 : tie.Need-returns-2 Inv-loop μ-loop
+returns-2 c = sym ((c .before .loop .inv) ∙ free-none _ _ (c .loop-test .left))
+
+pub free-from-spec : {M : Type 1} → statement M
+free-from-spec =
+    tie.close
+    (tie.spec
+    Inv-loop
+    μ-loop
+    loop-holds
+    cast-bit-of
+    bit-of-requires
+    returns
+    add-at
+    loop-less
+    loop-again
+    returns-2)
