@@ -1,19 +1,14 @@
 -- T6 of the checker: what it says where it turns nothing back.
-use Prim.Native.Nat.{ℕ, suc, _≤_}
-use mathlib.Core.Path.{_≡_, refl, sym, _∙_, ap, subst}
+use Prim.Native.Nat.{ℕ}
+use mathlib.Core.Path.{_≡_, refl, sym, _∙_}
 use mathlib.Core.Bool.{Bool, true, false}
 use mathlib.Core.List.{List}
-use mathlib.Core.Logic.{_⊎_, inl, inr, _↔_}
 use native.Mathlib.Omega.{arith}
-use lib.Dec.{ltb}
-use lib.ListN.{length}
-use borrow.Author.Tests.{le-ltb}
-use Rattle.sheets.specs.Limits.{maxSheetBytes, tableNumbers, maxTextBytes}
 use Rattle.sheets.specs.Sheets.{Sheet, Refusal, refusal, Read, sheet, refused, readSheet}
-use Rattle.texts.specs.Judging.{Judgement, valid, invalid, judge}
+use Rattle.texts.specs.Judging.{Judgement, judge}
 use Rattle.texts.specs.Promises.{CheckerExact}
-use Rattle.checker.specs.CheckText.{Checked, judged, turnedBack, countLf, checkSheet, turnBackIf, checkText}
-use Rattle.checker.specs.Promises.{CheckExact, AllExact}
+use Rattle.checker.specs.CheckText.{Checked, judged, turnedBack, checkSheet, turnBackIf, checkText}
+use Rattle.checker.specs.Promises.{AllExact}
 
 -- a refusal is no judgement
 refused-judged : (r : Refusal) (j : Judgement) → turnedBack r ≡ judged j → ⊥

@@ -1,2 +1,8 @@
 pub mod Exact
+pub mod LineFeeds
+pub mod Refusals
+pub mod Parts
+pub mod Judged
+pub mod Gates
+pub mod Callers
 pub mod Promises

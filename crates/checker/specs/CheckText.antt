@@ -1,6 +1,6 @@
 -- Document 01, "Turned back, in checking order", for the checker: refusals 1, 2, 4, 5, 6 to 11, or the judgement; and the final
 -- contents of each lent buffer. A function of the sheet's bytes, the text's bytes and the lengths of the lent buffers.
-use Prim.Native.Nat.{ℕ, zero, suc, _*_}
+use Prim.Native.Nat.{ℕ, suc}
 use mathlib.Core.Bool.{Bool, true, false, cond}
 use mathlib.Core.List.{List, [], _∷_}
 use lib.Dec.{eqb, leb, ltb}
@@ -8,7 +8,7 @@ use lib.ListN.{length}
 use Rattle.sheets.specs.Limits.{maxSheetBytes, tableNumbers, maxTextBytes}
 use Rattle.sheets.specs.Buffers.{demanded, zeroed}
 use Rattle.sheets.specs.Bytes.{lf}
-use Rattle.sheets.specs.Sheets.{Sheet, Refusal, refusal, Read, sheet, refused, readSheet}
+use Rattle.sheets.specs.Sheets.{Refusal, refusal, Read, sheet, refused, readSheet}
 use Rattle.texts.specs.Judging.{Judgement, judge}
 
 pub data Checked : Type 0 where

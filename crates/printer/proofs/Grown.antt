@@ -1,5 +1,5 @@
 -- Positions never fall, so what is left of the answer bytes never rises.
-use Prim.Native.Nat.{ℕ, zero, suc, _-_, _+_, _/_, _≤_, _<_}
+use Prim.Native.Nat.{ℕ, zero, suc, _-_, _/_, _≤_}
 use Prim.Native.Char.{code}
 use native.Mathlib.Omega.{arith}
 use mathlib.Core.Path.{_≡_, refl}

@@ -1,22 +1,27 @@
 -- T5: the checker accepts what the engine wrote.
-use Prim.Native.Nat.{ℕ}
-use mathlib.Core.Path.{_≡_, refl}
+use Prim.Native.Nat.{ℕ, _<_}
+use mathlib.Core.Path.{_≡_, refl, sym, _∙_, ap, subst}
 use mathlib.Core.Bool.{Bool, true, false}
+use mathlib.Core.List.{List}
 use mathlib.Core.Logic.{_⊎_, inl, inr}
+use native.Mathlib.Omega.{arith}
 use lib.Dec.{ltb}
-use lib.ListN.{length}
-use borrow.Author.Tests.{le-ltb}
+use lib.ListN.{length, take}
+use borrow.Author.Tests.{ltb-true, le-ltb}
 use Rattle.sheets.specs.Limits.{maxSheetBytes, tableNumbers, maxTextBytes}
 use Rattle.sheets.specs.Buffers.{demanded}
 use Rattle.sheets.specs.Sheets.{Refusal, refusal}
 use Rattle.texts.specs.Judging.{valid, judge}
 use Rattle.texts.specs.Promises.{CheckerExact}
 use Rattle.texts.proofs.Promises.{checkerExact}
-use Rattle.engine.specs.Promises.{RunSound}
+use Rattle.engine.specs.EngineRun.{Told, toldProved, toldNo, toldSpent, Answer, Result, answered, turnedBack as refusedRun, engineRun, answerAfter}
+use Rattle.engine.specs.Promises.{HandedBack, outcomeNumber, handedBack, RunContract, RunSound}
 use Rattle.engine.proofs.Answered.{answered-answers}
+use Rattle.engine.proofs.Buffers.{take-front}
 use Rattle.engine.proofs.Promises.{runSound}
 use Rattle.checker.specs.CheckText.{Checked, judged, turnedBack, countLf, checkSheet, turnBackIf, checkText}
-use Rattle.promises.specs.Accepted.{AcceptsWritten}
+use Rattle.checker.specs.Promises.{HandedBack as CheckedBack, handedBack as checkedBack}
+use Rattle.promises.specs.Accepted.{AcceptsWritten, RunChecks}
 
 -- whatever the buffers of the checker
 accepts-written : CheckerExact → RunSound → AcceptsWritten
@@ -26,19 +31,76 @@ accepts-written exact sound bytes budget t w a x e h t′ w′ =
     let q = sound bytes budget t w a x e h in
     let j : judge (q .0) (x .text) ≡ valid = exact bytes (q .0) (q .1) (x .text) .accepts .1 (q .2) in
     rw (le-ltb maxSheetBytes (length bytes) (r .passed .sheetFits), le-ltb maxTextBytes (length (x .text)) (r .textFits), q .1, j)
-    (table (ltb t′ tableNumbers))
+    (table (ltb t′ tableNumbers) refl)
   where
     Ends : Checked → Type 0
-    Ends c = (c ≡ judged valid) ⊎ ((r : Refusal) × (c ≡ turnedBack r) × ((r .number ≡ 2) ⊎ (r .number ≡ 5)))
+    Ends c = (c ≡ judged valid)
+        ⊎ ((r : Refusal) × (c ≡ turnedBack r) × (((r .number ≡ 2) × (t′ < tableNumbers)) ⊎ ((r .number ≡ 5) × (w′ < demanded (countLf (x .text))))))
 
-    work : (b : Bool) → Ends (turnBackIf b 5 (judged valid))
-    work true = inr (refusal 5 0, refl, inr refl)
-    work false = inl refl
+    work : (b : Bool) → ltb w′ (demanded (countLf (x .text))) ≡ b → Ends (turnBackIf b 5 (judged valid))
+    work true q = inr (refusal 5 0, refl, inr (refl, ltb-true _ _ q))
+    work false q = inl refl
 
-    table : (b : Bool) → Ends (turnBackIf b 2 (turnBackIf (ltb w′ (demanded (countLf (x .text)))) 5 (judged valid)))
-    table true = inr (refusal 2 0, refl, inl refl)
-    table false = work (ltb w′ (demanded (countLf (x .text))))
+    table : (b : Bool) → ltb t′ tableNumbers ≡ b → Ends (turnBackIf b 2 (turnBackIf (ltb w′ (demanded (countLf (x .text)))) 5 (judged valid)))
+    table true q = inr (refusal 2 0, refl, inl (refl, ltb-true _ _ q))
+    table false q = work (ltb w′ (demanded (countLf (x .text)))) refl
 
 -- T5
 pub acceptsWritten : AcceptsWritten
 acceptsWritten = accepts-written checkerExact runSound
+
+-- told proved, the text of the answer lies in the buffer
+record Proves (bytes : List ℕ) (budget t w a : ℕ) (answer′ : List ℕ) (r : HandedBack) : Type 0 where
+  x : Answer
+  is : engineRun bytes budget t w a ≡ answered x
+  outcome : x .outcome ≡ toldProved
+  text : take (r .length) answer′ ≡ x .text
+
+proved-told : (t : Told) → outcomeNumber t ≡ 0 → t ≡ toldProved
+unfolding outcomeNumber
+proved-told toldProved e = refl
+proved-told toldNo e = absurd (omega arith)
+proved-told toldSpent e = absurd (omega arith)
+
+proves : (bytes : List ℕ) (budget : ℕ) (table work answer table′ work′ answer′ : List ℕ) (r : HandedBack) → RunContract bytes budget table work answer table′ work′ answer′ r → r .outcome ≡ 0
+    → Proves bytes budget (length table) (length work) (length answer) answer′ r
+unfolding handedBack answerAfter
+proves bytes budget table work answer table′ work′ answer′ r c h = go (engineRun bytes budget (length table) (length work) (length answer)) refl
+  where
+    go : (q : Result) → engineRun bytes budget (length table) (length work) (length answer) ≡ q → Proves bytes budget (length table) (length work) (length answer) answer′ r
+    go (refusedRun f) e = absurd (let z : r .outcome ≡ 3 = ap (λ (b : HandedBack). b .outcome) (c .value ∙ ap handedBack e) in omega arith)
+    go (answered x) e =
+        let v : r ≡ handedBack (answered x) = c .value ∙ ap handedBack e in
+        let b : answer′ ≡ answerAfter (answered x) answer = c .answerEnd ∙ ap (λ (y : Result). answerAfter y answer) e in
+        record {
+          x = x;
+          is = e;
+          outcome = proved-told (x .outcome) (sym (ap (λ (y : HandedBack). y .outcome) v) ∙ h);
+          text = rw (v, b) (take-front (x .text) _);
+        }
+
+-- T5 of `run` and `check`
+run-checks : AcceptsWritten → RunChecks
+unfolding checkedBack
+run-checks accepts bytes budget table work answer table′ work′ answer′ r c h table₂ work₂ table₂′ work₂′ v d =
+    let p = proves bytes budget table work answer table′ work′ answer′ r c h in
+    go (subst (λ (x : List ℕ). Ends x (checkText bytes x (length table₂) (length work₂))) (sym (p .text)) (accepts bytes budget (length table) (length work) (length answer) (p .x) (p .is) (p .outcome) (length table₂) (length work₂)))
+  where
+    text : List ℕ
+    text = take (r .length) answer′
+
+    Ends : List ℕ → Checked → Type 0
+    Ends x k = (k ≡ judged valid)
+        ⊎ ((f : Refusal) × (k ≡ turnedBack f) × (((f .number ≡ 2) × (length table₂ < tableNumbers)) ⊎ ((f .number ≡ 5) × (length work₂ < demanded (countLf x)))))
+
+    number : (f : Refusal) → checkText bytes text (length table₂) (length work₂) ≡ turnedBack f → v .number ≡ f .number
+    number f e = ap (λ (b : CheckedBack). b .number) (d .value ∙ ap checkedBack e)
+
+    go : Ends text (checkText bytes text (length table₂) (length work₂))
+        → (v .verdict ≡ 0) ⊎ (((v .number ≡ 2) × (length table₂ < tableNumbers)) ⊎ ((v .number ≡ 5) × (length work₂ < demanded (countLf text))))
+    go (inl e) = inl (ap (λ (b : CheckedBack). b .verdict) (d .value ∙ ap checkedBack e))
+    go (inr (f, e, inl (n, l))) = inr (inl (number f e ∙ n, l))
+    go (inr (f, e, inr (n, l))) = inr (inr (number f e ∙ n, l))
+
+pub runChecks : RunChecks
+runChecks = run-checks acceptsWritten

@@ -3,14 +3,13 @@ use Prim.Native.Nat.{ℕ, _*_}
 use Prim.Native.String.{String}
 use mathlib.Core.Path.{_≡_}
 use mathlib.Core.List.{List, [], _∷_}
-use lib.ListN.{length}
 use Rattle.terms.specs.Lists.{All}
-use Rattle.sheets.specs.Limits.{tableNumbers, maxTextBytes}
+use Rattle.sheets.specs.Limits.{tableNumbers}
 use Rattle.sheets.specs.Bytes.{ascii}
 use Rattle.sheets.specs.Sheets.{refusal}
 use Rattle.texts.specs.Judging.{valid}
-use Rattle.engine.specs.EngineRun.{Told, toldProved, toldNo, toldSpent, Answer, Result, answered, turnedBack, engineRun}
-use Rattle.checker.specs.CheckText.{Checked, judged, checkText, countLf}
+use Rattle.engine.specs.EngineRun.{Told, toldProved, toldNo, toldSpent, Result, answered, turnedBack, engineRun}
+use Rattle.checker.specs.CheckText.{judged, checkText, countLf}
 
 -- A sheet, a budget and a number of answer bytes, with the result. The table has 8,192 numbers, the work buffer 64 for each unit.
 pub record Case : Type 0 where

@@ -1,3 +1,4 @@
 -- The interface for C and Rust.
 pub mod Results
 pub mod RulesRun
+pub mod RulesCheck

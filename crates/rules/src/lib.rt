@@ -1,12 +1,15 @@
-// The interface for C and Rust (include/rules.h): what the engine hands back, as numbers.
+// The interface for C and Rust (include/rules.h): what the engine and the checker hand back, as numbers.
 use memory::put;
 use outcomes::Outcome;
 use outcomes::Run;
+use outcomes::Verdict;
 ghost use mathlib.Core.Path.{_≡_};
 ghost use mathlib.Core.List.{[], _∷_};
-ghost use Rattle.engine.specs.Handed.{handed};
+ghost use Rattle.engine.specs.Handed.{handed as handedRun};
+ghost use Rattle.checker.specs.Handed.{handed as handedCheck};
 ghost use Rattle.rules.specs.Results.{putFront};
 ghost use Rattle.rules.specs.RulesRun.{runNumbers, RulesRun};
+ghost use Rattle.rules.specs.RulesCheck.{checkNumbers, RulesCheck};
 
 // The first is returned too.
 fn put_run(result: &mut [u32], outcome: u32, units: u32, length: u32, number: u32, line: u32) -> u32
@@ -21,7 +24,7 @@ fn put_run(result: &mut [u32], outcome: u32, units: u32, length: u32, number: u3
 }
 
 fn report_run(r: Run, result: &mut [u32]) -> u32
-    ensures { λ n. ⌜ (n ≡ handed r .outcome) × (now (result .exit) ≡ putFront (runNumbers (handed r)) (now (result .entry))) ⌝ }
+    ensures { λ n. ⌜ (n ≡ handedRun r .outcome) × (now (result .exit) ≡ putFront (runNumbers (handedRun r)) (now (result .entry))) ⌝ }
 {
     let units = r.units;
     let length = r.length;
@@ -48,4 +51,39 @@ pub extern "C" fn rules_run(
 {
     let r = engine::run(sheet, budget, table, work, answer);
     report_run(r, result)
+}
+
+// The first is returned too.
+fn put_check(result: &mut [u32], verdict: u32, line: u32, number: u32) -> u32
+    ensures { λ n. ⌜ (n ≡ verdict) × (now (result .exit) ≡ putFront (verdict ∷ line ∷ number ∷ []) (now (result .entry))) ⌝ }
+{
+    put(result, 0, verdict);
+    put(result, 1, line);
+    put(result, 2, number);
+    verdict
+}
+
+fn report_check(v: Verdict, result: &mut [u32]) -> u32
+    ensures { λ n. ⌜ (n ≡ handedCheck v .verdict) × (now (result .exit) ≡ putFront (checkNumbers (handedCheck v)) (now (result .entry))) ⌝ }
+{
+    match v {
+        Verdict::Valid => put_check(result, 0, 0, 0),
+        Verdict::Invalid(line) => put_check(result, 1, line, 0),
+        Verdict::Refused(f) => put_check(result, 3, f.line, f.number),
+    }
+}
+
+// checker::check; the verdict's number is returned.
+#[no_mangle]
+pub extern "C" fn rules_check(
+    sheet: &[u8],
+    text: &[u8],
+    table: &mut [u32],
+    work: &mut [u32],
+    result: &mut [u32],
+) -> u32
+    ensures { λ n. ⌜ RulesCheck (now (sheet .entry)) (now (text .entry)) (now (table .entry)) (now (work .entry)) (now (result .entry)) (now (table .exit)) (now (work .exit)) (now (result .exit)) n ⌝ }
+{
+    let v = checker::check(sheet, text, table, work);
+    report_check(v, result)
 }

@@ -8,13 +8,16 @@
 
 pub mod api;
 pub mod checker;
+pub mod dirt;
 pub mod fault;
 pub mod field;
 pub mod formula;
 pub mod generate;
+pub mod interface;
 pub mod limits;
 pub mod list;
 pub mod map;
+pub mod perform;
 pub mod random;
 pub mod refusal;
 pub mod search;

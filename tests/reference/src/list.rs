@@ -31,6 +31,11 @@ impl<T> List<T> {
 }
 
 impl<T: Clone> List<T> {
+    pub fn reversed(&self) -> List<T> {
+        self.iter()
+            .fold(List::empty(), |list, element| list.with(element.clone()))
+    }
+
     /// The list with each element changed, in the same order.
     pub fn map(&self, change: impl Fn(&T) -> T) -> List<T> {
         let changed: Vec<T> = self.iter().map(change).collect();

@@ -14,6 +14,8 @@ use crate::unification::{unify, Atom, OutOfUnits, Store, Units};
 struct Clause {
     members: Members,
     environment: Environment<Fresh>,
+    /// The level at which it was assumed; only a fault asks for it.
+    level: u32,
 }
 
 /// The left side of a sequent: assumptions, latest first; at the end, as one, the sheet's clauses.
@@ -61,8 +63,8 @@ struct Candidates {
 
 /// A choice point.
 enum Alternative {
-    /// The right side of an "or", already in front of the goals.
-    Right(State),
+    /// The other side of an "or", already in front of the goals.
+    Side(State),
     /// The members left at an atom; `state` has the goals after the atom.
     Members {
         goal: Goal,
@@ -96,6 +98,8 @@ pub fn search(sheet: &Sheet, budget: u32, fault: Option<Fault>) -> Ended {
         sheet,
         units: Units::new(match fault {
             Some(Fault::SpentAtOnce) => 0,
+            Some(Fault::SpentOneEarly) => budget - 1,
+            Some(Fault::SpentOneLate) => budget + 1,
             _ => budget,
         }),
         fault,
@@ -151,6 +155,7 @@ impl Walk<'_> {
             program: List::empty().with(Clause {
                 members: self.sheet.program.clone(),
                 environment: Environment::empty(),
+                level: 0,
             }),
             level: 0,
         };
@@ -199,14 +204,16 @@ impl Walk<'_> {
                 }
             }
             Shape::Or(left, right) => {
-                self.alternatives.push(Alternative::Right(State {
-                    goals: after.goals.with(with_part(right)),
-                    ..after.with_step(Step::Right)
-                }));
-                State {
-                    goals: after.goals.with(with_part(left)),
-                    ..after.with_step(Step::Left)
+                let side = |part: &Rc<Node>, step: Step| State {
+                    goals: after.goals.with(with_part(part)),
+                    ..after.with_step(step)
+                };
+                let (mut first, mut second) = (side(left, Step::Left), side(right, Step::Right));
+                if self.fault == Some(Fault::RightFirst) {
+                    (first, second) = (second, first);
                 }
+                self.alternatives.push(Alternative::Side(second));
+                first
             }
             Shape::Some(v, part) => {
                 let variable = self.fresh_variable(goal.level);
@@ -223,11 +230,21 @@ impl Walk<'_> {
                 let constant = self.made_constant(&goal);
                 let next = Goal {
                     environment: goal.environment.with(*v, Fresh::Constant(constant)),
-                    level: constant.level,
+                    level: match self.fault {
+                        Some(Fault::LevelNotRaised) => goal.level,
+                        _ => constant.level,
+                    },
                     ..with_part(part)
                 };
+                let beside = match self.fault {
+                    Some(Fault::LevelRaisedBeside) => after.goals.map(|beside| Goal {
+                        level: beside.level.max(constant.level),
+                        ..beside.clone()
+                    }),
+                    _ => after.goals.clone(),
+                };
                 State {
-                    goals: after.goals.with(next),
+                    goals: beside.with(next),
                     ..after.with_step(Step::All(constant))
                 }
             }
@@ -235,6 +252,7 @@ impl Walk<'_> {
                 let assumed = Clause {
                     members: self.sheet.members[clause.number].clone(),
                     environment: goal.environment.clone(),
+                    level: goal.level,
                 };
                 let beside = match self.fault {
                     Some(Fault::AssumptionKept) => after.goals.map(|beside| Goal {
@@ -254,7 +272,10 @@ impl Walk<'_> {
             }
             Shape::Atom(..) => {
                 let candidates = Candidates {
-                    clauses: goal.program.clone(),
+                    clauses: match self.fault {
+                        Some(Fault::AssumptionsLast) => goal.program.reversed(),
+                        _ => goal.program.clone(),
+                    },
                     next: 0,
                     place: 0,
                 };
@@ -267,8 +288,11 @@ impl Walk<'_> {
 
     /// Goes back to a choice point. Neither the "or" nor the atom is taken again.
     fn take_up(&mut self, alternative: Alternative, failed: &mut Store) -> Result<Option<State>, OutOfUnits> {
+        if self.fault == Some(Fault::AlternativePaid) {
+            self.units.act()?;
+        }
         match alternative {
-            Alternative::Right(state) => Ok(Some(State {
+            Alternative::Side(state) => Ok(Some(State {
                 store: state.store.restored(failed, self.fault),
                 ..state
             })),
@@ -292,17 +316,24 @@ impl Walk<'_> {
         failed: &mut Store,
     ) -> Result<Option<State>, OutOfUnits> {
         while let Some((clause, member)) = candidates.next_member() {
-            self.units.act()?;
-            if member.head.symbol() == goal.formula.symbol() || self.fault != Some(Fault::PlacesAmongMatching) {
+            let same_predicate = member.head.symbol() == goal.formula.symbol();
+            if same_predicate || self.fault != Some(Fault::OtherPredicateFree) {
+                self.units.act()?;
+            }
+            if same_predicate || self.fault != Some(Fault::PlacesAmongMatching) {
                 candidates.place += 1;
             }
             if candidates.place > 1 && self.fault == Some(Fault::OnlyFirstMember) {
                 continue;
             }
+            let prefix_level = match self.fault {
+                Some(Fault::PrefixLevelOfAssumption) => clause.level,
+                _ => goal.level,
+            };
             let prefix: Vec<Fresh> = member
                 .prefix
                 .iter()
-                .map(|_| Fresh::Variable(self.fresh_variable(goal.level)))
+                .map(|_| Fresh::Variable(self.fresh_variable(prefix_level)))
                 .collect();
             let environment = clause.environment.with_all(&member.prefix, &prefix);
             let mut store = after.store.clone();
@@ -366,7 +397,10 @@ impl Walk<'_> {
         }
         self.constants += 1;
         Constant {
-            id: self.constants - 1,
+            id: match self.fault {
+                Some(Fault::ConstantsByLevel) => goal.level,
+                _ => self.constants - 1,
+            },
             level: goal.level + 1,
         }
     }

@@ -2,9 +2,10 @@
 
 use std::rc::Rc;
 
-use crate::field::{fields, is_name, lines, number};
+use crate::fault::Fault;
+use crate::field::{fields, is_name, lines, number, Line};
 use crate::formula::{members, Members, Node, Shape, Symbol, VariableSet};
-use crate::limits::{CLAUSES, LARGEST_ARITY, NODES, SYMBOLS, VARIABLES};
+use crate::limits::{limit, Limit};
 use crate::refusal::Refusal;
 
 /// A sheet that was read to its end.
@@ -40,20 +41,33 @@ enum Form<'a> {
 }
 
 pub fn read(bytes: &[u8]) -> Result<Sheet, Refusal> {
+    read_with(None, bytes)
+}
+
+/// `read` with a fault.
+pub fn read_with(fault: Option<Fault>, bytes: &[u8]) -> Result<Sheet, Refusal> {
     let mut reader = Reader {
+        fault,
         symbols: Vec::new(),
         nodes: Vec::new(),
         members: Vec::new(),
         clauses: Vec::new(),
         goal: None,
     };
+    let lines = lines(bytes, fault);
+    let formed = |line: Line<'_>| line.closed && form(line.bytes, fault).is_some();
+    if fault == Some(Fault::FormsFirst) {
+        if let Some(malformed) = lines.iter().position(|&line| !formed(line)) {
+            return Err(Refusal::new(6, malformed as u32 + 1));
+        }
+    }
     let mut line_number = 0;
-    for line in lines(bytes) {
+    for line in lines {
         line_number += 1;
         if reader.goal.is_some() {
             return Err(Refusal::new(11, line_number));
         }
-        let form = if line.closed { form(line.bytes) } else { None };
+        let form = if line.closed { form(line.bytes, fault) } else { None };
         let read = match form {
             Some(form) => reader.line(form),
             None => Err(6),
@@ -76,22 +90,23 @@ pub fn read(bytes: &[u8]) -> Result<Sheet, Refusal> {
 }
 
 /// Refusal 6: "letter, field count, number, name, arity, variable".
-fn form(line: &[u8]) -> Option<Form<'_>> {
+fn form(line: &[u8], fault: Option<Fault>) -> Option<Form<'_>> {
     let fields = fields(line);
-    let node = |field: &[u8]| number(field).map(|number| number as usize);
+    let node = |field: &[u8]| number(field, fault).map(|number| number as usize);
     let variable = |field: &[u8]| {
-        number(field)
-            .filter(|&number| (number as usize) < VARIABLES)
+        node(field)
+            .filter(|&number| number < limit(Limit::Variables, fault))
             .map(|number| number as u8)
     };
+    let largest_arity = limit(Limit::Arity, fault);
     Some(match fields[..] {
-        [letter @ (b"F" | b"P"), name, arity] if is_name(name) => Form::Symbol {
+        [letter @ (b"F" | b"P"), name, arity] if is_name(name, fault) => Form::Symbol {
             name,
-            arity: number(arity).filter(|&arity| arity <= LARGEST_ARITY)? as usize,
+            arity: node(arity).filter(|&arity| arity <= largest_arity)?,
             predicate: letter == b"P",
         },
         [b"V", v] => Form::Variable(variable(v)?),
-        [b"A", symbol, ref nodes @ ..] if nodes.len() <= LARGEST_ARITY as usize => Form::Applied {
+        [b"A", symbol, ref nodes @ ..] if nodes.len() <= largest_arity => Form::Applied {
             symbol: node(symbol)?,
             nodes: nodes.iter().map(|field| node(field)).collect::<Option<_>>()?,
         },
@@ -108,6 +123,7 @@ fn form(line: &[u8]) -> Option<Form<'_>> {
 }
 
 struct Reader {
+    fault: Option<Fault>,
     symbols: Vec<Symbol>,
     nodes: Vec<Rc<Node>>,
     members: Vec<Members>,
@@ -121,10 +137,12 @@ impl Reader {
     fn line(&mut self, form: Form) -> Result<(), u32> {
         match form {
             Form::Symbol { name, arity, predicate } => {
-                if self.symbols.len() == SYMBOLS {
+                if self.symbols.len() == limit(Limit::Symbols, self.fault) {
                     return Err(7);
                 }
-                if self.symbols.iter().any(|symbol| symbol.name == name) {
+                let per_kind = self.fault == Some(Fault::NamesPerKind);
+                let again = |symbol: &Symbol| symbol.name == name && (symbol.predicate == predicate || !per_kind);
+                if self.symbols.iter().any(again) {
                     return Err(8);
                 }
                 self.symbols.push(Symbol {
@@ -135,7 +153,7 @@ impl Reader {
                 Ok(())
             }
             Form::Clause(clause) => {
-                if self.clauses.len() == CLAUSES {
+                if self.clauses.len() == limit(Limit::Clauses, self.fault) {
                     return Err(7);
                 }
                 let node = self.node(clause)?;
@@ -157,12 +175,12 @@ impl Reader {
                 Ok(())
             }
             form => {
-                if self.nodes.len() == NODES {
+                if self.nodes.len() == limit(Limit::Nodes, self.fault) {
                     return Err(7);
                 }
                 let shape = self.shape(form)?;
-                let node = Rc::new(Node::new(self.nodes.len(), shape).ok_or(9u32)?);
-                self.members.push(members(&node, &self.members));
+                let node = Rc::new(Node::new(self.nodes.len(), shape, self.fault).ok_or(9u32)?);
+                self.members.push(members(&node, &self.members, self.fault));
                 self.nodes.push(node);
                 Ok(())
             }

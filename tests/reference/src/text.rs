@@ -128,14 +128,23 @@ impl Writer<'_> {
         while let Some(next) = rest.pop() {
             match next {
                 Rest::Bytes(bytes) => self.put(bytes.as_bytes())?,
-                Rest::Term(term) => match store.look(term) {
+                Rest::Term(term) => match store.look(term, self.fault) {
                     Term::Fresh(Fresh::Variable(variable)) => {
-                        let level = store.level(variable);
-                        let number = self.variables.number(variable.id, level, self.fault);
+                        let level = match self.fault {
+                            Some(Fault::LevelAsMade) => variable.born,
+                            _ => store.level(variable),
+                        };
+                        let number = match self.fault {
+                            Some(Fault::NumberingAsMade) => variable.id,
+                            _ => self.variables.number(variable.id, level, self.fault),
+                        };
                         self.put(format!("_{number}@{level}").as_bytes())?;
                     }
                     Term::Fresh(Fresh::Constant(constant)) => {
-                        let number = self.constants.number(constant.id, constant.level, self.fault);
+                        let number = match self.fault {
+                            Some(Fault::NumberingOfBothKinds) => self.variables.number(!constant.id, 0, None),
+                            _ => self.constants.number(constant.id, constant.level, self.fault),
+                        };
                         self.put(format!("!{number}@{}", constant.level).as_bytes())?;
                     }
                     Term::Application(node, environment) => {

@@ -3,7 +3,7 @@
 use std::rc::Rc;
 
 use crate::fault::Fault;
-use crate::formula::Node;
+use crate::formula::{Node, VariableSet};
 use crate::map::Map;
 use crate::term::{Constant, Environment, Fresh, Term, Variable};
 
@@ -58,7 +58,7 @@ impl Store {
 
     /// The term looked through its bindings. A long chain of variables is shortened on the way: the first one is bound
     /// to the end of the chain, which it stands for in any case.
-    pub fn look(&mut self, term: Term) -> Term {
+    pub fn look(&mut self, term: Term, fault: Option<Fault>) -> Term {
         let Term::Fresh(Fresh::Variable(first)) = term else {
             return term;
         };
@@ -69,6 +69,9 @@ impl Store {
                 None => break Term::Fresh(Fresh::Variable(last)),
                 Some(Term::Fresh(Fresh::Variable(next))) => last = *next,
                 Some(term) => break term.clone(),
+            }
+            if fault == Some(Fault::OneBindingFollowed) {
+                break Term::Fresh(Fresh::Variable(last));
             }
             passed += 1;
         };
@@ -88,13 +91,16 @@ impl Store {
 
     /// The store to go on with after a failure: the one kept, whatever `failed` came to.
     pub fn restored(&self, failed: &Store, fault: Option<Fault>) -> Store {
-        if fault == Some(Fault::LevelsNotRestored) {
-            return Store {
-                bindings: self.bindings.clone(),
-                lowered: failed.lowered.clone(),
-            };
+        Store {
+            bindings: match fault {
+                Some(Fault::BindingsNotRestored) => failed.bindings.clone(),
+                _ => self.bindings.clone(),
+            },
+            lowered: match fault {
+                Some(Fault::LevelsNotRestored) => failed.lowered.clone(),
+                _ => self.lowered.clone(),
+            },
         }
-        self.clone()
     }
 }
 
@@ -123,7 +129,7 @@ pub fn unify(
     push_arguments(&mut pairs, goal, head);
     while let Some((goal, clause)) = pairs.pop() {
         units.act()?;
-        let matched = match (store.look(goal), store.look(clause)) {
+        let matched = match (store.look(goal, fault), store.look(clause, fault)) {
             (Term::Fresh(goal), Term::Fresh(clause)) if goal == clause => true,
             (Term::Fresh(Fresh::Variable(variable)), other) | (other, Term::Fresh(Fresh::Variable(variable))) => {
                 let in_range = range_check(variable, other.clone(), store, units, fault)?;
@@ -134,7 +140,8 @@ pub fn unify(
             }
             (Term::Application(goal, goal_environment), Term::Application(clause, clause_environment)) => {
                 let same = goal.symbol() == clause.symbol();
-                if same {
+                let itself = Rc::ptr_eq(&goal, &clause) && goal_environment.is(&clause_environment);
+                if same && !(itself && fault == Some(Fault::SameNodeSkipped)) {
                     push_arguments(
                         &mut pairs,
                         Atom {
@@ -176,9 +183,13 @@ fn range_check(
 ) -> Result<bool, OutOfUnits> {
     let level = store.level(variable);
     let mut left = vec![term];
+    let mut first = true;
     while let Some(term) = left.pop() {
-        units.act()?;
-        match store.look(term) {
+        if !first || fault != Some(Fault::FirstLookFree) {
+            units.act()?;
+        }
+        first = false;
+        match store.look(term, fault) {
             Term::Fresh(Fresh::Variable(met)) => {
                 if met == variable && fault != Some(Fault::NoOccursCheck) {
                     return Ok(false);
@@ -192,6 +203,8 @@ fn range_check(
                     return Ok(false);
                 }
             }
+            Term::Application(node, _)
+                if node.free == VariableSet::EMPTY && fault == Some(Fault::GroundTermSkipped) => {}
             Term::Application(node, environment) => {
                 let arguments = node.arguments().iter().rev();
                 left.extend(arguments.map(|argument| Term::new(argument, &environment)));

@@ -5,7 +5,7 @@ mod common;
 use std::collections::BTreeMap;
 
 use common::naive::Judge;
-use reference::generate::{damaged, sheet};
+use reference::generate::{checks, damaged, sheet};
 use reference::random::Random;
 use reference::{answer, check, check_text, engine_run, Outcome, Refusal, Verdict};
 
@@ -153,6 +153,12 @@ fn buffers_end_as_promised() {
             (outcome, units, text.len()),
             "seed {seed}, {family:?}"
         );
+        // "On 1 to 5 no buffer changes."
+        if sheet.len() > 16_384 {
+            assert_eq!(outcome, common::refused(1, 0));
+            assert_eq!((table, work, bytes), (old_table, old_work, old_bytes));
+            continue;
+        }
         assert!(table[..8_192]
             .iter()
             .chain(&work[..demanded])
@@ -231,4 +237,37 @@ fn damaged_texts() {
     }
     println!("{texts} damaged texts, {accepted} accepted, {unjudged} not judged by substitution");
     assert!(accepted > 0);
+}
+
+/// The texts by which a checker is compared with this one: the judge by substitution says the same of all that are
+/// short.
+#[test]
+fn texts_of_calls() {
+    let (mut judged, mut valid) = (0, 0);
+    for seed in 0..SHEETS {
+        for call in checks(seed) {
+            let verdict = check(&call.sheet, &call.text);
+            if matches!(verdict, Verdict::Refused(_)) || call.text.len() > 3_000 {
+                continue;
+            }
+            let Some(judge) = Judge::new(&call.sheet) else {
+                continue;
+            };
+            let line = match verdict {
+                Verdict::Invalid(line) => line,
+                _ => 0,
+            };
+            assert_eq!(
+                line,
+                judge.judge(&call.text),
+                "seed {seed}\n{}\n{}",
+                String::from_utf8_lossy(&call.sheet),
+                String::from_utf8_lossy(&call.text)
+            );
+            judged += 1;
+            valid += u32::from(line == 0);
+        }
+    }
+    println!("{judged} texts judged twice, {valid} valid");
+    assert!(judged > 2 * SHEETS as u32 && valid > judged / 10);
 }

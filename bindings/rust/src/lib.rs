@@ -1,0 +1,80 @@
+//! The proof engine for house rule sheets and the checker of its answer texts, over lent slices.
+//!
+//! `run` searches for a proof of a sheet's goal and writes the answer text; `check` judges such a text and trusts
+//! neither sheet nor text. Both answer for every input, allocate nothing and keep nothing between calls; what the
+//! buffers held before does not matter. include/rules.h says what each buffer holds afterwards.
+
+pub mod raw;
+
+/// Bytes of a sheet; more are refusal 1.
+pub const SHEET_BYTES: usize = 16_384;
+/// Numbers that the table must have; fewer are refusal 2.
+pub const TABLE_NUMBERS: usize = 8_192;
+/// The largest budget; more, or 0, is refusal 3.
+pub const LARGEST_BUDGET: u32 = 50_000;
+/// Bytes of an answer text; more are refusal 4 or 12.
+pub const TEXT_BYTES: usize = 65_535;
+/// Work numbers for each unit of budget, or for each LF of a text; fewer are refusal 5.
+pub const WORK_NUMBERS: usize = 64;
+
+/// A numbered refusal. Lines count from 1; line 0 says that no line is at fault.
+#[derive(Clone, Copy, PartialEq, Eq, Debug)]
+pub struct Refusal {
+    pub number: u32,
+    pub line: u32,
+}
+
+#[derive(Clone, Copy, PartialEq, Eq, Debug)]
+pub enum Outcome {
+    Proved,
+    No,
+    /// More units are needed than the budget.
+    Spent,
+    Refused(Refusal),
+}
+
+/// What a run hands back. With a refusal units and length are 0.
+#[derive(Clone, Copy, PartialEq, Eq, Debug)]
+pub struct Run {
+    pub outcome: Outcome,
+    pub units: u32,
+    /// The answer text is `answer[..length]`.
+    pub length: usize,
+}
+
+#[derive(Clone, Copy, PartialEq, Eq, Debug)]
+pub enum Verdict {
+    Valid,
+    /// The first line of the text that breaks a rule or form.
+    NotValid(u32),
+    Refused(Refusal),
+}
+
+/// Runs a sheet with a budget. `work` needs `WORK_NUMBERS` for each unit of budget.
+pub fn run(sheet: &[u8], budget: u32, table: &mut [u32], work: &mut [u32], answer: &mut [u8]) -> Run {
+    let mut result = [0; 5];
+    let code = raw::run(sheet, budget, table, work, answer, &mut result);
+    let [_, units, length, number, line] = result;
+    Run {
+        outcome: match code {
+            0 => Outcome::Proved,
+            1 => Outcome::No,
+            2 => Outcome::Spent,
+            _ => Outcome::Refused(Refusal { number, line }),
+        },
+        units,
+        length: length as usize,
+    }
+}
+
+/// Checks an answer text against a sheet. `work` needs `WORK_NUMBERS` for each LF of the text.
+pub fn check(sheet: &[u8], text: &[u8], table: &mut [u32], work: &mut [u32]) -> Verdict {
+    let mut result = [0; 3];
+    let code = raw::check(sheet, text, table, work, &mut result);
+    let [_, line, number] = result;
+    match code {
+        0 => Verdict::Valid,
+        1 => Verdict::NotValid(line),
+        _ => Verdict::Refused(Refusal { number, line }),
+    }
+}

@@ -1,0 +1,28 @@
+use Prim.Native.Nat.{ℕ}
+use mathlib.Core.Path.{_≡_, sym}
+use lib.ListN.{length, replicate, length-replicate}
+use borrow.Author.Needs.{needs}
+use Rattle.answer_checker.proofs.check_bytes.Statement.{statement}
+use Rattle.answer_checker.proofs.check_bytes.Tie as tie
+
+-- the length of an array too long to count out
+zeros : (n : ℕ) → n ≡ length {A = ℕ} (replicate n 0)
+zeros n = sym (length-replicate {A = ℕ} n 0)
+
+slice-aggregate-check : tie.Need-slice-aggregate-check
+slice-aggregate-check c = zeros 8192
+
+slice-aggregate-check-2 : tie.Need-slice-aggregate-check-2
+slice-aggregate-check-2 c = zeros 131072
+
+check-requires : tie.Need-check-requires
+check-requires c κs = search needs
+
+print-verdict-requires : tie.Need-print-verdict-requires
+print-verdict-requires c κs = search needs
+
+returns : tie.Need-returns
+returns c = search needs
+
+pub check-bytes-spec : {M : Type 1} → statement M
+check-bytes-spec = tie.close (tie.spec slice-aggregate-check slice-aggregate-check-2 check-requires print-verdict-requires returns)

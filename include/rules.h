@@ -1,0 +1,99 @@
+/* The proof engine for house rule sheets, and the checker of its answer texts.
+ *
+ * Link librules.a (rt staticlib rules). The header is C99 and C++.
+ *
+ * Both functions answer for every input: there is nothing a caller must see to but that each pointer is not null
+ * and points to as many elements as the length after it says, and that no buffer overlaps another or an input.
+ * They allocate nothing, keep nothing between two calls, read and write no file, and touch no memory
+ * but the lent buffers and at most 8 MB of stack. So any number of threads may call them at the same time, each with
+ * its own buffers. What the buffers hold before a call does not matter.
+ */
+#ifndef RULES_H
+#define RULES_H
+
+#include <stddef.h>
+#include <stdint.h>
+
+#ifdef __cplusplus
+extern "C" {
+#endif
+
+/* Limits. At a limit an input passes; past it, it is refused under the number in brackets. */
+#define RULES_SHEET_BYTES 16384   /* [1] bytes of a sheet */
+#define RULES_TABLE_NUMBERS 8192  /* [2] numbers that the table must have */
+#define RULES_LARGEST_BUDGET 50000 /* [3] units */
+#define RULES_TEXT_BYTES 65535    /* [4, 12] bytes of an answer text */
+#define RULES_WORK_NUMBERS 64     /* [5] work numbers for each unit of budget, or for each LF of a text */
+
+/* What rules_run returns. */
+enum rules_outcome {
+    RULES_PROVED = 0,
+    RULES_NO = 1,
+    RULES_SPENT = 2, /* more units are needed than the budget */
+    RULES_RUN_REFUSED = 3
+};
+
+/* What rules_check returns. */
+enum rules_verdict { RULES_VALID = 0, RULES_NOT_VALID = 1, RULES_CHECK_REFUSED = 3 };
+
+/* The numbers that rules_run puts into `result`. */
+enum rules_run_result {
+    RULES_RUN_OUTCOME = 0, /* the number returned */
+    RULES_RUN_UNITS = 1,   /* units taken; with spent the budget; 0 with a refusal */
+    RULES_RUN_LENGTH = 2,  /* bytes of the answer text; 0 with a refusal */
+    RULES_RUN_REFUSAL = 3, /* number of the refusal, 0 where there is none */
+    RULES_RUN_LINE = 4,    /* line of the refusal, 0 where there is none or where no line is at fault */
+    RULES_RUN_RESULTS = 5
+};
+
+/* The numbers that rules_check puts into `result`. */
+enum rules_check_result {
+    RULES_CHECK_VERDICT = 0, /* the number returned */
+    RULES_CHECK_LINE = 1,    /* the first line of the text that breaks, or the line of the refusal, else 0 */
+    RULES_CHECK_REFUSAL = 2, /* number of the refusal, 0 where there is none */
+    RULES_CHECK_RESULTS = 3
+};
+
+/* Refusals, in checking order. 6 to 11 name a line of the sheet, counted from 1; the others give line 0. */
+enum rules_refusal {
+    RULES_SHEET_TOO_LONG = 1,
+    RULES_TABLE_TOO_SHORT = 2,
+    RULES_BUDGET = 3,        /* 0 or over RULES_LARGEST_BUDGET; rules_run only */
+    RULES_TEXT_TOO_LONG = 4, /* rules_check only */
+    RULES_WORK_TOO_SHORT = 5,
+    RULES_MALFORMED = 6,     /* letter, field count, number, name, arity, variable, or no LF */
+    RULES_TOO_MANY = 7,      /* symbol 257, node 1,025 or clause 129 */
+    RULES_UNKNOWN = 8,       /* a symbol or node not yet there, or a name declared again */
+    RULES_WRONG_KIND = 9,    /* neither term, goal nor clause; an arity; the wrong kind on a C or Q line */
+    RULES_FREE_VARIABLE = 10, /* in the clause of a C line */
+    RULES_NO_GOAL = 11,      /* no Q line, or bytes after it */
+    RULES_ANSWER_TOO_LONG = 12 /* over RULES_TEXT_BYTES or longer than the answer buffer; rules_run only */
+};
+
+/* Runs a sheet: searches for a proof of its goal with at most `budget` units and writes the answer text to `answer`.
+ *
+ * Returns one of enum rules_outcome and puts RULES_RUN_RESULTS numbers into `result`, as far as it is long; further
+ * numbers of `result` are untouched. After proved, no and spent the text stands in the first result[RULES_RUN_LENGTH]
+ * bytes of `answer` (it has no closing 0) and the rest of `answer` is untouched; a refusal leaves `answer` as it was.
+ * After refusals 1 to 5 `table` and `work` are as they were; otherwise the first RULES_TABLE_NUMBERS numbers of
+ * `table` and the first RULES_WORK_NUMBERS * budget of `work` are 0, and the rest of both is untouched.
+ */
+uint32_t rules_run(const uint8_t *sheet, size_t sheet_len, uint32_t budget, uint32_t *table, size_t table_len,
+                   uint32_t *work, size_t work_len, uint8_t *answer, size_t answer_len, uint32_t *result,
+                   size_t result_len);
+
+/* Checks an answer text against a sheet, and trusts neither: valid means that the text spells a derivation of an
+ * instance of the sheet's goal. The text of a run that came to no or spent is not valid, at line 1.
+ *
+ * Returns one of enum rules_verdict and puts RULES_CHECK_RESULTS numbers into `result`, as far as it is long; further
+ * numbers of `result` are untouched. `table` and `work` are left as rules_run leaves them, the work numbers being
+ * RULES_WORK_NUMBERS for each LF of the text.
+ */
+uint32_t rules_check(const uint8_t *sheet, size_t sheet_len, const uint8_t *text, size_t text_len, uint32_t *table,
+                     size_t table_len, uint32_t *work, size_t work_len, uint32_t *result, size_t result_len);
+
+#ifdef __cplusplus
+}
+#endif
+
+#endif

@@ -1,0 +1,89 @@
+//! A call of the library and of the independent implementation, compared in everything that can be seen afterwards.
+
+use reference::generate::{CheckCall, RunCall};
+use reference::perform::After;
+use reference::{interface, perform};
+
+/// What the library leaves, if it is what the independent implementation leaves; otherwise what differs.
+pub fn compare_run(call: &RunCall) -> Result<After, String> {
+    agreed(call.perform(rules::raw::run), call.perform(interface::run))
+}
+
+pub fn compare_check(call: &CheckCall) -> Result<After, String> {
+    agreed(call.perform(rules::raw::check), call.perform(interface::check))
+}
+
+fn agreed(got: After, wanted: After) -> Result<After, String> {
+    match got.difference(&wanted) {
+        None => Ok(got),
+        Some(difference) => Err(difference),
+    }
+}
+
+/// The outcome of a run in words, from the numbers that the reference hands back for the same call.
+pub fn run_name(call: &RunCall, after: &After) -> String {
+    match after.code {
+        0 => "proved".to_string(),
+        1 => "no".to_string(),
+        2 => "spent".to_string(),
+        _ => {
+            let whole = RunCall {
+                result: 5,
+                ..call.clone()
+            };
+            let numbers = whole.perform(interface::run).result;
+            format!("refused {:2}", numbers[3])
+        }
+    }
+}
+
+/// The verdict of a check in words.
+pub fn check_name(call: &CheckCall, after: &After) -> String {
+    match after.code {
+        0 => "valid".to_string(),
+        1 => "not valid".to_string(),
+        _ => {
+            let whole = CheckCall {
+                result: 3,
+                ..call.clone()
+            };
+            let numbers = whole.perform(interface::check).result;
+            format!("refused {:2}", numbers[2])
+        }
+    }
+}
+
+/// A call in words, with its sheet as far as it is short.
+pub fn describe_run(call: &RunCall) -> String {
+    format!(
+        "budget {}, table {}, work {}, answer {}, result {}, sheet of {} bytes:\n{}",
+        call.budget,
+        call.table,
+        call.work,
+        call.answer,
+        call.result,
+        call.sheet.len(),
+        shown(&call.sheet)
+    )
+}
+
+pub fn describe_check(call: &CheckCall) -> String {
+    format!(
+        "table {}, work {}, result {}, sheet of {} bytes:\n{}\ntext of {} bytes:\n{}",
+        call.table,
+        call.work,
+        call.result,
+        call.sheet.len(),
+        shown(&call.sheet),
+        call.text.len(),
+        shown(&call.text)
+    )
+}
+
+fn shown(bytes: &[u8]) -> String {
+    let most = 3_000;
+    let cut = if bytes.len() > most { "..." } else { "" };
+    format!("{}{cut}", bytes[..bytes.len().min(most)].escape_ascii()).replace("\\n", "\n")
+}
+
+pub use perform::{Check, Run};

@@ -1,0 +1,286 @@
+//! Sheets with much to search, for figures and tests.
+
+use reference::generate::builder::Builder;
+
+/// A name for the figures, and the sheet.
+pub type Named = (&'static str, Vec<u8>);
+
+/// Searches of some ten thousand units that end by themselves.
+pub fn searches() -> Vec<Named> {
+    vec![
+        ("list reversal, 24 elements", list_reversal(24)),
+        ("Peano arithmetic, 10 times 10", multiplication(10)),
+        ("graph search, 8 layers, no path", graph_search(8)),
+        ("nested suppositions, 60 deep", nested_suppositions(60)),
+        ("a house of 60 rules, 12 cues", house()),
+    ]
+}
+
+/// Searches that never end, each growing something.
+pub fn endless() -> Vec<Named> {
+    let lines = |short: &str| {
+        let lines: Vec<String> = short
+            .split(';')
+            .map(|line| line.trim().replace(' ', "\t") + "\n")
+            .collect();
+        lines.concat().into_bytes()
+    };
+    vec![
+        ("p if p: nothing grows", lines("P p 0; A 0; > 0 0; C 1; Q 0")),
+        ("p if p and p: open goals", lines("P p 0; A 0; & 0 0; > 1 0; C 2; Q 0")),
+        ("p if p or p: alternatives", lines("P p 0; A 0; | 0 0; > 1 0; C 2; Q 0")),
+        (
+            "p if (q implies p): assumptions",
+            lines("P p 0; P q 0; A 0; A 1; > 1 0; > 2 0; C 3; Q 0"),
+        ),
+        ("p if every v p: levels", lines("P p 0; A 0; U 0 0; > 1 0; C 2; Q 0")),
+        (
+            "p(s(x)) if p(x): a term",
+            lines("P p 1; F s 1; V 0; A 0 0; A 1 0; A 0 2; > 1 3; U 0 4; C 5; Q 1"),
+        ),
+        (
+            "r(x) if k(x) and r(x): a chain of variables",
+            lines("P r 1; P k 1; V 0; A 1 0; A 0 0; & 1 2; > 3 2; U 0 4; C 5; > 1 2; E 0 6; Q 7"),
+        ),
+    ]
+}
+
+fn numeral(builder: &mut Builder, zero: usize, successor: usize, value: usize) -> usize {
+    let mut term = builder.apply(zero, &[]);
+    for _ in 0..value {
+        term = builder.apply(successor, &[term]);
+    }
+    term
+}
+
+/// The clause with its variables quantified, the first outermost.
+fn add_clause(builder: &mut Builder, variables: &[u8], clause: usize) {
+    let clause = variables
+        .iter()
+        .rev()
+        .fold(clause, |clause, &variable| builder.every(variable, clause));
+    builder.clause(clause);
+}
+
+fn list_reversal(length: usize) -> Vec<u8> {
+    let mut b = Builder::new(true);
+    let (nil, cons) = (b.function("nil", 0), b.function("cons", 2));
+    let (app, rev) = (b.predicate("app", 3), b.predicate("rev", 2));
+    let [x, l, m, n] = [0, 1, 2, 3].map(|variable| b.variable(variable));
+    let empty = b.apply(nil, &[]);
+    // app(nil, l, l); app(cons(x, l), m, cons(x, n)) if app(l, m, n)
+    let fact = b.apply(app, &[empty, l, l]);
+    add_clause(&mut b, &[1], fact);
+    let (xl, xn) = (b.apply(cons, &[x, l]), b.apply(cons, &[x, n]));
+    let (body, head) = (b.apply(app, &[l, m, n]), b.apply(app, &[xl, m, xn]));
+    let rule = b.implies(body, head);
+    add_clause(&mut b, &[0, 1, 2, 3], rule);
+    // rev(nil, nil); rev(cons(x, l), n) if rev(l, m) and app(m, cons(x, nil), n)
+    let fact = b.apply(rev, &[empty, empty]);
+    b.clause(fact);
+    let one = b.apply(cons, &[x, empty]);
+    let (first, second) = (b.apply(rev, &[l, m]), b.apply(app, &[m, one, n]));
+    let (body, head) = (b.and(first, second), b.apply(rev, &[xl, n]));
+    let rule = b.implies(body, head);
+    add_clause(&mut b, &[0, 1, 2, 3], rule);
+    let mut list = empty;
+    for element in 0..length {
+        let element = b.function(&format!("e{element}"), 0);
+        let element = b.apply(element, &[]);
+        list = b.apply(cons, &[element, list]);
+    }
+    let goal = b.apply(rev, &[list, x]);
+    let goal = b.some(0, goal);
+    b.goal(goal)
+}
+
+fn multiplication(value: usize) -> Vec<u8> {
+    let mut b = Builder::new(true);
+    let (zero, s) = (b.function("z", 0), b.function("s", 1));
+    let (plus, times) = (b.predicate("plus", 3), b.predicate("times", 3));
+    let [x, y, w, v] = [0, 1, 2, 3].map(|variable| b.variable(variable));
+    let nothing = b.apply(zero, &[]);
+    let (sx, sw) = (b.apply(s, &[x]), b.apply(s, &[w]));
+    // plus(z, y, y); plus(s(x), y, s(w)) if plus(x, y, w)
+    let fact = b.apply(plus, &[nothing, y, y]);
+    add_clause(&mut b, &[1], fact);
+    let (body, head) = (b.apply(plus, &[x, y, w]), b.apply(plus, &[sx, y, sw]));
+    let rule = b.implies(body, head);
+    add_clause(&mut b, &[0, 1, 2], rule);
+    // times(z, y, z); times(s(x), y, w) if times(x, y, v) and plus(y, v, w)
+    let fact = b.apply(times, &[nothing, y, nothing]);
+    add_clause(&mut b, &[1], fact);
+    let (first, second) = (b.apply(times, &[x, y, v]), b.apply(plus, &[y, v, w]));
+    let (body, head) = (b.and(first, second), b.apply(times, &[sx, y, w]));
+    let rule = b.implies(body, head);
+    add_clause(&mut b, &[0, 1, 2, 3], rule);
+    let number = numeral(&mut b, zero, s, value);
+    let goal = b.apply(times, &[number, number, x]);
+    let goal = b.some(0, goal);
+    b.goal(goal)
+}
+
+/// Layers of two nodes, each with edges to both of the next; the node sought is in no layer.
+fn graph_search(layers: usize) -> Vec<u8> {
+    let mut b = Builder::new(true);
+    let (edge, path) = (b.predicate("edge", 2), b.predicate("path", 2));
+    let [x, y, z] = [0, 1, 2].map(|variable| b.variable(variable));
+    let (to_y, to_z, from_z) = (b.apply(edge, &[x, y]), b.apply(edge, &[x, z]), b.apply(path, &[z, y]));
+    let head = b.apply(path, &[x, y]);
+    let direct = b.implies(to_y, head);
+    add_clause(&mut b, &[0, 1], direct);
+    let further = b.and(to_z, from_z);
+    let further = b.implies(further, head);
+    add_clause(&mut b, &[0, 1, 2], further);
+    let mut nodes = Vec::new();
+    for layer in 0..layers {
+        for side in ["l", "r"] {
+            let node = b.function(&format!("{side}{layer}"), 0);
+            nodes.push(b.apply(node, &[]));
+        }
+    }
+    for pair in nodes.chunks(2).collect::<Vec<_>>().windows(2) {
+        for &from in pair[0] {
+            for &to in pair[1] {
+                let fact = b.apply(edge, &[from, to]);
+                b.clause(fact);
+            }
+        }
+    }
+    let nowhere = b.function("nowhere", 0);
+    let nowhere = b.apply(nowhere, &[]);
+    let goal = b.apply(path, &[nodes[0], nowhere]);
+    b.goal(goal)
+}
+
+/// r(s(n)) if (h(n) implies r(n)): so many assumptions, and then each is looked for.
+fn nested_suppositions(depth: usize) -> Vec<u8> {
+    let mut b = Builder::new(true);
+    let (zero, s) = (b.function("z", 0), b.function("s", 1));
+    let (r, h, all) = (b.predicate("r", 1), b.predicate("h", 1), b.predicate("all", 1));
+    let n = b.variable(0);
+    let (nothing, next) = (b.apply(zero, &[]), b.apply(s, &[n]));
+    let (assumed, then) = (b.apply(h, &[n]), b.apply(r, &[n]));
+    let (body, head) = (b.implies(assumed, then), b.apply(r, &[next]));
+    let rule = b.implies(body, head);
+    add_clause(&mut b, &[0], rule);
+    // all(z); all(s(n)) if h(n) and all(n); r(z) if all(depth)
+    let fact = b.apply(all, &[nothing]);
+    b.clause(fact);
+    let others = b.apply(all, &[n]);
+    let (body, head) = (b.and(assumed, others), b.apply(all, &[next]));
+    let rule = b.implies(body, head);
+    add_clause(&mut b, &[0], rule);
+    let number = numeral(&mut b, zero, s, depth);
+    let (body, head) = (b.apply(all, &[number]), b.apply(r, &[nothing]));
+    let rule = b.implies(body, head);
+    b.clause(rule);
+    let goal = b.apply(r, &[number]);
+    b.goal(goal)
+}
+
+/// Twelve areas with five rules each, and the question whether all twelve cues may go: a strobe may go if, whichever
+/// door is opened, the warning lamp still stands, and somebody of the crew sees that the area is clear.
+fn house() -> Vec<u8> {
+    const AREAS: usize = 12;
+    let mut b = Builder::new(true);
+    let predicates = [
+        ("may", 1),
+        ("stands", 1),
+        ("opened", 1),
+        ("safe", 1),
+        ("clear", 1),
+        ("sees", 2),
+    ];
+    let [may, stands, opened, safe, clear, sees] = predicates.map(|(name, arity)| b.predicate(name, arity));
+    let (door, person) = (b.variable(0), b.variable(1));
+    let any_opened = b.apply(opened, &[door]);
+    let mut cues = Vec::new();
+    for area in 0..AREAS {
+        let [cue, lamp, place, watch] = ["cue", "lamp", "area", "watch"].map(|kind| {
+            let symbol = b.function(&format!("{kind}{area}"), 0);
+            b.apply(symbol, &[])
+        });
+        let (is_safe, is_clear) = (b.apply(safe, &[place]), b.apply(clear, &[place]));
+        let (may_go, lamp_stands) = (b.apply(may, &[cue]), b.apply(stands, &[lamp]));
+        // The cue may go if its area is safe and clear.
+        let both = b.and(is_safe, is_clear);
+        let rule = b.implies(both, may_go);
+        b.clause(rule);
+        // The area is safe if, whichever door is opened, the lamp stands.
+        let still = b.implies(any_opened, lamp_stands);
+        let whichever = b.every(0, still);
+        let rule = b.implies(whichever, is_safe);
+        b.clause(rule);
+        // The lamp stands if some door is opened.
+        let some_door = b.some(0, any_opened);
+        let rule = b.implies(some_door, lamp_stands);
+        b.clause(rule);
+        // The area is clear if somebody sees it, and its watch does.
+        let seen = b.apply(sees, &[person, place]);
+        let somebody = b.some(1, seen);
+        let rule = b.implies(somebody, is_clear);
+        b.clause(rule);
+        let fact = b.apply(sees, &[watch, place]);
+        b.clause(fact);
+        cues.push(may_go);
+    }
+    // Each is asked for four times, in both orders.
+    let forward = cues[1..].iter().fold(cues[0], |goal, &cue| b.and(goal, cue));
+    let backward = cues[..AREAS - 1]
+        .iter()
+        .rev()
+        .fold(cues[AREAS - 1], |goal, &cue| b.and(goal, cue));
+    let once = b.and(forward, backward);
+    let goal = b.and(once, once);
+    b.goal(goal)
+}
+
+/// A sheet of nearly 16,384 bytes for the reader, or of that part of it: 250 long names and a thousand nodes.
+pub fn full_sheet(part: usize) -> Vec<u8> {
+    let (names, nodes) = (250 / part, 1_000 / part);
+    let mut sheet = String::new();
+    for name in 0..names {
+        sheet.push_str(&format!("F\tname_of_len_x{name:03}\t1\n"));
+    }
+    sheet.push_str("V\t0\n");
+    for node in 0..nodes {
+        // The names take turns, those declared last among them.
+        sheet.push_str(&format!("A\t{}\t{node}\n", names * 2 / 5 + node % (names * 3 / 5)));
+    }
+    sheet.push_str(&format!("Y\nQ\t{}\n", nodes + 1));
+    sheet.into_bytes()
+}
+
+/// The least to do: the goal "true".
+pub fn trivial() -> Vec<u8> {
+    b"Y\nQ\t0\n".to_vec()
+}
+
+/// d(c(n), s^height(x)) if d(n, x); d(z, s^rest(x)) if e(x); e(a). The goal d(c^links(z), x) binds its variable to a
+/// term of links * height + rest applications of s within each other, which is written, and so is what is left of it at
+/// each prefix.
+pub fn deep_term(height: usize, links: usize, rest: usize) -> Vec<u8> {
+    let mut b = Builder::new(true);
+    let [a, s, zero, c] = [("a", 0), ("s", 1), ("z", 0), ("c", 1)].map(|(name, arity)| b.function(name, arity));
+    let (d, e) = (b.predicate("d", 2), b.predicate("e", 1));
+    let (x, n) = (b.variable(0), b.variable(1));
+    let mut towers = vec![x];
+    for level in 0..height.max(rest) {
+        towers.push(b.apply(s, &[towers[level]]));
+    }
+    let next = b.apply(c, &[n]);
+    let (body, head) = (b.apply(d, &[n, x]), b.apply(d, &[next, towers[height]]));
+    let rule = b.implies(body, head);
+    add_clause(&mut b, &[0, 1], rule);
+    let nothing = b.apply(zero, &[]);
+    let (body, head) = (b.apply(e, &[x]), b.apply(d, &[nothing, towers[rest]]));
+    let rule = b.implies(body, head);
+    add_clause(&mut b, &[0], rule);
+    let end = b.apply(a, &[]);
+    let end = b.apply(e, &[end]);
+    b.clause(end);
+    let count = numeral(&mut b, zero, c, links);
+    let goal = b.apply(d, &[count, x]);
+    b.goal(goal)
+}

@@ -1,0 +1,89 @@
+//! The stored cases and the rehearsed sheets of document 01, through the Rust bindings.
+
+use std::fs;
+use std::path::PathBuf;
+
+use rules::{check, run, Outcome, Refusal, Run, Verdict};
+
+fn folder() -> PathBuf {
+    PathBuf::from(env!("CARGO_MANIFEST_DIR")).join("../cases")
+}
+
+/// The names of the stored cases.
+fn names() -> Vec<String> {
+    let entries = fs::read_dir(folder()).expect("the folder of cases");
+    let names = entries.map(|entry| {
+        entry
+            .expect("an entry")
+            .file_name()
+            .into_string()
+            .expect("a plain name")
+    });
+    names
+        .filter_map(|name| name.strip_suffix(".sheet").map(str::to_string))
+        .collect()
+}
+
+fn stored(name: &str, ending: &str) -> Vec<u8> {
+    fs::read(folder().join(format!("{name}.{ending}"))).expect("a stored file")
+}
+
+/// A run with buffers that are as long as they must be.
+fn answer(sheet: &[u8], budget: u32, answer_bytes: usize) -> (Run, Vec<u8>) {
+    let (mut table, mut work) = (vec![7; 8_192], vec![7; 64 * budget as usize]);
+    let mut answer = vec![7; answer_bytes];
+    let ended = run(sheet, budget, &mut table, &mut work, &mut answer);
+    answer.truncate(ended.length);
+    (ended, answer)
+}
+
+fn verdict(sheet: &[u8], text: &[u8]) -> Verdict {
+    let lines = text.iter().filter(|&&byte| byte == b'\n').count();
+    let (mut table, mut work) = (vec![7; 8_192], vec![7; 64 * lines]);
+    check(sheet, text, &mut table, &mut work)
+}
+
+#[test]
+fn stored_cases() {
+    let names = names();
+    assert!(names.len() > 100);
+    for name in names {
+        let sheet = stored(&name, "sheet");
+        for (budget, answer_bytes) in [(256, 16_384), (50_000, 65_535)] {
+            let (ended, text) = answer(&sheet, budget, answer_bytes);
+            let printed = match ended.outcome {
+                Outcome::Refused(Refusal { number, line }) => format!("X\t{number}\t{line}\n").into_bytes(),
+                _ => text.clone(),
+            };
+            assert_eq!(printed, stored(&name, &budget.to_string()), "{name}, budget {budget}");
+            match ended.outcome {
+                Outcome::Proved => assert_eq!(verdict(&sheet, &text), Verdict::Valid, "{name}"),
+                Outcome::No | Outcome::Spent => assert_eq!(verdict(&sheet, &text), Verdict::NotValid(1), "{name}"),
+                Outcome::Refused(_) => {}
+            }
+        }
+    }
+}
+
+/// The marked cases of document 01 that are about budgets, buffers and limits.
+#[test]
+fn rehearsed() {
+    let sheet = stored("s01_strobe", "sheet");
+    let proved = b"R\tproved\t3\nD\tclause\t1\n".to_vec();
+    let refused = |number, line| Outcome::Refused(Refusal { number, line });
+    let ended = |outcome, units, length| Run { outcome, units, length };
+    assert_eq!(answer(&sheet, 3, 22), (ended(Outcome::Proved, 3, 22), proved.clone()));
+    assert_eq!(
+        answer(&sheet, 2, 22),
+        (ended(Outcome::Spent, 2, 10), b"R\tspent\t2\n".to_vec())
+    );
+    assert_eq!(answer(&sheet, 3, 21), (ended(refused(12, 0), 0, 0), Vec::new()));
+    assert_eq!(
+        answer(&sheet, 50_000, 22),
+        (ended(Outcome::Proved, 3, 22), proved.clone())
+    );
+    assert_eq!(answer(&sheet, 50_001, 22), (ended(refused(3, 0), 0, 0), Vec::new()));
+    assert_eq!(answer(b"", 3, 22), (ended(refused(11, 1), 0, 0), Vec::new()));
+    assert_eq!(verdict(&sheet, &proved), Verdict::Valid);
+    assert_eq!(verdict(b"", &proved), Verdict::Refused(Refusal { number: 11, line: 1 }));
+}

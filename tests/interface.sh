@@ -1,0 +1,72 @@
+#!/usr/bin/env bash
+# The C interface and the Rust bindings with a library: tests/interface.sh [LIBRARY]
+# The C example, compiled as C and as C++, and the Rust example must print the rehearsed answers of document 01 and the
+# known answer of every stored case, and `valid` after each proof.
+set -euo pipefail
+cd "$(dirname "$0")/.."
+library=$(realpath "${1:-${RULES_LIBRARY:-target/staticlib/librules.a}}")
+work=$(mktemp -d)
+trap 'rm -rf "$work"' EXIT
+
+warnings=(-Wall -Wextra -Wpedantic -Werror)
+example=examples/c/rules_example.c
+"${CC:-cc}" -std=c99 "${warnings[@]}" -O2 -I include -o "$work/c" $example "$library"
+"${CXX:-c++}" -std=c++11 "${warnings[@]}" -O2 -I include -o "$work/cxx" -x c++ $example -x none "$library"
+(cd bindings/rust && cargo fmt --check)
+RULES_LIBRARY=$library cargo build --release --offline --quiet --manifest-path bindings/rust/Cargo.toml --example answer
+cp bindings/rust/target/release/examples/answer "$work/rust"
+
+compared=0
+# expect FILE SHEET [BUDGET [ANSWER_BYTES]]: what all three print for a sheet.
+expect() {
+    local expected=$1 program
+    shift
+    for program in c cxx rust; do
+        if ! "$work/$program" "$@" >"$work/printed" || ! cmp -s "$expected" "$work/printed"; then
+            echo "interface: $program $* differs" >&2
+            diff -a "$expected" "$work/printed" >&2 || true
+            exit 1
+        fi
+        compared=$((compared + 1))
+    done
+}
+# expect_text TEXT SHEET [BUDGET [ANSWER_BYTES]]
+expect_text() {
+    printf '%b' "$1" >"$work/expected"
+    shift
+    expect "$work/expected" "$@"
+}
+# A clause of so many members, p each time.
+members() {
+    printf 'P\tp\t0\nA\t0\n'
+    for ((node = 0; node < $1 - 1; node++)); do printf '&\t%d\t0\n' "$node"; done
+    printf 'C\t%d\nQ\t0\n' $(($1 - 1))
+}
+
+# Document 01, "Rehearsed sheets": budgets, the answer buffer, limits. The others are stored cases.
+strobe=examples/strobe.sheet
+proved='R\tproved\t3\nD\tclause\t1\nvalid\n'
+expect_text "$proved" $strobe 3
+expect_text 'R\tspent\t2\n' $strobe 2
+expect_text "$proved" $strobe 3 22
+expect_text 'X\t12\t0\n' $strobe 3 21
+expect_text "$proved" $strobe 50000
+expect_text 'X\t3\t0\n' $strobe 50001
+expect_text 'X\t3\t0\n' $strobe 0
+: >"$work/empty"
+expect_text 'X\t11\t1\n' "$work/empty"
+members 64 >"$work/members64"
+expect_text 'R\tproved\t2\nD\tclause\t1\nvalid\n' "$work/members64"
+members 65 >"$work/members65"
+expect_text 'X\t9\t67\n' "$work/members65"
+
+for sheet in tests/cases/*.sheet; do
+    for budget in 256 50000; do
+        cp "${sheet%.sheet}.$budget" "$work/expected"
+        if [[ $(head -c 8 "$work/expected") == $'R\tproved' ]]; then
+            echo valid >>"$work/expected"
+        fi
+        expect "$work/expected" "$sheet" "$budget"
+    done
+done
+echo "interface: $compared outputs of the C, C++ and Rust examples, all as expected"

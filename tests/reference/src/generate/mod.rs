@@ -1,0 +1,111 @@
+//! Seeded generators: sheets, each family aimed at a way in which a program can go wrong; answer texts; damaged bytes;
+//! and the calls of engine and checker that are tried with them.
+
+pub mod builder;
+mod calls;
+mod damage;
+mod formulas;
+mod language;
+mod levels;
+mod limits;
+mod prefixes;
+mod special;
+mod symbols;
+mod terms;
+mod texts;
+
+pub use calls::{checks, runs, runs_of, CheckCall, RunCall};
+pub use damage::{damaged, noise};
+pub use special::special_text;
+pub use texts::changed_text;
+
+use crate::random::Random;
+
+#[derive(Clone, Copy, PartialEq, Eq, Debug, PartialOrd, Ord)]
+pub enum Family {
+    /// Any goals and clauses.
+    Formulas,
+    /// The same with two variables only, so that quantifiers hide each other.
+    Shadowing,
+    /// The same with equal nodes written once.
+    Sharing,
+    /// Lines drawn from the nodes so far: goals that unfold without measure.
+    Graphs,
+    /// Goals and clauses without arguments: scopes and orders.
+    Propositions,
+    /// Assumptions beside the goals that want them.
+    Scopes,
+    /// Clauses under many quantifiers, idle and hidden ones among them.
+    Prefixes,
+    /// Quantifiers before equations: levels lowered.
+    Equations,
+    /// Equations that fail after lowering, beside ones that want the old levels.
+    Restoring,
+    /// Variables bound to variables.
+    Chains,
+    /// Terms that unfold to a power of two.
+    Unfolding,
+    /// Deep and wide terms.
+    Terms,
+    /// Addition and joined lists.
+    Recursion,
+    /// Searches that grow their program.
+    Growth,
+    /// Sheets at a limit or one past it.
+    Limits,
+    /// Any other sheet with some bytes or lines changed.
+    Damaged,
+}
+
+pub const FAMILIES: [Family; 16] = [
+    Family::Formulas,
+    Family::Shadowing,
+    Family::Sharing,
+    Family::Graphs,
+    Family::Propositions,
+    Family::Scopes,
+    Family::Prefixes,
+    Family::Equations,
+    Family::Restoring,
+    Family::Chains,
+    Family::Unfolding,
+    Family::Terms,
+    Family::Recursion,
+    Family::Growth,
+    Family::Limits,
+    Family::Damaged,
+];
+
+/// The sheet of a seed; the families take turns.
+pub fn sheet(seed: u64) -> (Family, Vec<u8>) {
+    let family = FAMILIES[(seed % FAMILIES.len() as u64) as usize];
+    (family, of_family(family, &mut Random::new(seed)))
+}
+
+pub fn of_family(family: Family, random: &mut Random) -> Vec<u8> {
+    match family {
+        Family::Formulas => formulas::formulas(random, 8, false),
+        Family::Shadowing => formulas::formulas(random, 2, false),
+        Family::Sharing => formulas::formulas(random, 4, true),
+        Family::Graphs => formulas::graphs(random),
+        Family::Propositions => formulas::propositions(random),
+        Family::Scopes => formulas::scopes(random),
+        Family::Prefixes => prefixes::prefixes(random),
+        Family::Equations => levels::equations(random),
+        Family::Restoring => levels::restoring(random),
+        Family::Chains => levels::chains(random),
+        Family::Unfolding => terms::unfolding(random),
+        Family::Terms => terms::terms(random),
+        Family::Recursion => terms::recursion(random),
+        Family::Growth => terms::growth(random),
+        Family::Limits => limits::limits(random),
+        Family::Damaged => {
+            let other = FAMILIES[random.below(FAMILIES.len() - 1)];
+            let mut sheet = of_family(other, random);
+            for _ in 0..1 + random.below(3) {
+                sheet = damaged(&sheet, random);
+            }
+            sheet
+        }
+    }
+}
