@@ -1,0 +1,46 @@
+#!/usr/bin/env bash
+# The answer checker on the stored cases: tests/checker.sh PROGRAM
+# A text that says proved is valid. Without its last LF its last line breaks; without its last line the line after the others is missing; one
+# line more is surplus. A text of no or spent breaks at its first line. A refused sheet is refused with the stored number and line.
+set -euo pipefail
+program=$(realpath "${1:?usage: tests/checker.sh PROGRAM}")
+cases=$(realpath "$(dirname "$0")/cases")
+work=$(mktemp -d)
+trap 'rm -rf "$work"' EXIT
+
+compared=0
+# expect SHEET TEXT EXPECTED
+expect() {
+    local printed
+    printed=$("$program" "$1" "$2")
+    if [[ $printed != "$3" ]]; then
+        echo "checker: $(basename "$1"): $printed, expected $3" >&2
+        exit 1
+    fi
+    compared=$((compared + 1))
+}
+
+for sheet in "$cases"/*.sheet; do
+    text=${sheet%.sheet}.256
+    lines=$(wc -l <"$text")
+    case $(head -c 4 "$text") in
+    $'R\tpr')
+        expect "$sheet" "$text" valid
+        head -c -1 "$text" >"$work/unended"
+        expect "$sheet" "$work/unended" $'not valid\t'"$lines"
+        head -n -1 "$text" >"$work/short"
+        expect "$sheet" "$work/short" $'not valid\t'"$lines"
+        (cat "$text" && printf 'D\ttrue\n') >"$work/long"
+        expect "$sheet" "$work/long" $'not valid\t'"$((lines + 1))"
+        ;;
+    R*) expect "$sheet" "$text" $'not valid\t1' ;;
+    # Refusal 12 is the engine's: the sheet is right, and the text that tells the refusal is none.
+    $'X\t12') expect "$sheet" "$text" $'not valid\t1' ;;
+    *) expect "$sheet" "$text" "$(cat "$text")" ;;
+    esac
+done
+if ((compared < 100)); then
+    echo "checker: only $compared texts compared" >&2
+    exit 1
+fi
+echo "checker: $compared verdicts, all as expected"
