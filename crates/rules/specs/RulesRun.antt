@@ -15,7 +15,7 @@ runNumbers h = h .outcome ∷ h .units ∷ h .length ∷ h .number ∷ h .line �
 unfoldable pub runOf : List ℕ → ℕ → List ℕ → List ℕ → List ℕ → HandedBack
 runOf bytes budget table work answer = handedBack (engineRun bytes budget (length table) (length work) (length answer))
 
--- For every input: the lent buffers as the engine leaves them, the outcome's number returned, all five numbers in `result`.
+-- For every input: the lent buffers as the engine leaves them, the outcome's number returned, the five numbers over the front of `result`.
 pub record RulesRun (bytes : List ℕ) (budget : ℕ) (table work answer result table′ work′ answer′ result′ : List ℕ) (n : ℕ) : Type 0 where
   pub runs : RunContract bytes budget table work answer table′ work′ answer′ (runOf bytes budget table work answer)
   pub value : n ≡ runOf bytes budget table work answer .outcome
