@@ -18,7 +18,7 @@ use Rattle.checker.specs.CheckText.{Checked, turnedBack, countLf, checkS
 use Rattle.checker.specs.Promises.{handedBack, CheckContract}
 use Rattle.checker.specs.Handed.{handed}
 use Rattle.checker.specs.Checking.{earlyNumber, refusedCheck}
-use Rattle.checker.proofs.Refusals.{refused-late}
+use Rattle.reader.proofs.Refusals.{refused-late}
 
 -- the tests of refusals 1, 2 and 4, and what follows them
 shut : (a b c : Bool) (r : Checked) (n : ℕ) → n ≡ cond a 1 (cond b 2 (cond c 4 0)) → (n ≡ 0 → ⊥)

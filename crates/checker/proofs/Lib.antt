@@ -1,6 +1,5 @@
 pub mod Exact
 pub mod LineFeeds
-pub mod Refusals
 pub mod Parts
 pub mod Judged
 pub mod Gates

@@ -20,7 +20,7 @@ use Rattle.engine.specs.Promises.{handedBack, RunContract}
 use Rattle.engine.specs.Handed.{handed}
 use Rattle.engine.specs.Answering.{earlyNumber, Answering}
 use Rattle.engine.proofs.Answered.{Passed}
-use Rattle.engine.proofs.Refusals.{refused-late}
+use Rattle.reader.proofs.Refusals.{refused-late}
 
 -- the tests of refusals 1, 2, 3, 3 and 5, and what follows them
 shut : (a b c d e : Bool) (r : Result) (n : ℕ) → n ≡ cond a 1 (cond b 2 (cond c 3 (cond d 3 (cond e 5 0)))) → (n ≡ 0 → ⊥)

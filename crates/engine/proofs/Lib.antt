@@ -5,7 +5,6 @@ pub mod Demand3
 pub mod Buffers
 pub mod Callers
 pub mod Promises
-pub mod Refusals
 pub mod Gates
 pub mod Laws
 pub mod Answering

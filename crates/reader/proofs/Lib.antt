@@ -3,3 +3,4 @@ pub mod Lines
 pub mod Steps
 pub mod Reading
 pub mod Determined
+pub mod Refusals
