@@ -9,10 +9,10 @@ ghost use lib.ListN.{length, replicate};
 ghost use Rattle.sheets.specs.Limits.{maxSheetBytes, tableNumbers, maxTextBytes};
 ghost use Rattle.sheets.specs.Buffers.{demanded};
 ghost use Rattle.sheets.specs.Sheets.{readSheet};
-ghost use Rattle.checker.specs.CheckText.{countLf, checkSheet};
-ghost use Rattle.checker.specs.Promises.{handedBack, CheckContract};
-ghost use Rattle.checker.specs.Handed.{handed};
-ghost use Rattle.checker.specs.Checking.{earlyNumber, refusedCheck, verdictAt};
+ghost use Rattle.judgements.specs.CheckText.{countLf, checkSheet};
+ghost use Rattle.judgements.specs.Promises.{handedBack, CheckContract};
+ghost use Rattle.judgements.specs.Handed.{handed};
+ghost use Rattle.judgements.specs.Checking.{earlyNumber, refusedCheck, verdictAt};
 
 // How many LF bytes the text has. The work buffer has 64 numbers for each.
 fn count_lf(text: &[u8]) -> usize
@@ -67,7 +67,7 @@ fn judge_sheet(sheet: &[u8], text: &[u8], t: &mut [u32], w: &mut [u32]) -> Verdi
     requires { ⌜ (length (now sheet) ≤ maxSheetBytes) × (tableNumbers ≤ length (now t)) × (length (now text) ≤ maxTextBytes) × (demanded (countLf (now text)) ≤ length (now w)) ⌝ }
     ensures { λ r. ⌜ handed r ≡ handedBack (checkSheet (now (text .entry)) (readSheet (now (sheet .entry)))) ⌝ }
 {
-    let read = reader::read_sheet(sheet, t);
+    let read = sheet_reader::read_sheet(sheet, t);
     match read {
         Read::Done(k, goal) => {
             let line = rulings::judge_text(sheet, t, k.symbols, k.clauses, goal, text, w);

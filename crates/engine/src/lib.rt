@@ -1,81 +1,19 @@
 // The engine: a sheet is read, searched within a budget and answered, in buffers that the caller lends (document 01).
-use machine::Registers;
+use gates::early;
 use memory::wide;
 use memory::zero_front;
-use outcomes::Outcome;
 use outcomes::Run;
 use reader::Read;
+use telling::tell;
 ghost use mathlib.Core.Path.{_≡_};
 ghost use Prim.Native.Nat.{_≤_};
 ghost use lib.ListN.{length, replicate};
 ghost use Rattle.sheets.specs.Limits.{maxSheetBytes, tableNumbers, maxBudget};
 ghost use Rattle.sheets.specs.Buffers.{demanded};
-ghost use Rattle.machine.specs.Records.{made};
 ghost use Rattle.machine.specs.Machine.{runMachine};
-ghost use Rattle.engine.specs.Promises.{RunContract};
-ghost use Rattle.engine.specs.Handed.{handed};
-ghost use Rattle.engine.specs.Answering.{earlyNumber, reported, ended, tell, Answering};
-
-// The first refusal that looks at sizes alone, or 0.
-fn early(sheet: usize, budget: u32, table: usize, work: usize) -> u32
-    ensures { λ r. ⌜ r ≡ earlyNumber sheet budget table work ⌝ }
-{
-    if 16384 < sheet {
-        return 1;
-    }
-    if table < 8192 {
-        return 2;
-    }
-    if budget == 0 {
-        return 3;
-    }
-    if 50000 < budget {
-        return 3;
-    }
-    if work < 64 * wide(budget) {
-        return 5;
-    }
-    0
-}
-
-// A text of this length was written, or did not fit.
-fn report(outcome: Outcome, units: u32, length: u32) -> Run
-    ensures { λ r. ⌜ r ≡ reported outcome units length ⌝ }
-{
-    if 65535 < length {
-        return outcomes::refused(12, 0);
-    }
-    Run {
-        outcome,
-        units,
-        length,
-    }
-}
-
-// The text of what the machine came to, and what is told of it.
-fn tell(
-    sheet: &[u8],
-    t: &[u32],
-    goal: u32,
-    budget: u32,
-    w: &mut [u32],
-    r: Registers,
-    answer: &mut [u8],
-) -> Run
-    ensures { λ e. ⌜ ended (now (answer .exit)) e ≡ tell (now (sheet .entry)) (now (t .entry)) goal budget (made (now (w .entry)) r) (now (answer .entry)) ⌝ }
-{
-    let acts = r.acts;
-    if r.mode == 4 {
-        let n = writer::write_proof(sheet, t, goal, w, r, acts, answer);
-        return report(Outcome::Proved, acts, n);
-    }
-    if r.mode == 5 {
-        let n = writer::write_no(acts, answer);
-        return report(Outcome::No, acts, n);
-    }
-    let n = writer::write_spent(budget, answer);
-    report(Outcome::Spent, budget, n)
-}
+ghost use Rattle.runs.specs.Promises.{RunContract};
+ghost use Rattle.runs.specs.Handed.{handed};
+ghost use Rattle.runs.specs.Answering.{ended, tell, Answering};
 
 // The search for the goal that stands in the table, and its answer.
 fn search(
@@ -98,7 +36,7 @@ fn answer_sheet(sheet: &[u8], budget: u32, t: &mut [u32], w: &mut [u32], answer:
     requires { ⌜ (length (now sheet) ≤ maxSheetBytes) × (tableNumbers ≤ length (now t)) × (budget ≤ maxBudget) × (demanded budget ≤ length (now w)) ⌝ }
     ensures { λ r. ⌜ Answering (now (sheet .entry)) budget (now (answer .entry)) (now (answer .exit)) r ⌝ }
 {
-    let read = reader::read_sheet(sheet, t);
+    let read = sheet_reader::read_sheet(sheet, t);
     match read {
         Read::Done(k, goal) => search(sheet, t, k.clauses, goal, budget, w, answer),
         Read::Refused(f) => outcomes::refused(f.number, f.line),

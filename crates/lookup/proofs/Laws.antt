@@ -11,22 +11,7 @@ use Rattle.machine.specs.declared.Found.{Found}
 use Rattle.machine.specs.Words.{narrow, up}
 use Rattle.machine.specs.Members.{found, hasName, addName, findMember}
 
--- Bits and digits.
-pub bit-end : (m v : ℕ) → v ≤ 0 → bitOf m v ≡ m % 2
-unfolding bitOf
-bit-end m zero p = refl
-bit-end m (suc v) p = absurd (omega arith)
-
-pub bit-none : (m v : ℕ) → m ≡ 0 → bitOf m v ≡ 0
-unfolding bitOf
-bit-none m zero e = rw e
-bit-none m (suc v) e = bit-none (m / 2) v (rw e)
-
-pub bit-on : (m v : ℕ) → 0 < v → bitOf m v ≡ bitOf (m / 2) (v - 1)
-unfolding bitOf
-bit-on m zero p = absurd (omega arith)
-bit-on m (suc v) p = rw (sub-one (suc v))
-
+-- Digits.
 pub name-end : (n vs v : ℕ) → n ≤ 0 → hasName n vs v ≡ false
 unfolding hasName
 name-end zero vs v p = refl

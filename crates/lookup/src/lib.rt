@@ -1,32 +1,17 @@
 // The member of a clause at a place, with its prefix, found by walking down the clause's nodes in the table.
-use cells::narrow;
-use cells::up;
 use machine::Found;
 use memory::wide;
+use tables::bit_of;
 use tables::child;
 use tables::kind;
 use tables::label;
 use tables::mask;
 use tables::members;
+use words::narrow;
+use words::up;
 ghost use mathlib.Core.Path.{_≡_};
 ghost use Rattle.tables.specs.Layout.{bitOf};
 ghost use Rattle.machine.specs.Members.{hasName, addName, findMember, headOf};
-
-// Bit v of a mask.
-pub fn bit_of(m: u32, v: u32) -> u32
-    ensures { λ r. ⌜ r ≡ bitOf m v ⌝ }
-{
-    let mut rest = m;
-    let mut left = v;
-    while 0 < left {
-        if rest == 0 {
-            return 0;
-        }
-        rest = rest / 2;
-        left -= 1;
-    }
-    rest % 2
-}
 
 // Whether one of the first n digits is v.
 pub fn has_name(n: u32, vs: u32, v: u32) -> bool

@@ -1,75 +1,15 @@
-// The member at a place: found along the hypotheses and the sheet's clauses, then down the clause's nodes. Each function is a
-// definition of the crate judging, and its contract says so.
-use frames::field;
+// The member at a place, found down the clause's nodes: its head, its body and the names of its prefix.
+// Each function is a definition of the crate judging, and its contract says so.
 use judging::Found;
-use judging::Place;
+use tables::bit_of;
 use tables::child;
-use tables::clause_node;
 use tables::kind;
 use tables::label;
 use tables::mask;
 use tables::members;
 ghost use mathlib.Core.Path.{_≡_};
 ghost use Rattle.tables.specs.Layout.{bitOf};
-ghost use Rattle.judging.specs.Members.{clauseFrom, hypothesisFrom, hasName, pushName, addName, memberAt, member, headOf};
-
-// Member k of the sheet's clauses, of which there are so many.
-pub fn clause_from(clauses: u32, t: &[u32], k: u32) -> Place
-    ensures { λ r. ⌜ r ≡ clauseFrom clauses (now (t .entry)) 0 k ⌝ }
-{
-    let mut i: u32 = 0;
-    let mut left = k;
-    while i < clauses {
-        let node = clause_node(t, i);
-        let count = members(t, node);
-        if left < count {
-            return Place::At(node, 0, left);
-        }
-        left -= count;
-        i += 1;
-    }
-    Place::Nowhere
-}
-
-// Member k counted from the hypothesis h on, of at most n hypotheses, then the sheet's clauses.
-pub fn hypothesis_from(n: u32, t: &[u32], clauses: u32, w: &[u32], h: u32, k: u32) -> Place
-    ensures { λ r. ⌜ r ≡ hypothesisFrom n (now (t .entry)) clauses (now (w .entry)) h k ⌝ }
-{
-    let mut turns = n;
-    let mut next = h;
-    let mut left = k;
-    while 0 < turns {
-        if next == 0 {
-            return clause_from(clauses, t, left);
-        }
-        let q = next - 1;
-        let node = field(w, q, 21);
-        let count = members(t, node);
-        if left < count {
-            return Place::At(node, field(w, q, 22), left);
-        }
-        next = field(w, q, 23);
-        left -= count;
-        turns -= 1;
-    }
-    clause_from(clauses, t, left)
-}
-
-// Bit v of a mask.
-pub fn bit_of(m: u32, v: u32) -> u32
-    ensures { λ r. ⌜ r ≡ bitOf m v ⌝ }
-{
-    let mut rest = m;
-    let mut left = v;
-    while 0 < left {
-        if rest == 0 {
-            return 0;
-        }
-        rest = rest / 2;
-        left -= 1;
-    }
-    rest % 2
-}
+ghost use Rattle.judging.specs.Members.{hasName, pushName, addName, memberAt, member, headOf};
 
 // Whether one of the first n digits is v.
 pub fn has_name(n: u32, vs: u32, v: u32) -> bool

@@ -5,32 +5,11 @@ use native.Mathlib.Omega.{arith}
 use mathlib.Core.Path.{_≡_, refl}
 use mathlib.Core.List.{List}
 use borrow.Author.Tests.{lt-ltb, le-ltb, eq-eqb, ne-eqb}
-use Rattle.tables.specs.Layout.{childCount, labelOf, childOf, nameStart, nameLength}
+use Rattle.tables.specs.Layout.{childCount, labelOf, childOf}
 use Rattle.machine.specs.Words.{up, tagOf, nameOf, nodeOf, frameOf, wordOf}
 use Rattle.writing.specs.declared.Pen.{Pen}
-use Rattle.writing.specs.Output.{written, emit, copyBytes}
-use Rattle.writing.specs.Marks.{onAt, Page, page, wrote, seek, showVariable, showConstant}
+use Rattle.writing.specs.Marks.{Page, page, seek, showVariable, showConstant}
 use Rattle.writing.specs.WriteTerms.{emitTo, writeName, separator, argumentsBy, applicationBy, wordBy, writeTerm, termTo}
-
--- Bytes on a page.
-module _ (out out′ : List ℕ) (limit to : ℕ) (p q : Pen) where
-  pub byte-written : (b : ℕ) → written out′ to ≡ emit out limit (p .at) b → q ≡ onAt p to → (m : List ℕ) → page m out′ q ≡ emitTo limit (page m out p) b
-  unfolding emitTo wrote
-  byte-written b e eq m = rw eq (simp (emitTo, wrote, ← e))
-
-  pub name-written : (sheet t : List ℕ) (f s i n : ℕ) → s ≡ nameStart t f → i ≡ s → n ≡ nameLength t f → written out′ to ≡ copyBytes n sheet i out limit (p .at) → q ≡ onAt p to → (m : List ℕ) → page m out′ q ≡ writeName sheet t limit (page m out p) f
-  unfolding writeName wrote
-  name-written sheet t f s i n es ei en e eq m =
-      let e′ : written out′ to ≡ copyBytes (nameLength t f) sheet (nameStart t f) out limit (p .at) = rw (ei, es, en) at e in
-      rw eq (simp (writeName, wrote, ← e′))
-
-pub separator-first : (j : ℕ) → j ≡ 0 → 40 ≡ separator j
-unfolding separator
-separator-first j e = simp (separator, eq-eqb _ _ e)
-
-pub separator-next : (j : ℕ) → (j ≡ 0 → ⊥) → 44 ≡ separator j
-unfolding separator
-separator-next j e = simp (separator, ne-eqb _ _ e)
 
 -- The arguments.
 module _ (write : Page → ℕ → Page) (t : List ℕ) (limit c n f j : ℕ) where

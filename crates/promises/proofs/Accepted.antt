@@ -14,13 +14,13 @@ use Rattle.sheets.specs.Sheets.{Refusal, refusal}
 use Rattle.texts.specs.Judging.{valid, judge}
 use Rattle.texts.specs.Promises.{CheckerExact}
 use Rattle.texts.proofs.Promises.{checkerExact}
-use Rattle.engine.specs.EngineRun.{Told, toldProved, toldNo, toldSpent, Answer, Result, answered, turnedBack as refusedRun, engineRun, answerAfter}
-use Rattle.engine.specs.Promises.{HandedBack, outcomeNumber, handedBack, RunContract, RunSound}
-use Rattle.engine.proofs.Answered.{answered-answers}
-use Rattle.engine.proofs.Buffers.{take-front}
-use Rattle.engine.proofs.Promises.{runSound}
-use Rattle.checker.specs.CheckText.{Checked, judged, turnedBack, countLf, checkSheet, turnBackIf, checkText}
-use Rattle.checker.specs.Promises.{HandedBack as CheckedBack, handedBack as checkedBack}
+use Rattle.runs.specs.EngineRun.{Told, toldProved, toldNo, toldSpent, Answer, Result, answered, turnedBack as refusedRun, engineRun, answerAfter}
+use Rattle.runs.specs.Promises.{HandedBack, outcomeNumber, handedBack, RunContract, RunSound}
+use Rattle.runs.proofs.Answered.{answered-answers}
+use Rattle.runs.proofs.Buffers.{take-front}
+use Rattle.runs.proofs.Promises.{runSound}
+use Rattle.judgements.specs.CheckText.{Checked, judged, turnedBack, countLf, checkSheet, turnBackIf, checkText}
+use Rattle.judgements.specs.Promises.{HandedBack as CheckedBack, handedBack as checkedBack}
 use Rattle.promises.specs.Accepted.{AcceptsWritten, RunChecks}
 
 -- whatever the buffers of the checker

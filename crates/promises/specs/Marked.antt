@@ -8,8 +8,8 @@ use Rattle.sheets.specs.Limits.{tableNumbers}
 use Rattle.sheets.specs.Bytes.{ascii}
 use Rattle.sheets.specs.Sheets.{refusal}
 use Rattle.texts.specs.Judging.{valid}
-use Rattle.engine.specs.EngineRun.{Told, toldProved, toldNo, toldSpent, Result, answered, turnedBack, engineRun}
-use Rattle.checker.specs.CheckText.{judged, checkText, countLf}
+use Rattle.runs.specs.EngineRun.{Told, toldProved, toldNo, toldSpent, Result, answered, turnedBack, engineRun}
+use Rattle.judgements.specs.CheckText.{judged, checkText, countLf}
 
 -- A sheet, a budget and a number of answer bytes, with the result. The table has 8,192 numbers, the work buffer 64 for each unit.
 pub record Case : Type 0 where

@@ -1,50 +1,12 @@
 -- One law for each way out of a function; the hypotheses are the facts on the code's path.
 use Prim.Native.Nat.{ℕ, _-_}
-use mathlib.Core.Path.{_≡_, refl, _∙_}
+use mathlib.Core.Path.{_≡_}
 use mathlib.Core.List.{List}
-use borrow.Author.Tests.{eq-eqb, ne-eqb}
 use Rattle.machine.specs.declared.Registers.{Registers}
-use Rattle.machine.specs.Records.{field, put, made, putChoice, putChosen, putPosition}
-use Rattle.machine.specs.Changes.{onMode, onNext, onTrail, onChoice, onGoals, onPath, onGoal, onMember}
-use Rattle.machine.specs.Trail.{undo}
-use Rattle.machine.specs.Choices.{saveChoice, resumeGoal, resumeMember, resumeBranch, resume, takeUp, failed}
+use Rattle.machine.specs.Records.{put, putChoice, putChosen, putPosition}
+use Rattle.machine.specs.Choices.{saveChoice}
 
 -- Saving.
 pub choice-saved : (w w₁ w₂ w₃ w₄ : List ℕ) (u : ℕ) (r : Registers) → w₁ ≡ put w u 43 (r .next) → w₂ ≡ putChoice w₁ u (r .trail) (r .choice) (r .goals) (r .path) (r .line) → w₃ ≡ putChosen w₂ u (r .node) (r .frame) (r .program) (r .level) → w₄ ≡ putPosition w₃ u (r .hypothesis) (r .clause) (r .member) (r .place) → w₄ ≡ saveChoice w u r
 unfolding saveChoice
 choice-saved w w₁ w₂ w₃ w₄ u r e₁ e₂ e₃ e₄ = rw (e₄, e₃, e₂, e₁)
-
--- Going on with what was saved in record q.
-module _ (w : List ℕ) (r : Registers) (q : ℕ) where
-  pub goal-resumed : (n f h i : ℕ) (s : Registers) → n ≡ field w q 49 → f ≡ field w q 50 → h ≡ field w q 51 → i ≡ field w q 52 → s ≡ onGoal r n f h i → s ≡ resumeGoal w r q
-  unfolding resumeGoal
-  goal-resumed n f h i s en ef eh ei es = rw (es, en, ef, eh, ei)
-
-  pub no-member-resumed : (p h c k : ℕ) (m s : Registers) → p ≡ field w q 56 → h ≡ field w q 53 → c ≡ field w q 54 → k ≡ field w q 55 → m ≡ onMember r h c k p → p ≡ 0 → s ≡ onMode m 0 → s ≡ resumeMember w r q
-  unfolding resumeMember
-  no-member-resumed p h c k m s ep eh ec ek em z es = rw (es, em, eh, ec, ek, ← ep, eq-eqb _ _ z)
-
-  pub member-resumed : (p h c k : ℕ) (m s : Registers) → p ≡ field w q 56 → h ≡ field w q 53 → c ≡ field w q 54 → k ≡ field w q 55 → m ≡ onMember r h c k p → (p ≡ 0 → ⊥) → s ≡ onMode m 1 → s ≡ resumeMember w r q
-  unfolding resumeMember
-  member-resumed p h c k m s ep eh ec ek em z es = rw (es, em, eh, ec, ek, ← ep, ne-eqb _ _ z)
-
-  pub branch-resumed : (n h o g p l : ℕ) → n ≡ field w q 43 → h ≡ field w q 44 → o ≡ field w q 45 → g ≡ field w q 46 → p ≡ field w q 47 → l ≡ field w q 48 → onPath (onGoals (onChoice (onTrail (onNext r n) h) o) g) p l ≡ resumeBranch w r q
-  unfolding resumeBranch
-  branch-resumed n h o g p l en eh eo eg ep el = rw (en, eh, eo, eg, ep, el)
-
-  pub all-resumed : (a b s : Registers) → a ≡ resumeBranch w r q → b ≡ resumeGoal w a q → s ≡ resumeMember w b q → s ≡ resume w r q
-  unfolding resume
-  all-resumed a b s ea eb es = rw (es, eb, ea)
-
-  pub taken-up : (w′ : List ℕ) (m : ℕ) (s : Registers) → s ≡ resume w r q → m ≡ field w q 44 → w′ ≡ undo (r .trail) w (r .trail) m → made w′ s ≡ takeUp w r q
-  unfolding takeUp
-  taken-up w′ m s es em ew = rw (ew, em, es)
-
--- Failure.
-pub failed-all : (w : List ℕ) (r s : Registers) → r .choice ≡ 0 → s ≡ onMode r 5 → made w s ≡ failed w r
-unfolding failed
-failed-all w r s z es = rw (es, eq-eqb _ _ z)
-
-pub failed-here : (w w′ : List ℕ) (r s : Registers) → (r .choice ≡ 0 → ⊥) → made w′ s ≡ takeUp w r (r .choice - 1) → made w′ s ≡ failed w r
-unfolding failed
-failed-here w w′ r s z es = es ∙ rw (ne-eqb _ _ z)

@@ -1,13 +1,12 @@
 -- One law for each way through a turn of a loop or through a call; the hypotheses are the facts on the code's path.
-use Prim.Native.Nat.{ℕ, zero, suc, _+_, _-_, _<_, _≤_}
+use Prim.Native.Nat.{ℕ, suc, _+_, _-_, _<_, _≤_}
 use native.Mathlib.Omega.{arith}
-use mathlib.Core.Path.{_≡_, refl, ap, _∙_}
+use mathlib.Core.Path.{_≡_, _∙_}
 use mathlib.Core.List.{List}
 use borrow.Author.Tests.{lt-ltb, le-ltb, eq-eqb, ne-eqb}
 use Rattle.tables.specs.Layout.{maskOf, bitOf}
-use Rattle.spellings.specs.Frames.{field}
 use Rattle.judging.specs.declared.Registers.{Registers}
-use Rattle.judging.specs.Sequents.{made, onStage, broken, onBinding, onSequent, freeFrom, boundFrom, bound, dueSequent, proceed}
+use Rattle.judging.specs.Sequents.{made, onStage, broken, onBinding, onSequent, freeFrom, boundFrom, bound}
 
 pub line-wrong : (r s : Registers) → s ≡ onStage r 4 → (w : List ℕ) → made w s ≡ broken w r
 unfolding broken
@@ -44,17 +43,3 @@ bound-all goal r s v f h e = e ∙ simp (boundFrom, le-ltb _ _ h)
 pub bound-made : (t : List ℕ) (goal : ℕ) (r s : Registers) (v f m u : ℕ) → m ≡ maskOf t goal → u ≡ freeFrom (8 - v) m v → s ≡ boundFrom goal r u f → s ≡ bound t goal r v f
 unfolding bound
 bound-made t goal r s v f m u em eu e = rw (e, eu, em)
-
--- the next sequent
-
-pub sequent-due : (w : List ℕ) (r s : Registers) (q n f h i m : ℕ) → n ≡ field w q 16 → f ≡ field w q 17 → h ≡ field w q 18 → i ≡ field w q 19 → m ≡ field w q 20 → s ≡ onSequent r n f h i m → s ≡ dueSequent w r q
-unfolding dueSequent
-sequent-due w r s q n f h i m en ef eh ei em es = rw (es, en, ef, eh, ei, em)
-
-pub all-done : (w : List ℕ) (r s : Registers) → r .rest ≡ 0 → s ≡ onStage r 3 → s ≡ proceed w r
-unfolding proceed
-all-done w r s z es = rw (es, eq-eqb _ _ z)
-
-pub next-due : (w : List ℕ) (r s : Registers) → (r .rest ≡ 0 → ⊥) → s ≡ dueSequent w r (r .rest - 1) → s ≡ proceed w r
-unfolding proceed
-next-due w r s z es = es ∙ rw (ne-eqb _ _ z)

@@ -1,14 +1,11 @@
-// The registers of the checker and the sequents left: what is due after a line. Each function is a definition of the crate judging,
-// and its contract says so.
-use frames::field;
-use frames::put_field;
+// The registers of the checker: which line is due. Each function is a definition of the crate judging, and its contract says so.
 use judging::Registers;
-use members::bit_of;
+use tables::bit_of;
 use tables::mask;
 ghost use mathlib.Core.Path.{_≡_};
 ghost use mathlib.Core.List.{List};
 ghost use Prim.Native.Nat.{ℕ, _-_};
-ghost use Rattle.judging.specs.Sequents.{made, start, onStage, broken, onBinding, onSequent, onCounts, freeFrom, boundFrom, bound, putSequent, dueSequent, proceed, putHypothesis};
+ghost use Rattle.judging.specs.Sequents.{made, start, onStage, broken, onBinding, onSequent, onCounts, freeFrom, boundFrom, bound};
 
 // Before the first line.
 pub fn start() -> Registers
@@ -113,55 +110,4 @@ pub fn bound(t: &[u32], goal: u32, r: Registers, v: usize, f: u32) -> Registers
     ensures { λ s. ⌜ s ≡ bound (now (t .entry)) goal r v f ⌝ }
 {
     bound_from(goal, r, free_from(mask(t, goal), v), f)
-}
-
-// A sequent left, in record q.
-pub fn put_sequent(
-    w: &mut [u32],
-    q: u32,
-    node: u32,
-    frame: u32,
-    hypotheses: u32,
-    level: u32,
-    next: u32,
-)
-    ensures { λ _. ⌜ now (w .exit) ≡ putSequent (now (w .entry)) q node frame hypotheses level next ⌝ }
-{
-    put_field(w, q, 16, node);
-    put_field(w, q, 17, frame);
-    put_field(w, q, 18, hypotheses);
-    put_field(w, q, 19, level);
-    put_field(w, q, 20, next);
-}
-
-// It is due.
-pub fn due_sequent(w: &[u32], r: Registers, q: u32) -> Registers
-    ensures { λ s. ⌜ s ≡ dueSequent (now (w .entry)) r q ⌝ }
-{
-    let node = field(w, q, 16);
-    let frame = field(w, q, 17);
-    let hypotheses = field(w, q, 18);
-    let level = field(w, q, 19);
-    let next = field(w, q, 20);
-    on_sequent(r, node, frame, hypotheses, level, next)
-}
-
-// The next of the sequents left is due, if there is one.
-pub fn proceed(w: &[u32], r: Registers) -> Registers
-    ensures { λ s. ⌜ s ≡ proceed (now (w .entry)) r ⌝ }
-{
-    let rest = r.rest;
-    if rest == 0 {
-        return on_stage(r, 3);
-    }
-    due_sequent(w, r, rest - 1)
-}
-
-// A hypothesis, in record q.
-pub fn put_hypothesis(w: &mut [u32], q: u32, node: u32, frame: u32, next: u32)
-    ensures { λ _. ⌜ now (w .exit) ≡ putHypothesis (now (w .entry)) q node frame next ⌝ }
-{
-    put_field(w, q, 21, node);
-    put_field(w, q, 22, frame);
-    put_field(w, q, 23, next);
 }

@@ -1,22 +1,20 @@
 -- Laws of specs/Symbols.antt for the code's proofs: writes in a row, and one law for each way through a turn of a loop.
-use Prim.Native.Nat.{ℕ, suc, _+_, _-_, _*_, _≤_, _<_}
+use Prim.Native.Nat.{ℕ, suc, _+_, _-_, _≤_, _<_}
 use native.Mathlib.Numerals.{add-one}
 use native.Mathlib.Nat.{add-assoc}
 use native.Mathlib.Omega.{arith}
 use mathlib.Core.Bool.{Bool, true, false, cond}
 use mathlib.Core.Path.{_≡_, sym, ap, _∙_}
 use mathlib.Core.List.{List, [], _∷_}
-use lib.Bits.{bitOr}
 use lib.Dec.{eqb}
 use lib.ListN.{length, take, drop, getD, set, drop-of-length-le}
 use lib.Seq.{drop-cons, length-take-le}
-use borrow.Author.Tests.{lt-ltb, le-ltb, lt-leb, eq-eqb, ne-eqb}
-use Rattle.tables.specs.Layout.{symbolAt, maskOf, sizeOf}
+use borrow.Author.Tests.{lt-leb, eq-eqb, ne-eqb}
+use Rattle.tables.specs.Layout.{symbolAt}
 use Rattle.making.specs.declared.Counts.{Counts}
-use Rattle.making.specs.declared.Taken.{Taken}
 use Rattle.making.specs.declared.Taken.the-variants.{Next, Stop}
-use Rattle.making.specs.Making.{made, counts, nodeRecord, addNode}
-use Rattle.symbols.specs.Symbols.{symbolWritten, allThere, allTerms, sizesFrom, masksFrom, applicationInfo, appliedKind, firstOf, takeApplication, sameAt, nameIs, findFrom, findName, symbolWord, takeDeclaration}
+use Rattle.making.specs.Making.{made, counts}
+use Rattle.symbols.specs.Symbols.{symbolWritten, firstOf, sameAt, nameIs, findFrom, findName, symbolWord, takeDeclaration}
 
 -- writes
 
@@ -24,50 +22,6 @@ pub symbol-puts : (t t₀ t₁ t₂ : List ℕ) (i start len word : ℕ) → t�
     → t₂ ≡ set t₁ (symbolAt i 2) word → t₂ ≡ symbolWritten t i start len word
 unfolding symbolWritten
 symbol-puts t t₀ t₁ t₂ i start len word e₀ e₁ e₂ = rw (e₂, e₁, e₀)
-
--- loops over arguments
-
-module _ (n i : ℕ) (l : List ℕ) where
-  pub there-on : i < length l → getD l i 0 < n → allThere n (drop i l) ≡ allThere n (drop (i + 1) l)
-  unfolding allThere
-  there-on h k = rw (drop-cons l i 0 h, add-one i) (simp (lt-ltb _ _ k))
-
-  pub there-off : i < length l → n ≤ getD l i 0 → allThere n (drop i l) ≡ false
-  unfolding allThere
-  there-off h k = rw (drop-cons l i 0 h) (simp (le-ltb _ _ k))
-
-  pub there-end : length l ≤ i → allThere n (drop i l) ≡ true
-  unfolding allThere
-  there-end h = rw (drop-of-length-le l h)
-
-module _ (t : List ℕ) (i : ℕ) (l : List ℕ) where
-  pub terms-on : (s : ℕ) → i < length l → s ≡ sizeOf t (getD l i 0) → (s ≡ 0 → ⊥) → allTerms t (drop i l) ≡ allTerms t (drop (i + 1) l)
-  unfolding allTerms
-  terms-on s h e k = rw (drop-cons l i 0 h, add-one i) (simp (ne-eqb _ _ (λ z. k (e ∙ z))))
-
-  pub terms-off : (s : ℕ) → i < length l → s ≡ sizeOf t (getD l i 0) → s ≡ 0 → allTerms t (drop i l) ≡ false
-  unfolding allTerms
-  terms-off s h e k = rw (drop-cons l i 0 h) (simp (eq-eqb _ _ (sym e ∙ k)))
-
-  pub terms-end : length l ≤ i → allTerms t (drop i l) ≡ true
-  unfolding allTerms
-  terms-end h = rw (drop-of-length-le l h)
-
-  pub sizes-on : (sum s : ℕ) → i < length l → s ≡ sizeOf t (getD l i 0) → sizesFrom t sum (drop i l) ≡ sizesFrom t (sum + s) (drop (i + 1) l)
-  unfolding sizesFrom
-  sizes-on sum s h e = rw (drop-cons l i 0 h, add-one i, e)
-
-  pub sizes-end : (sum : ℕ) → length l ≤ i → sizesFrom t sum (drop i l) ≡ sum
-  unfolding sizesFrom
-  sizes-end sum h = rw (drop-of-length-le l h)
-
-  pub masks-on : (free m : ℕ) → i < length l → m ≡ maskOf t (getD l i 0) → masksFrom t free (drop i l) ≡ masksFrom t (bitOr free m) (drop (i + 1) l)
-  unfolding masksFrom
-  masks-on free m h e = rw (drop-cons l i 0 h, add-one i, e)
-
-  pub masks-end : (free : ℕ) → length l ≤ i → masksFrom t free (drop i l) ≡ free
-  unfolding masksFrom
-  masks-end free h = rw (drop-of-length-le l h)
 
 -- names
 
@@ -121,15 +75,6 @@ find-first s t n name =
 -- the first n of four
 pub first-length : (n count a b c d : ℕ) → count ≤ 4 → n ≡ count → n ≡ length (firstOf n a b c d)
 first-length n count a b c d h e = sym (length-take-le n (a ∷ b ∷ c ∷ d ∷ []) (omega arith))
-
-pub application-taken : (t t′ : List ℕ) (k : Counts) (f count a b c d n info kind : ℕ) (r : Taken) (there : Bool) → k .nodes < 1024 → f < k .symbols → n ≡ count
-    → there ≡ allThere (k .nodes) (firstOf n a b c d) → there ≡ true → info ≡ applicationInfo t f (firstOf n a b c d) → kind ≡ appliedKind t f
-    → made t′ r ≡ addNode t k (nodeRecord (kind + 16 * count) f a b c d info) → made t′ r ≡ takeApplication t k f count a b c d
-unfolding takeApplication
-application-taken t t′ k f count a b c d n info kind r there h l e w y i j m =
-    let x : allThere (k .nodes) (firstOf count a b c d) ≡ true = ap (λ (z : ℕ). allThere (k .nodes) (firstOf z a b c d)) (sym e) ∙ sym w ∙ y in
-    let z : info ≡ applicationInfo t f (firstOf count a b c d) = i ∙ ap (λ (z : ℕ). applicationInfo t f (firstOf z a b c d)) e in
-    rw (lt-leb 1024 (k .nodes) h, lt-leb (k .symbols) f l, x, ← z, ← j) m
 
 -- the name's bytes as the code lends them
 named-part : (s t : List ℕ) (n start len : ℕ) → findName s t n (take (start + len - start) (drop start s)) ≡ findName s t n (take len (drop start s))

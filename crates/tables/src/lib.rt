@@ -5,7 +5,7 @@ ghost use mathlib.Core.Path.{_≡_};
 ghost use Prim.Native.Nat.{_+_, _*_, _<_, _≤_};
 ghost use lib.Dec.{eqb};
 ghost use lib.ListN.{getD};
-ghost use Rattle.tables.specs.Layout.{symbolAt, nodeAt, kindOf, childCount, labelOf, childOf, infoOf, maskOf, goalBit, membersOf, sizeOf, nameStart, nameLength, isFunctionBit, arityOf, clauseNode};
+ghost use Rattle.tables.specs.Layout.{symbolAt, nodeAt, kindOf, childCount, labelOf, childOf, infoOf, maskOf, bitOf, goalBit, membersOf, sizeOf, nameStart, nameLength, isFunctionBit, arityOf, clauseNode};
 
 // Field f of node n.
 fn node_field(t: &[u32], n: u32, f: usize) -> u32
@@ -123,4 +123,20 @@ pub fn clause_node(t: &[u32], i: u32) -> u32
 {
     let w = wide(i);
     get(t, 7936 + w)
+}
+
+// Bit v of a mask.
+pub fn bit_of(m: u32, v: u32) -> u32
+    ensures { λ r. ⌜ r ≡ bitOf m v ⌝ }
+{
+    let mut rest = m;
+    let mut left = v;
+    while 0 < left {
+        if rest == 0 {
+            return 0;
+        }
+        rest = rest / 2;
+        left -= 1;
+    }
+    rest % 2
 }

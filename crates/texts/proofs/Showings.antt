@@ -21,12 +21,12 @@ use Rattle.texts.proofs.Infer.{and-both, guarded, nothing, mapped, same
 -- first showings
 
 -- The list has x.
-unfoldable has : Symbol → List Symbol → Bool
+unfoldable pub has : Symbol → List Symbol → Bool
 has x [] = false
 has x (s ∷ ss) = sameSymbol s x || has x ss
 
 -- x, where the list does not have it.
-unfoldable fresh : Symbol → List Symbol → List Symbol
+unfoldable pub fresh : Symbol → List Symbol → List Symbol
 fresh x l = cond (has x l) [] (x ∷ [])
 
 -- symbols that differ, the other way round
@@ -58,7 +58,7 @@ has-without s x (y ∷ l) n = go (sameSymbol y s) refl (has-without s x l n)
     go false q h = ap (sameSymbol y x ||_) h
 
 -- the first showings have what the list has
-has-firsts : (x : Symbol) (l : List Symbol) → has x (firsts l) ≡ has x l
+pub has-firsts : (x : Symbol) (l : List Symbol) → has x (firsts l) ≡ has x l
 unfolding firsts has
 has-firsts x [] = refl
 has-firsts x (s ∷ l) = go (sameSymbol s x) refl (has-firsts x l)
@@ -68,7 +68,7 @@ has-firsts x (s ∷ l) = go (sameSymbol s x) refl (has-firsts x l)
     go false q h = has-without s x (firsts l) q ∙ h
 
 -- one more symbol shows
-firsts-snoc : (l : List Symbol) (x : Symbol) → firsts (l ++ (x ∷ [])) ≡ firsts l ++ fresh x (firsts l)
+pub firsts-snoc : (l : List Symbol) (x : Symbol) → firsts (l ++ (x ∷ [])) ≡ firsts l ++ fresh x (firsts l)
 unfolding firsts fresh has without
 firsts-snoc [] x = refl
 firsts-snoc (s ∷ l) x =
@@ -87,7 +87,7 @@ firsts-snoc (s ∷ l) x =
     go false q = other q (has x (firsts l)) ∙ ap (λ (b : Bool). cond b [] (x ∷ [])) (sym (has-without s x (firsts l) q))
 
 -- what shows later comes later
-firsts-append : (x y : List Symbol) → (more : List Symbol) × (firsts (x ++ y) ≡ firsts x ++ more)
+pub firsts-append : (x y : List Symbol) → (more : List Symbol) × (firsts (x ++ y) ≡ firsts x ++ more)
 unfolding firsts
 firsts-append [] y = (firsts y, refl)
 firsts-append (s ∷ x) y =
@@ -107,7 +107,7 @@ index-append x (s ∷ l) m h = go (sameSymbol s x) h (index-append x l m)
     go false k f = ap suc (f k)
 
 -- a new symbol is the next
-index-new : (x : Symbol) (l m : List Symbol) → has x l ≡ false → indexOf x (l ++ (x ∷ m)) ≡ length l
+pub index-new : (x : Symbol) (l m : List Symbol) → has x l ≡ false → indexOf x (l ++ (x ∷ m)) ≡ length l
 unfolding has indexOf
 index-new x [] m h = rw (sameSymbol-refl x)
 index-new x (s ∷ l) m h = go (sameSymbol s x) h (index-new x l m)
@@ -220,7 +220,7 @@ module _ (c : ℕ → ℕ → Symbol) (same : (n k m j : ℕ) → sameSymbol (c 
 -- both kinds
 
 -- each kind of two lists
-madeOnly-append : (x y : List Symbol) → madeOnly (x ++ y) ≡ madeOnly x ++ madeOnly y
+pub madeOnly-append : (x y : List Symbol) → madeOnly (x ++ y) ≡ madeOnly x ++ madeOnly y
 unfolding madeOnly
 madeOnly-append [] y = refl
 madeOnly-append (s ∷ x) y = go (isMade s) (madeOnly-append x y)
@@ -230,7 +230,7 @@ madeOnly-append (s ∷ x) y = go (isMade s) (madeOnly-append x y)
     go false h = h
 
 -- the other kind
-leftoverOnly-append : (x y : List Symbol) → leftoverOnly (x ++ y) ≡ leftoverOnly x ++ leftoverOnly y
+pub leftoverOnly-append : (x y : List Symbol) → leftoverOnly (x ++ y) ≡ leftoverOnly x ++ leftoverOnly y
 unfolding leftoverOnly
 leftoverOnly-append [] y = refl
 leftoverOnly-append (s ∷ x) y = go (isMade s) (leftoverOnly-append x y)

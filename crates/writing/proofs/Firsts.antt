@@ -8,7 +8,7 @@ use lib.ListN.{length, length-append}
 use Rattle.sequents.specs.Symbols.{Symbol}
 use Rattle.texts.specs.Numbering.{sameSymbol, firsts, indexOf}
 use Rattle.texts.proofs.Infer.{sameSymbol-true, sameSymbol-refl}
-use Rattle.writing.proofs.FirstShowings.{has, fresh, has-firsts, firsts-snoc, firsts-append, index-new}
+use Rattle.texts.proofs.Showings.{has, fresh, has-firsts, firsts-snoc, firsts-append, index-new}
 
 -- one symbol more
 has-snoc : (z y : Symbol) (l : List Symbol) → has z (l ++ (y ∷ [])) ≡ (has z l || sameSymbol y z)

@@ -10,7 +10,6 @@ pub mod Values
 pub mod TermSteps
 pub mod LineSteps
 pub mod PathSteps
-pub mod FirstShowings
 pub mod Firsts
 pub mod Numbered
 pub mod Passes

@@ -18,7 +18,7 @@ use Rattle.machine.specs.Words.{narrow, tagOf}
 use Rattle.machine.proofs.Words.{up-small}
 use Rattle.texts.specs.Numbering.{sameSymbol, isMade, madeOnly, leftoverOnly, firsts, indexOf, numberingOf}
 use Rattle.texts.specs.Spelling.{spellSymbol}
-use Rattle.writing.proofs.FirstShowings.{has, madeOnly-append, leftoverOnly-append}
+use Rattle.texts.proofs.Showings.{has, madeOnly-append, leftoverOnly-append}
 use Rattle.texts.proofs.Infer.{sameSymbol-refl}
 use Rattle.writing.specs.declared.Pen.{Pen}
 use Rattle.writing.specs.Output.{Written, written, emit, writeBytes, writeSymbol}

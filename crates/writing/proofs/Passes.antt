@@ -24,7 +24,7 @@ use Rattle.texts.specs.TextLines.{TextLine, bindingLine, derivationLine, answer
 use Rattle.texts.specs.Numbering.{madeOnly, leftoverOnly, firsts, shown, numberingOf, numbered}
 use Rattle.texts.specs.Spelling.{proofText, noText, spentText, textLine, join}
 use Rattle.texts.specs.Promises.{searchText}
-use Rattle.writing.proofs.FirstShowings.{has}
+use Rattle.texts.proofs.Showings.{has}
 use Rattle.machine.specs.Records.{field, Made}
 use Rattle.machine.specs.Simulation.{StandsAt}
 use Rattle.writing.specs.declared.Pen.{Pen}

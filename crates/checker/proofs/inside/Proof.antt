@@ -1,4 +1,4 @@
-use Rattle.checker.proofs.Parts.{zeros-all}
+use Rattle.memory.proofs.Parts.{zeros-all}
 use borrow.Author.Needs.{needs}
 use Rattle.checker.proofs.inside.Statement.{statement}
 use Rattle.checker.proofs.inside.Tie as tie

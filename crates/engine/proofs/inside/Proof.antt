@@ -1,4 +1,4 @@
-use Rattle.engine.proofs.Laws.{zeros-all}
+use Rattle.memory.proofs.Parts.{zeros-all}
 use borrow.Author.Needs.{needs}
 use Rattle.engine.proofs.inside.Statement.{statement}
 use Rattle.engine.proofs.inside.Tie as tie

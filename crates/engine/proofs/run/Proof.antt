@@ -4,9 +4,10 @@ use mathlib.Core.Path.{sym, _∙_}
 use lib.ListN.{length}
 use lib.Seq.{length-take-le}
 use Rattle.sheets.specs.Buffers.{demanded}
-use Rattle.engine.proofs.Answered.{Passed}
-use Rattle.engine.proofs.Laws.{part-fits, part-demanded}
-use Rattle.engine.proofs.Gates.{early-passed, run-refused, run-passed}
+use Rattle.runs.proofs.Answered.{Passed}
+use Rattle.memory.proofs.Parts.{part-fits}
+use Rattle.engine.proofs.Laws.{part-demanded}
+use Rattle.runs.proofs.Gates.{early-passed, run-refused, run-passed}
 use borrow.Author.Needs.{needs}
 use Rattle.engine.proofs.run.Statement.{statement}
 use Rattle.engine.proofs.run.Tie as tie

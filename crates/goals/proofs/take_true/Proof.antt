@@ -4,8 +4,8 @@ use Rattle.goals.proofs.take_true.Statement.{statement}
 use Rattle.goals.proofs.take_true.Tie as tie
 use Rattle.goals.proofs.take_true.Reads as reads
 use Rattle.goals.proofs.take_true.Lts as lts
-use Rattle.cells.proofs.put_path.Reads as put-path-reads
-use Rattle.cells.proofs.up.Reads as up-reads
+use Rattle.records.proofs.put_path.Reads as put-path-reads
+use Rattle.words.proofs.up.Reads as up-reads
 use Rattle.registers.proofs.on_path.Reads as on-path-reads
 use Rattle.goals.proofs.proceed.Reads as proceed-reads
 

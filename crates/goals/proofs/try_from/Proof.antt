@@ -4,7 +4,7 @@ use Rattle.goals.proofs.try_from.Statement.{statement}
 use Rattle.goals.proofs.try_from.Tie as tie
 use Rattle.goals.proofs.try_from.Reads as reads
 use Rattle.goals.proofs.try_from.Lts as lts
-use Rattle.registers.proofs.failed.Reads as failed-reads
+use Rattle.alternatives.proofs.failed.Reads as failed-reads
 use Rattle.goals.proofs.members_left.Reads as members-left-reads
 use Rattle.registers.proofs.on_mode.Reads as on-mode-reads
 

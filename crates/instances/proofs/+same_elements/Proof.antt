@@ -11,9 +11,9 @@ use native.Mathlib.Omega.{arith}
 use Rattle.instances.proofs.same_elements.Reads as same-elements
 use Rattle.instances.proofs.same_elements.Kinds as same-elements-kinds
 use Rattle.instances.proofs.+same_elements.Lts-same_elements as same-elements-lts
-use Rattle.instances.proofs.child_of.Reads as child-of-reads
-use Rattle.instances.proofs.join_name.Reads as join-name-reads
-use Rattle.instances.proofs.root_of.Reads as root-of-reads
+use Rattle.name_classes.proofs.child_of.Reads as child-of-reads
+use Rattle.name_classes.proofs.join_name.Reads as join-name-reads
+use Rattle.name_classes.proofs.root_of.Reads as root-of-reads
 use Rattle.memory.proofs.put.Reads as put-reads
 use Rattle.memory.proofs.wide.Reads as wide-reads
 use Rattle.tables.proofs.child_count.Reads as child-count-reads

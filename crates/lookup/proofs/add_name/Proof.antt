@@ -4,10 +4,9 @@ use Rattle.lookup.proofs.add_name.Statement.{statement}
 use Rattle.lookup.proofs.add_name.Tie as tie
 use Rattle.lookup.proofs.add_name.Reads as reads
 use Rattle.lookup.proofs.add_name.Lts as lts
-use Rattle.lookup.proofs.bit_of.Reads as bit-of-reads
 use Rattle.lookup.proofs.has_name.Reads as has-name-reads
-use Rattle.cells.proofs.narrow.Reads as narrow-reads
-use Rattle.cells.proofs.up.Reads as up-reads
+use Rattle.words.proofs.narrow.Reads as narrow-reads
+use Rattle.words.proofs.up.Reads as up-reads
 use Rattle.memory.proofs.wide.Reads as wide-reads
 use Rattle.tables.proofs.mask.Reads as mask-reads
 

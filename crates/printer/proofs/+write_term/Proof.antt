@@ -1,8 +1,8 @@
 use Prim.Native.Nat.{_+_, _-_, _<_, _≤_, ℕ}
 use Rattle.printer.proofs.Grown.{emit-after, name-after, term-after}
 use Rattle.printer.proofs.Laws.{arguments-end, arguments-first, arguments-on, term-applied, term-bare, term-constant, term-none, term-past, term-variable}
-use Rattle.printer.proofs.States.{arguments-same, emit-same, less, past, small-same, sought, term-same, within}
-use Rattle.printer.specs.State.{boundsIn, penIn}
+use Rattle.pens.proofs.States.{arguments-same, emit-same, less, past, small-same, sought, term-same, within}
+use Rattle.pens.specs.State.{boundsIn, penIn}
 use Rattle.writing.specs.Marks.{page}
 use Rattle.writing.specs.WriteTerms.{argumentsBy, writeTerm}
 use borrow.Author.Needs.{needs}
@@ -15,17 +15,17 @@ use borrow.Fn.PlainCycle.{Measures, is, falls, and}
 use Rattle.printer.proofs.write_term.Reads as write-term
 use Rattle.printer.proofs.write_term.Kinds as write-term-kinds
 use Rattle.printer.proofs.+write_term.Lts-write_term as write-term-lts
-use Rattle.cells.proofs.frame_of.Reads as frame-of-reads
-use Rattle.cells.proofs.name_of.Reads as name-of-reads
-use Rattle.cells.proofs.node_of.Reads as node-of-reads
-use Rattle.cells.proofs.tag_of.Reads as tag-of-reads
-use Rattle.cells.proofs.word_of.Reads as word-of-reads
-use Rattle.pages.proofs.seek.Reads as seek-reads
-use Rattle.printer.proofs.show_constant_in.Reads as show-constant-in-reads
-use Rattle.printer.proofs.emit_in.Reads as emit-in-reads
-use Rattle.printer.proofs.write_name_in.Reads as write-name-in-reads
-use Rattle.printer.proofs.separator.Reads as separator-reads
-use Rattle.printer.proofs.show_variable_in.Reads as show-variable-in-reads
+use Rattle.words.proofs.frame_of.Reads as frame-of-reads
+use Rattle.words.proofs.name_of.Reads as name-of-reads
+use Rattle.words.proofs.node_of.Reads as node-of-reads
+use Rattle.words.proofs.tag_of.Reads as tag-of-reads
+use Rattle.words.proofs.word_of.Reads as word-of-reads
+use Rattle.marks.proofs.seek.Reads as seek-reads
+use Rattle.pens.proofs.show_constant_in.Reads as show-constant-in-reads
+use Rattle.pens.proofs.emit_in.Reads as emit-in-reads
+use Rattle.pens.proofs.write_name_in.Reads as write-name-in-reads
+use Rattle.pens.proofs.separator.Reads as separator-reads
+use Rattle.pens.proofs.show_variable_in.Reads as show-variable-in-reads
 use Rattle.tables.proofs.child.Reads as child-reads
 use Rattle.tables.proofs.child_count.Reads as child-count-reads
 use Rattle.tables.proofs.label.Reads as label-reads

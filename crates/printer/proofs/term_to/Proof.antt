@@ -1,6 +1,6 @@
 use Rattle.printer.proofs.Laws.{term-ranked}
-use Rattle.printer.proofs.States.{pen-taken, state-made}
-use Rattle.printer.specs.State.{boundsIn}
+use Rattle.pens.proofs.States.{pen-taken, state-made}
+use Rattle.pens.specs.State.{boundsIn}
 use borrow.Author.Needs.{needs}
 use Rattle.printer.proofs.term_to.Statement.{statement}
 use Rattle.printer.proofs.term_to.Tie as tie

@@ -4,10 +4,10 @@ use Rattle.registers.proofs.save_choice.Statement.{statement}
 use Rattle.registers.proofs.save_choice.Tie as tie
 use Rattle.registers.proofs.save_choice.Reads as reads
 use Rattle.registers.proofs.save_choice.Lts as lts
-use Rattle.cells.proofs.put_choice.Reads as put-choice-reads
-use Rattle.cells.proofs.put_chosen.Reads as put-chosen-reads
+use Rattle.records.proofs.put_choice.Reads as put-choice-reads
+use Rattle.records.proofs.put_chosen.Reads as put-chosen-reads
 use Rattle.cells.proofs.put_field.Reads as put-field-reads
-use Rattle.cells.proofs.put_position.Reads as put-position-reads
+use Rattle.records.proofs.put_position.Reads as put-position-reads
 
 put-field-requires : tie.Need-put-field-requires
 put-field-requires c κs = search needs

@@ -4,7 +4,7 @@ use mathlib.Core.Path.{_≡_, sym}
 use lib.ListN.{length}
 use Rattle.spellings.specs.Ranges.{lineEnd}
 use Rattle.judging.specs.Judging.{judgeText}
-use Rattle.rulings.proofs.Laws.{end-after, Rest, text-start, text-ends, text-breaks, text-on}
+use Rattle.rulings.proofs.Laws.{Rest, end-after, text-start, text-ends, text-breaks, text-on}
 use borrow.Author.Needs.{needs}
 use Rattle.rulings.proofs.judge_text.Statement.{statement}
 use Rattle.rulings.proofs.judge_text.Tie as tie

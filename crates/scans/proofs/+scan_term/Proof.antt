@@ -1,5 +1,6 @@
 use Prim.Native.Nat.{_-_, _<_, ℕ}
-use Rattle.scans.proofs.Laws.{inside, mark-inside, more-closed, more-none, more-on, more-other, term-applied, term-constant, term-mark, term-rank, term-unknown}
+use Rattle.scans.proofs.Laws.{mark-inside, more-closed, more-none, more-on, more-other, term-applied, term-constant, term-mark, term-rank, term-unknown}
+use Rattle.ranges.proofs.Laws.{inside}
 use Rattle.spellings.specs.Scanning.{scanMore, scanTerm}
 use borrow.Author.Needs.{needs}
 use borrow.Fn.Kinds.{In}
@@ -13,10 +14,10 @@ use Rattle.memory.proofs.byte.Reads as byte-reads
 use Rattle.scans.proofs.higher_of.Reads as higher-of-reads
 use Rattle.scans.proofs.is_applied.Reads as is-applied-reads
 use Rattle.scans.proofs.is_mark.Reads as is-mark-reads
-use Rattle.scans.proofs.name_end.Reads as name-end-reads
+use Rattle.tokens.proofs.name_end.Reads as name-end-reads
 use Rattle.scans.proofs.scan_close.Reads as scan-close-reads
 use Rattle.scans.proofs.scan_symbol.Reads as scan-symbol-reads
-use Rattle.scans.proofs.symbol_from.Reads as symbol-from-reads
+use Rattle.symbol_names.proofs.symbol_from.Reads as symbol-from-reads
 use Rattle.tables.proofs.arity.Reads as arity-reads
 use Rattle.scans.proofs.+scan_term.{statement}
 use Rattle.scans.proofs.+scan_term.Tie.{close}

@@ -1,4 +1,4 @@
-use Rattle.scans.proofs.Laws.{inside}
+use Rattle.ranges.proofs.Laws.{inside}
 use borrow.Author.Needs.{needs}
 use borrow.Author.Tests.{eq-eqb, ne-eqb}
 use native.Mathlib.Omega.{arith}

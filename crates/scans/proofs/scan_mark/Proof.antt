@@ -1,4 +1,5 @@
-use Rattle.scans.proofs.Laws.{inside, mark-here, mark-none}
+use Rattle.scans.proofs.Laws.{mark-here, mark-none}
+use Rattle.ranges.proofs.Laws.{inside}
 use borrow.Author.Needs.{needs}
 use native.Mathlib.Omega.{arith}
 use Rattle.scans.proofs.scan_mark.Statement.{statement}

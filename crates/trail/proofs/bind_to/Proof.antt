@@ -5,7 +5,7 @@ use Rattle.trail.proofs.bind_to.Statement.{statement}
 use Rattle.trail.proofs.bind_to.Tie as tie
 use Rattle.trail.proofs.bind_to.Reads as reads
 use Rattle.trail.proofs.bind_to.Lts as lts
-use Rattle.cells.proofs.name_of.Reads as name-of-reads
+use Rattle.words.proofs.name_of.Reads as name-of-reads
 use Rattle.cells.proofs.put_cell.Reads as put-cell-reads
 
 returns : tie.Need-returns

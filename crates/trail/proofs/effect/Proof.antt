@@ -7,7 +7,7 @@ use Rattle.trail.proofs.effect.Lts as lts
 use Rattle.trail.proofs.bind_to.Reads as bind-to-reads
 use Rattle.trail.proofs.lower_to.Reads as lower-to-reads
 use Rattle.trail.proofs.old_level.Reads as old-level-reads
-use Rattle.cells.proofs.put_entry.Reads as put-entry-reads
+use Rattle.records.proofs.put_entry.Reads as put-entry-reads
 
 old-level-requires : tie.Need-old-level-requires
 old-level-requires c κs = search needs

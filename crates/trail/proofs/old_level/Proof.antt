@@ -6,7 +6,7 @@ use Rattle.trail.proofs.old_level.Tie as tie
 use Rattle.trail.proofs.old_level.Reads as reads
 use Rattle.trail.proofs.old_level.Lts as lts
 use Rattle.cells.proofs.level_of.Reads as level-of-reads
-use Rattle.cells.proofs.name_of.Reads as name-of-reads
+use Rattle.words.proofs.name_of.Reads as name-of-reads
 
 returns : tie.Need-returns
 unfolding oldLevel

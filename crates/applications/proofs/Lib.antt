@@ -1,0 +1,2 @@
+-- Laws of declaring and applying symbols.
+pub mod Laws

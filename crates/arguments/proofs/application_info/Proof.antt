@@ -1,0 +1,50 @@
+use Rattle.symbols.specs.Symbols.{applicationInfo}
+use borrow.Author.Tests.{eq-eqb, ne-eqb}
+use borrow.Author.Needs.{needs}
+use Rattle.arguments.proofs.application_info.Statement.{statement}
+use Rattle.arguments.proofs.application_info.Tie as tie
+use Rattle.arguments.proofs.application_info.Reads as reads
+use Rattle.arguments.proofs.application_info.Lts as lts
+use Rattle.arguments.proofs.all_terms.Reads as all-terms-reads
+use Rattle.arguments.proofs.applied_info.Reads as applied-info-reads
+use Rattle.memory.proofs.wide.Reads as wide-reads
+use Rattle.tables.proofs.arity.Reads as arity-reads
+
+arity-requires : tie.Need-arity-requires
+arity-requires c κs = search needs
+
+wide-requires : tie.Need-wide-requires
+wide-requires c κs = search needs
+
+returns : tie.Need-returns
+unfolding applicationInfo
+returns c =
+    simp (applicationInfo, ne-eqb _ _ (c .if1 .taken), ← c .before .wide .ensures .0, ← c .before .before .arity .ensures)
+
+all-terms-requires : tie.Need-all-terms-requires
+all-terms-requires c κs = search needs
+
+applied-info-requires : tie.Need-applied-info-requires
+applied-info-requires c κs = search needs
+
+returns-2 : tie.Need-returns-2
+unfolding applicationInfo
+returns-2 c =
+    simp (applicationInfo, ← c .applied-info .ensures, c .before .if2 .taken, ← c .before .before .all-terms .ensures, eq-eqb _ _ (c .before .before .before .if1 .left), ← c .before .before .before .before .wide .ensures .0, ← c .before .before .before .before .before .arity .ensures)
+
+returns-3 : tie.Need-returns-3
+unfolding applicationInfo
+returns-3 c =
+    simp (applicationInfo, c .if2 .left, ← c .before .all-terms .ensures, eq-eqb _ _ (c .before .before .if1 .left), ← c .before .before .before .wide .ensures .0, ← c .before .before .before .before .arity .ensures)
+
+pub application-info-spec : {M : Type 1} → statement M
+application-info-spec =
+    tie.close
+    (tie.spec
+    arity-requires
+    wide-requires
+    returns
+    all-terms-requires
+    applied-info-requires
+    returns-2
+    returns-3)

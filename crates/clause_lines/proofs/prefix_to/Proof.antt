@@ -1,0 +1,75 @@
+use Prim.Native.Nat.{_+_}
+use Rattle.clause_lines.proofs.Laws.{prefix-end, prefix-on}
+use Rattle.writing.specs.Marks.{page}
+use Rattle.writing.specs.WriteLines.{prefixTo}
+use borrow.Author.Needs.{needs}
+use lib.ListN.{length}
+use mathlib.Core.Path.{_∙_, _≡_, sym}
+use native.Mathlib.Omega.{arith}
+use Rattle.clause_lines.proofs.prefix_to.Statement.{statement}
+use Rattle.clause_lines.proofs.prefix_to.Tie as tie
+
+abbrev Inv-loop : tie.InvT-loop
+Inv-loop sheet t turns limit n w₀ out₀ x left₀ next₀ q₀ w out left next q = (length w ≡ length w₀) × (length out ≡ length out₀) × (next + left ≡ x + n) × (prefixTo sheet t turns limit n (page w₀ out₀ q₀) x ≡ prefixTo sheet t turns limit left (page w out q) next)
+
+abbrev μ-loop : tie.MeasureT-loop
+μ-loop sheet t turns limit n w₀ out₀ x left₀ next₀ q₀ w out left next q = left
+
+loop-holds : tie.Need-loop-holds Inv-loop μ-loop
+loop-holds c = search needs
+
+emit-to-requires : tie.Need-emit-to-requires Inv-loop μ-loop
+emit-to-requires c κs = search needs
+
+mul-narrow : tie.Need-mul-narrow Inv-loop μ-loop
+mul-narrow c = search needs
+
+add-narrow : tie.Need-add-narrow Inv-loop μ-loop
+add-narrow c = search needs
+
+narrow-requires : tie.Need-narrow-requires Inv-loop μ-loop
+narrow-requires c κs = search needs
+
+term-to-requires : tie.Need-term-to-requires Inv-loop μ-loop
+term-to-requires c κs = search needs
+
+add-next : tie.Need-add-next Inv-loop μ-loop
+add-next c = search needs
+
+sub-left : tie.Need-sub-left Inv-loop μ-loop
+sub-left c = search needs
+
+loop-less : tie.Need-loop-less Inv-loop μ-loop
+loop-less c = search needs
+
+loop-again : tie.Need-loop-again Inv-loop μ-loop
+loop-again c = (c .before .before .before .before .term-to .kept .1 .1 .1 .1 .0 ∙ c .before .before .before .before .before .before .before .before .before .before .before .before .before .loop .inv .0, c .before .before .before .before .term-to .kept .1 .1 .1 .1 .1 .0 ∙ c .before .before .before .before .before .before .before .before .before .before .emit-to .kept .1 .0 ∙ c .before .before .before .before .before .before .before .before .before .before .before .before .before .loop .inv .1, omega (arith, c .before .before .before .before .before .before .before .before .before .before .before .before .before .loop .inv .2, c .before .before .before .before .before .before .before .before .before .before .before .before .loop-test .taken), c .before .before .before .before .before .before .before .before .before .before .before .before .before .loop .inv .3 ∙ prefix-on _ _ _ _ _ _ _ _ _ _ (c .before .before .before .before .before .before .before .before .before .before .before .before .loop-test .taken) (c .before .before .before .before .before .before .before .before .before .before .emit-to .ensures _) (c .before .before .before .before .before .narrow .ensures) (c .before .before .before .before .term-to .ensures))
+
+same-length : tie.Need-same-length Inv-loop μ-loop
+same-length c = search needs
+
+same-length-2 : tie.Need-same-length-2 Inv-loop μ-loop
+same-length-2 c = search needs
+
+returns : tie.Need-returns Inv-loop μ-loop
+returns c = sym (c .before .loop .inv .3 ∙ prefix-end _ _ _ _ _ _ _ (c .loop-test .left))
+
+pub prefix-to-spec : {M : Type 1} → statement M
+prefix-to-spec =
+    tie.close
+    (tie.spec
+    Inv-loop
+    μ-loop
+    loop-holds
+    emit-to-requires
+    mul-narrow
+    add-narrow
+    narrow-requires
+    term-to-requires
+    add-next
+    sub-left
+    loop-less
+    loop-again
+    same-length
+    same-length-2
+    returns)

@@ -1,0 +1,27 @@
+use mathlib.Core.Path.{sym, _∙_}
+use Rattle.line_kinds.proofs.Laws.{arity-none, arity-large, arity-is}
+use borrow.Author.Needs.{needs}
+use Rattle.line_kinds.proofs.declared_arity.Statement.{statement}
+use Rattle.line_kinds.proofs.declared_arity.Tie as tie
+
+one-number-requires : tie.Need-one-number-requires
+one-number-requires c κs = search needs
+
+enum-known-a : tie.Need-enum-known-a
+enum-known-a c = search needs
+
+enum-told : tie.Need-enum-told
+enum-told c = search needs
+
+returns : tie.Need-returns
+returns c = arity-none _ _ _ (sym (c .before .before .one-number .ensures) ∙ c .enum-told .given .1)
+
+returns-2 : tie.Need-returns-2
+returns-2 c = arity-large _ _ _ _ (sym (c .before .before .before .before .one-number .ensures) ∙ c .before .before .a .given .1) (c .if1 .taken)
+
+returns-3 : tie.Need-returns-3
+returns-3 c = arity-is _ _ _ _ (sym (c .before .before .before .before .one-number .ensures) ∙ c .before .before .a .given .1) (c .if1 .left)
+
+pub declared-arity-spec : {M : Type 1} → statement M
+declared-arity-spec =
+    tie.close (tie.spec one-number-requires enum-known-a enum-told returns returns-2 returns-3)

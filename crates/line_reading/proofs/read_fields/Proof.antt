@@ -1,0 +1,81 @@
+use mathlib.Core.Path.{ap, _∙_}
+use Rattle.lines.specs.Lines.{lineAnswer}
+use Rattle.line_reading.proofs.Laws.{letter-F, letter-P, letter-V, letter-A, letter-connective, letter-quantifier, letter-C, letter-Q, letter-other}
+use borrow.Author.Needs.{needs}
+use Rattle.line_reading.proofs.read_fields.Statement.{statement}
+use Rattle.line_reading.proofs.read_fields.Tie as tie
+
+read-declaration-requires : tie.Need-read-declaration-requires
+read-declaration-requires c κs = search needs
+
+read-declaration-requires-2 : tie.Need-read-declaration-requires-2
+read-declaration-requires-2 c κs = search needs
+
+read-variable-requires : tie.Need-read-variable-requires
+read-variable-requires c κs = search needs
+
+read-application-requires : tie.Need-read-application-requires
+read-application-requires c κs = search needs
+
+read-connective-requires : tie.Need-read-connective-requires
+read-connective-requires c κs = search needs
+
+read-quantifier-requires : tie.Need-read-quantifier-requires
+read-quantifier-requires c κs = search needs
+
+read-clause-requires : tie.Need-read-clause-requires
+read-clause-requires c κs = search needs
+
+read-goal-requires : tie.Need-read-goal-requires
+read-goal-requires c κs = search needs
+
+returns : tie.Need-returns
+returns c = c .read-declaration .ensures ∙ ap lineAnswer (letter-F _ _ (c .before .match .keys1))
+
+returns-2 : tie.Need-returns-2
+returns-2 c = c .read-declaration2 .ensures ∙ ap lineAnswer (letter-P _ _ (c .before .match .keys2))
+
+returns-3 : tie.Need-returns-3
+returns-3 c = c .read-variable .ensures ∙ ap lineAnswer (letter-V _ _ (c .before .match .keys3))
+
+returns-4 : tie.Need-returns-4
+returns-4 c = c .read-application .ensures ∙ ap lineAnswer (letter-A _ _ (c .before .match .keys4))
+
+returns-5 : tie.Need-returns-5
+returns-5 c = c .read-connective .ensures ∙ ap lineAnswer (letter-connective _ _ (c .before .match .keys5))
+
+returns-6 : tie.Need-returns-6
+returns-6 c = c .read-quantifier .ensures ∙ ap lineAnswer (letter-quantifier _ _ (c .before .match .keys6))
+
+returns-7 : tie.Need-returns-7
+returns-7 c = c .read-clause .ensures ∙ ap lineAnswer (letter-C _ _ (c .before .match .keys7))
+
+returns-8 : tie.Need-returns-8
+returns-8 c = c .read-goal .ensures ∙ ap lineAnswer (letter-Q _ _ (c .before .match .keys8))
+
+returns-9 : tie.Need-returns-9
+returns-9 c =
+    let r = c .match .rest in
+    letter-other _ _ (r .0 .0 .0 .0 .0 .0 .0 .1) (r .0 .0 .0 .0 .0 .0 .1) (r .0 .0 .0 .0 .0 .1) (r .0 .0 .0 .0 .1) (r .0 .0 .0 .1) (r .0 .0 .1) (r .0 .1) (r .1)
+
+pub read-fields-spec : {M : Type 1} → statement M
+read-fields-spec =
+    tie.close
+    (tie.spec
+    read-declaration-requires
+    read-declaration-requires-2
+    read-variable-requires
+    read-application-requires
+    read-connective-requires
+    read-quantifier-requires
+    read-clause-requires
+    read-goal-requires
+    returns
+    returns-2
+    returns-3
+    returns-4
+    returns-5
+    returns-6
+    returns-7
+    returns-8
+    returns-9)

@@ -1,0 +1,2 @@
+-- Laws of lent buffers.
+pub mod Parts

@@ -1,0 +1,24 @@
+use borrow.Author.Tests.{eq-eqb, ne-eqb}
+use borrow.Author.Needs.{needs}
+use Rattle.machine.specs.Matching.{nodesAfter}
+use Rattle.range_checks.proofs.nodes_after.Statement.{statement}
+use Rattle.range_checks.proofs.nodes_after.Tie as tie
+
+returns : tie.Need-returns
+unfolding nodesAfter
+returns c =
+    simp (nodesAfter, eq-eqb _ _ (c .if1 .taken))
+
+add-nodes-from : tie.Need-add-nodes-from
+add-nodes-from c = search needs
+
+nodes-from-requires : tie.Need-nodes-from-requires
+nodes-from-requires c κs = search needs
+
+returns-2 : tie.Need-returns-2
+unfolding nodesAfter
+returns-2 c =
+    simp (nodesAfter, ← c .nodes-from .ensures, ne-eqb _ _ (c .before .if1 .left))
+
+pub nodes-after-spec : {M : Type 1} → statement M
+nodes-after-spec = tie.close (tie.spec returns add-nodes-from nodes-from-requires returns-2)

@@ -1,0 +1,49 @@
+use Prim.Native.Nat.{_-_}
+use Rattle.ranges.proofs.Laws.{find-here, find-on, find-stop}
+use Rattle.spellings.specs.Ranges.{findByte}
+use borrow.Author.Needs.{needs}
+use lib.ListN.{length}
+use mathlib.Core.Path.{_∙_, _≡_, sym}
+use Rattle.ranges.proofs.find_byte.Statement.{statement}
+use Rattle.ranges.proofs.find_byte.Tie as tie
+
+abbrev Inv-loop : tie.InvT-loop
+Inv-loop text c i at₀ at = findByte (length text - i) text c i ≡ findByte (length text - at) text c at
+
+abbrev μ-loop : tie.MeasureT-loop
+μ-loop text c i at₀ at = length text - at
+
+loop-holds : tie.Need-loop-holds Inv-loop μ-loop
+loop-holds c = search needs
+
+shared-slice-read-if1 : tie.Need-shared-slice-read-if1 Inv-loop μ-loop
+shared-slice-read-if1 c = search needs
+
+returns : tie.Need-returns Inv-loop μ-loop
+returns c = sym ((c .before .before .before .loop .inv) ∙ find-here (c .before .before .before .before .args .text .now) _ _ (c .before .before .loop-test .taken) (c .if1 .taken))
+
+add-at : tie.Need-add-at Inv-loop μ-loop
+add-at c = search needs
+
+loop-less : tie.Need-loop-less Inv-loop μ-loop
+loop-less c = search needs
+
+loop-again : tie.Need-loop-again Inv-loop μ-loop
+loop-again c = (c .before .before .before .loop .inv) ∙ find-on (c .before .before .before .before .args .text .now) _ _ (c .before .before .loop-test .taken) (c .if1 .left)
+
+returns-2 : tie.Need-returns-2 Inv-loop μ-loop
+returns-2 c = sym ((c .before .loop .inv) ∙ find-stop (c .before .before .args .text .now) _ _ (c .loop-test .left))
+
+pub find-byte-spec : {M : Type 1} → statement M
+find-byte-spec =
+    tie.close
+    (tie.spec
+    Inv-loop
+    μ-loop
+    loop-holds
+    shared-slice-read-if1
+    returns
+    add-at
+    loop-less
+    loop-again
+    returns-2)

@@ -1,0 +1,56 @@
+use Prim.Native.Nat.{_-_, _≤_}
+use Rattle.ranges.proofs.Laws.{range-all, range-more, range-none}
+use Rattle.spellings.specs.Ranges.{sameRange}
+use borrow.Author.Needs.{needs}
+use mathlib.Core.Path.{_≡_}
+use Rattle.ranges.proofs.same_inside.Statement.{statement}
+use Rattle.ranges.proofs.same_inside.Tie as tie
+
+abbrev Inv-loop : tie.InvT-loop
+Inv-loop n a i b j same₀ k₀ same k = (k ≤ n) × (same ≡ sameRange k a i b j)
+
+abbrev μ-loop : tie.MeasureT-loop
+μ-loop n a i b j same₀ k₀ same k = n - k
+
+loop-holds : tie.Need-loop-holds Inv-loop μ-loop
+loop-holds c = (search needs, range-none _ _ _ _)
+
+add-same : tie.Need-add-same Inv-loop μ-loop
+add-same c = search needs
+
+shared-slice-read-same : tie.Need-shared-slice-read-same Inv-loop μ-loop
+shared-slice-read-same c = search needs
+
+add-same-2 : tie.Need-add-same-2 Inv-loop μ-loop
+add-same-2 c = search needs
+
+shared-slice-read-same-2 : tie.Need-shared-slice-read-same-2 Inv-loop μ-loop
+shared-slice-read-same-2 c = search needs
+
+add-k : tie.Need-add-k Inv-loop μ-loop
+add-k c = search needs
+
+loop-less : tie.Need-loop-less Inv-loop μ-loop
+loop-less c = search needs
+
+loop-again : tie.Need-loop-again Inv-loop μ-loop
+loop-again c = (search needs, range-more _ _ _ _ _ _ (c .before .before .before .loop .inv .1))
+
+returns : tie.Need-returns Inv-loop μ-loop
+returns c = range-all _ _ _ _ _ _ _ (c .before .loop .inv .0) (c .loop-test .left) (c .before .loop .inv .1)
+
+pub same-inside-spec : {M : Type 1} → statement M
+same-inside-spec =
+    tie.close
+    (tie.spec
+    Inv-loop
+    μ-loop
+    loop-holds
+    add-same
+    shared-slice-read-same
+    add-same-2
+    shared-slice-read-same-2
+    add-k
+    loop-less
+    loop-again
+    returns)

@@ -1,0 +1,57 @@
+// Reading a sheet: its lines are taken one after the other, to the Q line or the first refusal.
+use making::Counts;
+use making::Taken;
+use outcomes::Refusal;
+use reader::Read;
+use reader::line_end;
+use reader::read_at;
+ghost use mathlib.Core.Path.{_≡_};
+ghost use Prim.Native.Nat.{_≤_};
+ghost use lib.ListN.{length};
+ghost use Rattle.sheets.specs.Limits.{maxSheetBytes, tableNumbers};
+ghost use Rattle.reader.specs.Reader.{refusedRead, finished, ReadContract};
+
+fn refused(number: u32, line: u32) -> Read
+    ensures { λ r. ⌜ r ≡ refusedRead number line ⌝ }
+{
+    Read::Refused(Refusal { number, line })
+}
+
+// After the Q line, which is the last: nothing follows from `at` on, where line `line` would start.
+fn finish(sheet: &[u8], k: Counts, goal: u32, at: usize, line: u32) -> Read
+    ensures { λ r. ⌜ r ≡ finished (now (sheet .entry)) k goal at line ⌝ }
+{
+    if at < sheet.len() {
+        return refused(11, line);
+    }
+    Read::Done(k, goal)
+}
+
+// The sheet in the table, or its refusal.
+pub fn read_sheet(sheet: &[u8], t: &mut [u32]) -> Read
+    requires { ⌜ (length (now sheet) ≤ maxSheetBytes) × (tableNumbers ≤ length (now t)) ⌝ }
+    ensures { λ r. ⌜ ReadContract (now (sheet .entry)) (now (t .entry)) (now (t .exit)) r ⌝ }
+{
+    let mut k = Counts {
+        symbols: 0,
+        nodes: 0,
+        clauses: 0,
+    };
+    let mut at: usize = 0;
+    let mut line: u32 = 1;
+    while at < sheet.len() {
+        let end = line_end(sheet, at);
+        if end == sheet.len() {
+            return refused(6, line);
+        }
+        let taken = read_at(sheet, t, k, at, end);
+        match taken {
+            Taken::Next(more) => k = more,
+            Taken::Stop(number) => return refused(number, line),
+            Taken::Last(goal) => return finish(sheet, k, goal, end + 1, line + 1),
+        }
+        at = end + 1;
+        line += 1;
+    }
+    refused(11, line)
+}

@@ -1,0 +1,21 @@
+use borrow.Author.Tests.{eq-eqb, ne-eqb}
+use borrow.Author.Needs.{needs}
+use Rattle.try_effects.proofs.tried_goals.Statement.{statement}
+use Rattle.try_effects.proofs.tried_goals.Tie as tie
+
+kind-requires : tie.Need-kind-requires
+kind-requires c κs = search needs
+
+up-requires : tie.Need-up-requires
+up-requires c κs = search needs
+
+returns : tie.Need-returns
+returns c =
+    simp (← c .up .ensures, eq-eqb _ _ (c .before .if1 .taken), ← c .before .before .kind .ensures)
+
+returns-2 : tie.Need-returns-2
+returns-2 c =
+    simp (ne-eqb _ _ (c .if1 .left), ← c .before .kind .ensures)
+
+pub tried-goals-spec : {M : Type 1} → statement M
+tried-goals-spec = tie.close (tie.spec kind-requires up-requires returns returns-2)

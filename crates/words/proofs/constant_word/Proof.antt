@@ -1,0 +1,29 @@
+use Rattle.machine.specs.Words.{constantWord}
+use borrow.Author.Needs.{needs}
+use Rattle.words.proofs.constant_word.Statement.{statement}
+use Rattle.words.proofs.constant_word.Tie as tie
+use Rattle.words.proofs.constant_word.Reads as reads
+use Rattle.words.proofs.constant_word.Lts as lts
+use Rattle.words.proofs.narrow.Reads as narrow-reads
+use Rattle.memory.proofs.wide.Reads as wide-reads
+
+wide-requires : tie.Need-wide-requires
+wide-requires c κs = search needs
+
+mul-narrow : tie.Need-mul-narrow
+mul-narrow c = search needs
+
+add-narrow : tie.Need-add-narrow
+add-narrow c = search needs
+
+narrow-requires : tie.Need-narrow-requires
+narrow-requires c κs = search needs
+
+returns : tie.Need-returns
+unfolding constantWord
+returns c =
+    simp (constantWord, ← c .narrow .ensures, ← c .before .wide .ensures .0)
+
+pub constant-word-spec : {M : Type 1} → statement M
+constant-word-spec =
+    tie.close (tie.spec wide-requires mul-narrow add-narrow narrow-requires returns)

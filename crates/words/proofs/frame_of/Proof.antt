@@ -1,0 +1,13 @@
+use mathlib.Core.Path.{refl}
+use Rattle.machine.specs.Words.{frameOf}
+use Rattle.words.proofs.frame_of.Statement.{statement}
+use Rattle.words.proofs.frame_of.Tie as tie
+use Rattle.words.proofs.frame_of.Reads as reads
+use Rattle.words.proofs.frame_of.Lts as lts
+
+returns : tie.Need-returns
+unfolding frameOf
+returns c = refl
+
+pub frame-of-spec : {M : Type 1} → statement M
+frame-of-spec = tie.close (tie.spec returns)

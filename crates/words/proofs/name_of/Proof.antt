@@ -1,0 +1,13 @@
+use mathlib.Core.Path.{refl}
+use Rattle.machine.specs.Words.{nameOf}
+use Rattle.words.proofs.name_of.Statement.{statement}
+use Rattle.words.proofs.name_of.Tie as tie
+use Rattle.words.proofs.name_of.Reads as reads
+use Rattle.words.proofs.name_of.Lts as lts
+
+returns : tie.Need-returns
+unfolding nameOf
+returns c = refl
+
+pub name-of-spec : {M : Type 1} → statement M
+name-of-spec = tie.close (tie.spec returns)
