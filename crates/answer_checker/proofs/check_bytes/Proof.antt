@@ -15,14 +15,5 @@ slice-aggregate-check c = zeros 8192
 slice-aggregate-check-2 : tie.Need-slice-aggregate-check-2
 slice-aggregate-check-2 c = zeros 131072
 
-check-requires : tie.Need-check-requires
-check-requires c κs = search needs
-
-print-verdict-requires : tie.Need-print-verdict-requires
-print-verdict-requires c κs = search needs
-
-returns : tie.Need-returns
-returns c = search needs
-
 pub check-bytes-spec : {M : Type 1} → statement M
-check-bytes-spec = tie.close (tie.spec slice-aggregate-check slice-aggregate-check-2 check-requires print-verdict-requires returns)
+check-bytes-spec = tie.close (tie.spec slice-aggregate-check slice-aggregate-check-2 (λ c κs. search needs) (λ c κs. search needs) (λ c. search needs))

@@ -6,13 +6,6 @@ use borrow.Author.Tests.{le-leb, lt-leb}
 use borrow.Author.Needs.{needs}
 use Rattle.applications.proofs.take_application.Statement.{statement}
 use Rattle.applications.proofs.take_application.Tie as tie
-use Rattle.applications.proofs.take_application.Reads as reads
-use Rattle.applications.proofs.take_application.Lts as lts
-use Rattle.node_table.proofs.add_node.Reads as add-node-reads
-use Rattle.arguments.proofs.all_there.Reads as all-there-reads
-use Rattle.arguments.proofs.application_info.Reads as application-info-reads
-use Rattle.arguments.proofs.applied_kind.Reads as applied-kind-reads
-use Rattle.memory.proofs.wide.Reads as wide-reads
 
 returns : tie.Need-returns
 unfolding takeApplication
@@ -24,41 +17,14 @@ unfolding takeApplication
 returns-2 c =
     simp (takeApplication, le-leb _ _ (c .if2 .taken), lt-leb _ _ (c .before .before .if1 .left))
 
-wide-requires : tie.Need-wide-requires
-wide-requires c κs = search needs
-
-array-share-prefix-args : tie.Need-array-share-prefix-args
-array-share-prefix-args c = search needs
-
 slice-aggregate-all-there : tie.Need-slice-aggregate-all-there
 slice-aggregate-all-there c = first-length (c .before .wide .result) (c .before .before .before .before .before .before .before .args .count) (c .before .before .before .before .before .before .before .args .a) (c .before .before .before .before .before .before .before .args .b) (c .before .before .before .before .before .before .before .args .c) (c .before .before .before .before .before .before .before .args .d) (c .before .before .before .before .before .before .before .pre) (c .before .wide .ensures .0)
-
-all-there-requires : tie.Need-all-there-requires
-all-there-requires c κs = search needs
-
-array-share-prefix-args-2 : tie.Need-array-share-prefix-args-2
-array-share-prefix-args-2 c = search needs
 
 slice-aggregate-application-info : tie.Need-slice-aggregate-application-info
 slice-aggregate-application-info c = first-length (c .before .before .before .before .before .wide .result) (c .before .before .before .before .before .before .before .before .before .before .before .args .count) (c .before .before .before .before .before .before .before .before .before .before .before .args .a) (c .before .before .before .before .before .before .before .before .before .before .before .args .b) (c .before .before .before .before .before .before .before .before .before .before .before .args .c) (c .before .before .before .before .before .before .before .before .before .before .before .args .d) (c .before .before .before .before .before .before .before .before .before .before .before .pre) (c .before .before .before .before .before .wide .ensures .0)
 
 application-info-requires : tie.Need-application-info-requires
 application-info-requires c κs = let e = first-length (c .before .before .before .before .before .wide .result) (c .before .before .before .before .before .before .before .before .before .before .before .args .count) (c .before .before .before .before .before .before .before .before .before .before .before .args .a) (c .before .before .before .before .before .before .before .before .before .before .before .args .b) (c .before .before .before .before .before .before .before .before .before .before .before .args .c) (c .before .before .before .before .before .before .before .before .before .before .before .args .d) (c .before .before .before .before .before .before .before .before .before .before .before .pre) (c .before .before .before .before .before .wide .ensures .0) in omega arith
-
-applied-kind-requires : tie.Need-applied-kind-requires
-applied-kind-requires c κs = search needs
-
-mul-head : tie.Need-mul-head
-mul-head c = search needs
-
-add-head : tie.Need-add-head
-add-head c = search needs
-
-add-node-requires : tie.Need-add-node-requires
-add-node-requires c κs = search needs
-
-same-length : tie.Need-same-length
-same-length c = search needs
 
 returns-3 : tie.Need-returns-3
 returns-3 c = application-taken _ _ _ _ _ _ _ _ _ _ _ _ _ _ (c .before .before .before .before .before .before .before .before .before .before .before .before .before .before .before .if1 .left) (c .before .before .before .before .before .before .before .before .before .before .before .before .before .if2 .left) (c .before .before .before .before .before .before .before .before .before .before .before .before .wide .ensures .0) (c .before .before .before .before .before .before .before .before .before .before .all-there .ensures) (c .before .before .before .before .before .before .before .before .before .if3 .taken) (c .before .before .before .before .before .before .application-info .ensures) (c .before .before .before .before .applied-kind .ensures .0) (c .before .before .add-node .ensures)
@@ -71,20 +37,6 @@ returns-4 c =
 pub take-application-spec : {M : Type 1} → statement M
 take-application-spec =
     tie.close
-    (tie.spec
-    returns
-    returns-2
-    wide-requires
-    array-share-prefix-args
-    slice-aggregate-all-there
-    all-there-requires
-    array-share-prefix-args-2
-    slice-aggregate-application-info
-    application-info-requires
-    applied-kind-requires
-    mul-head
-    add-head
-    add-node-requires
-    same-length
-    returns-3
-    returns-4)
+    (tie.spec returns returns-2 (λ c κs. search needs) (λ c. search needs) slice-aggregate-all-there (λ c κs. search needs)
+    (λ c. search needs) slice-aggregate-application-info application-info-requires (λ c κs. search needs) (λ c. search needs)
+    (λ c. search needs) (λ c κs. search needs) (λ c. search needs) returns-3 returns-4)

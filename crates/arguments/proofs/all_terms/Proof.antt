@@ -6,9 +6,6 @@ use Prim.Native.Nat.{_-_, _≤_}
 use borrow.Author.Needs.{needs}
 use Rattle.arguments.proofs.all_terms.Statement.{statement}
 use Rattle.arguments.proofs.all_terms.Tie as tie
-use Rattle.arguments.proofs.all_terms.Reads as reads
-use Rattle.arguments.proofs.all_terms.Lts as lts
-use Rattle.tables.proofs.size.Reads as size-reads
 
 abbrev Inv-loop : tie.InvT-loop
 Inv-loop t args i₀ i = (i ≤ length args) × (allTerms t args ≡ allTerms t (drop i args))
@@ -19,23 +16,8 @@ abbrev μ-loop : tie.MeasureT-loop
 loop-holds : tie.Need-loop-holds Inv-loop μ-loop
 loop-holds c = (search needs, refl)
 
-mul-a : tie.Need-mul-a Inv-loop μ-loop
-mul-a c = search needs
-
-shared-slice-read-a : tie.Need-shared-slice-read-a Inv-loop μ-loop
-shared-slice-read-a c = search needs
-
-size-requires : tie.Need-size-requires Inv-loop μ-loop
-size-requires c κs = search needs
-
 returns : tie.Need-returns Inv-loop μ-loop
 returns c = sym (c .before .before .before .before .loop .inv .1 ∙ terms-off _ _ _ _ (c .before .before .before .loop-test .taken) (c .before .size .ensures .0) (c .if1 .taken))
-
-add-i : tie.Need-add-i Inv-loop μ-loop
-add-i c = search needs
-
-loop-less : tie.Need-loop-less Inv-loop μ-loop
-loop-less c = search needs
 
 loop-again : tie.Need-loop-again Inv-loop μ-loop
 loop-again c = (search needs, c .before .before .before .before .loop .inv .1 ∙ terms-on _ _ _ _ (c .before .before .before .loop-test .taken) (c .before .size .ensures .0) (c .if1 .left))
@@ -46,15 +28,5 @@ returns-2 c = sym (c .before .loop .inv .1 ∙ terms-end _ _ _ (c .loop-test .le
 pub all-terms-spec : {M : Type 1} → statement M
 all-terms-spec =
     tie.close
-    (tie.spec
-    Inv-loop
-    μ-loop
-    loop-holds
-    mul-a
-    shared-slice-read-a
-    size-requires
-    returns
-    add-i
-    loop-less
-    loop-again
-    returns-2)
+    (tie.spec Inv-loop μ-loop loop-holds (λ c. search needs) (λ c. search needs) (λ c κs. search needs) returns
+    (λ c. search needs) (λ c. search needs) loop-again returns-2)

@@ -6,8 +6,6 @@ use Prim.Native.Nat.{_-_, _≤_}
 use borrow.Author.Needs.{needs}
 use Rattle.arguments.proofs.all_there.Statement.{statement}
 use Rattle.arguments.proofs.all_there.Tie as tie
-use Rattle.arguments.proofs.all_there.Reads as reads
-use Rattle.arguments.proofs.all_there.Lts as lts
 
 abbrev Inv-loop : tie.InvT-loop
 Inv-loop n args i₀ i = (i ≤ length args) × (allThere n args ≡ allThere n (drop i args))
@@ -18,20 +16,8 @@ abbrev μ-loop : tie.MeasureT-loop
 loop-holds : tie.Need-loop-holds Inv-loop μ-loop
 loop-holds c = (search needs, refl)
 
-mul-a : tie.Need-mul-a Inv-loop μ-loop
-mul-a c = search needs
-
-shared-slice-read-a : tie.Need-shared-slice-read-a Inv-loop μ-loop
-shared-slice-read-a c = search needs
-
 returns : tie.Need-returns Inv-loop μ-loop
 returns c = sym (c .before .before .before .loop .inv .1 ∙ there-off _ _ _ (c .before .before .loop-test .taken) (c .if1 .taken))
-
-add-i : tie.Need-add-i Inv-loop μ-loop
-add-i c = search needs
-
-loop-less : tie.Need-loop-less Inv-loop μ-loop
-loop-less c = search needs
 
 loop-again : tie.Need-loop-again Inv-loop μ-loop
 loop-again c = (search needs, c .before .before .before .loop .inv .1 ∙ there-on _ _ _ (c .before .before .loop-test .taken) (c .if1 .left))
@@ -42,14 +28,5 @@ returns-2 c = sym (c .before .loop .inv .1 ∙ there-end _ _ _ (c .loop-test .le
 pub all-there-spec : {M : Type 1} → statement M
 all-there-spec =
     tie.close
-    (tie.spec
-    Inv-loop
-    μ-loop
-    loop-holds
-    mul-a
-    shared-slice-read-a
-    returns
-    add-i
-    loop-less
-    loop-again
-    returns-2)
+    (tie.spec Inv-loop μ-loop loop-holds (λ c. search needs) (λ c. search needs) returns (λ c. search needs) (λ c. search needs)
+    loop-again returns-2)

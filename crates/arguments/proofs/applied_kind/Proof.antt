@@ -2,12 +2,6 @@ use Rattle.symbols.specs.Symbols.{appliedKind}
 use borrow.Author.Needs.{needs}
 use Rattle.arguments.proofs.applied_kind.Statement.{statement}
 use Rattle.arguments.proofs.applied_kind.Tie as tie
-use Rattle.arguments.proofs.applied_kind.Reads as reads
-use Rattle.arguments.proofs.applied_kind.Lts as lts
-use Rattle.tables.proofs.is_function.Reads as is-function-reads
-
-is-function-requires : tie.Need-is-function-requires
-is-function-requires c κs = search needs
 
 returns : tie.Need-returns
 unfolding appliedKind
@@ -20,4 +14,4 @@ returns-2 c =
     (simp (appliedKind, c .if1 .left, ← c .before .is-function .ensures), search needs)
 
 pub applied-kind-spec : {M : Type 1} → statement M
-applied-kind-spec = tie.close (tie.spec is-function-requires returns returns-2)
+applied-kind-spec = tie.close (tie.spec (λ c κs. search needs) returns returns-2)

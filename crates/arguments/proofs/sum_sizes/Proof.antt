@@ -6,9 +6,6 @@ use Prim.Native.Nat.{_+_, _-_, _*_, _≤_}
 use borrow.Author.Needs.{needs}
 use Rattle.arguments.proofs.sum_sizes.Statement.{statement}
 use Rattle.arguments.proofs.sum_sizes.Tie as tie
-use Rattle.arguments.proofs.sum_sizes.Reads as reads
-use Rattle.arguments.proofs.sum_sizes.Lts as lts
-use Rattle.tables.proofs.size.Reads as size-reads
 
 abbrev Inv-loop : tie.InvT-loop
 Inv-loop t args sum₀ i₀ sum i = (i ≤ length args) × (sum ≤ 1 + 65535 * i) × (sizesFrom t 1 args ≡ sizesFrom t sum (drop i args))
@@ -19,24 +16,6 @@ abbrev μ-loop : tie.MeasureT-loop
 loop-holds : tie.Need-loop-holds Inv-loop μ-loop
 loop-holds c = (search needs, search needs, refl)
 
-mul-a : tie.Need-mul-a Inv-loop μ-loop
-mul-a c = search needs
-
-shared-slice-read-a : tie.Need-shared-slice-read-a Inv-loop μ-loop
-shared-slice-read-a c = search needs
-
-size-requires : tie.Need-size-requires Inv-loop μ-loop
-size-requires c κs = search needs
-
-add-sum : tie.Need-add-sum Inv-loop μ-loop
-add-sum c = search needs
-
-add-i : tie.Need-add-i Inv-loop μ-loop
-add-i c = search needs
-
-loop-less : tie.Need-loop-less Inv-loop μ-loop
-loop-less c = search needs
-
 loop-again : tie.Need-loop-again Inv-loop μ-loop
 loop-again c = (search needs, search needs, c .before .before .before .loop .inv .2 ∙ sizes-on _ _ _ _ _ (c .before .before .loop-test .taken) (c .size .ensures .0))
 
@@ -46,15 +25,5 @@ returns c = sym (c .before .loop .inv .2 ∙ sizes-end _ _ _ _ (c .loop-test .le
 pub sum-sizes-spec : {M : Type 1} → statement M
 sum-sizes-spec =
     tie.close
-    (tie.spec
-    Inv-loop
-    μ-loop
-    loop-holds
-    mul-a
-    shared-slice-read-a
-    size-requires
-    add-sum
-    add-i
-    loop-less
-    loop-again
-    returns)
+    (tie.spec Inv-loop μ-loop loop-holds (λ c. search needs) (λ c. search needs) (λ c κs. search needs) (λ c. search needs)
+    (λ c. search needs) (λ c. search needs) loop-again returns)

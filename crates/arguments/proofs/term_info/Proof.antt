@@ -3,12 +3,6 @@ use borrow.Author.Tests.{le-leb, lt-leb}
 use borrow.Author.Needs.{needs}
 use Rattle.arguments.proofs.term_info.Statement.{statement}
 use Rattle.arguments.proofs.term_info.Tie as tie
-use Rattle.arguments.proofs.term_info.Reads as reads
-use Rattle.arguments.proofs.term_info.Lts as lts
-use Rattle.making.proofs.pack_info.Reads as pack-info-reads
-
-pack-info-requires : tie.Need-pack-info-requires
-pack-info-requires c κs = search needs
 
 returns : tie.Need-returns
 unfolding termInfo
@@ -21,4 +15,4 @@ returns-2 c =
     simp (termInfo, lt-leb _ _ (c .if1 .left))
 
 pub term-info-spec : {M : Type 1} → statement M
-term-info-spec = tie.close (tie.spec pack-info-requires returns returns-2)
+term-info-spec = tie.close (tie.spec (λ c κs. search needs) returns returns-2)

@@ -3,24 +3,6 @@ use borrow.Author.Needs.{needs}
 use Rattle.bindings.proofs.bind_term.Statement.{statement}
 use Rattle.bindings.proofs.bind_term.Tie as tie
 
-scan-term-requires : tie.Need-scan-term-requires
-scan-term-requires c κs = search needs
-
-enum-known-j : tie.Need-enum-known-j
-enum-known-j c = search needs
-
-bind-with-requires : tie.Need-bind-with-requires
-bind-with-requires c κs = search needs
-
-enum-told : tie.Need-enum-told
-enum-told c = search needs
-
-broken-requires : tie.Need-broken-requires
-broken-requires c κs = search needs
-
-same-length : tie.Need-same-length
-same-length c = search needs
-
 returns : tie.Need-returns
 returns c = term-read _ _ _ _ _ _ _ _ _ _ _ _ _ _ (c .before .before .before .before .before .before .before .scan-term .ensures) (c .before .before .before .before .before .j .given .1) (c .before .before .bind-with .ensures)
 
@@ -30,12 +12,5 @@ returns-2 c = term-missing _ _ _ _ _ _ _ _ _ _ _ _ (c .before .before .before .s
 pub bind-term-spec : {M : Type 1} → statement M
 bind-term-spec =
     tie.close
-    (tie.spec
-    scan-term-requires
-    enum-known-j
-    bind-with-requires
-    enum-told
-    broken-requires
-    same-length
-    returns
-    returns-2)
+    (tie.spec (λ c κs. search needs) (λ c. search needs) (λ c κs. search needs) (λ c. search needs) (λ c κs. search needs)
+    (λ c. search needs) returns returns-2)

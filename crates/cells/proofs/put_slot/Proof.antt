@@ -2,31 +2,6 @@ use Rattle.machine.specs.Records.{put}
 use borrow.Author.Needs.{needs}
 use Rattle.cells.proofs.put_slot.Statement.{statement}
 use Rattle.cells.proofs.put_slot.Tie as tie
-use Rattle.cells.proofs.put_slot.Reads as reads
-use Rattle.cells.proofs.put_slot.Lts as lts
-use Rattle.memory.proofs.put.Reads as put-reads
-use Rattle.memory.proofs.wide.Reads as wide-reads
-
-wide-requires : tie.Need-wide-requires
-wide-requires c κs = search needs
-
-mul-put : tie.Need-mul-put
-mul-put c = search needs
-
-wide-requires-2 : tie.Need-wide-requires-2
-wide-requires-2 c κs = search needs
-
-add-put : tie.Need-add-put
-add-put c = search needs
-
-add-put-2 : tie.Need-add-put-2
-add-put-2 c = search needs
-
-put-requires : tie.Need-put-requires
-put-requires c κs = search needs
-
-same-length : tie.Need-same-length
-same-length c = search needs
 
 returns : tie.Need-returns
 unfolding put
@@ -36,12 +11,5 @@ returns c =
 pub put-slot-spec : {M : Type 1} → statement M
 put-slot-spec =
     tie.close
-    (tie.spec
-    wide-requires
-    mul-put
-    wide-requires-2
-    add-put
-    add-put-2
-    put-requires
-    same-length
-    returns)
+    (tie.spec (λ c κs. search needs) (λ c. search needs) (λ c κs. search needs) (λ c. search needs) (λ c. search needs)
+    (λ c κs. search needs) (λ c. search needs) returns)

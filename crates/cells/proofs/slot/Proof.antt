@@ -2,28 +2,6 @@ use Rattle.machine.specs.Records.{field}
 use borrow.Author.Needs.{needs}
 use Rattle.cells.proofs.slot.Statement.{statement}
 use Rattle.cells.proofs.slot.Tie as tie
-use Rattle.cells.proofs.slot.Reads as reads
-use Rattle.cells.proofs.slot.Lts as lts
-use Rattle.memory.proofs.get.Reads as get-reads
-use Rattle.memory.proofs.wide.Reads as wide-reads
-
-wide-requires : tie.Need-wide-requires
-wide-requires c κs = search needs
-
-mul-get : tie.Need-mul-get
-mul-get c = search needs
-
-wide-requires-2 : tie.Need-wide-requires-2
-wide-requires-2 c κs = search needs
-
-add-get : tie.Need-add-get
-add-get c = search needs
-
-add-get-2 : tie.Need-add-get-2
-add-get-2 c = search needs
-
-get-requires : tie.Need-get-requires
-get-requires c κs = search needs
 
 returns : tie.Need-returns
 unfolding field
@@ -33,4 +11,4 @@ returns c =
 pub slot-spec : {M : Type 1} → statement M
 slot-spec =
     tie.close
-    (tie.spec wide-requires mul-get wide-requires-2 add-get add-get-2 get-requires returns)
+    (tie.spec (λ c κs. search needs) (λ c. search needs) (λ c κs. search needs) (λ c. search needs) (λ c. search needs) (λ c κs. search needs) returns)

@@ -13,17 +13,8 @@ use Rattle.checker.proofs.check.Tie as tie
 passed : (c : tie.Else1) → Passed (c .before .before .before .before .before .before .args .sheet .now) (c .before .before .before .before .before .before .args .text .now) (length (c .before .before .before .before .before .before .args .table .now))
 passed c = early-passed _ _ _ (sym (c .before .early .ensures) ∙ c .if1 .left)
 
-early-requires : tie.Need-early-requires
-early-requires c κs = search needs
-
-refused-requires : tie.Need-refused-requires
-refused-requires c κs = search needs
-
 returns : tie.Need-returns
 returns c = check-refused _ _ _ _ _ _ (c .before .before .early .ensures) (c .before .if1 .taken) (c .refused .ensures)
-
-count-lf-requires : tie.Need-count-lf-requires
-count-lf-requires c κs = search needs
 
 mul-m : tie.Need-mul-m
 mul-m c =
@@ -31,9 +22,6 @@ mul-m c =
     let most = countLf-most (c .before .before .before .before .before .before .before .args .text .now) in
     let e = c .count-lf .ensures in
     search needs
-
-refused-requires-2 : tie.Need-refused-requires-2
-refused-requires-2 c κs = search needs
 
 returns-2 : tie.Need-returns-2
 returns-2 c = check-short _ _ _ _ _ _ _ (c .before .before .before .before .early .ensures) (c .before .before .before .if1 .left) (c .before .before .count-lf .ensures) (c .before .if2 .taken) (c .refused2 .ensures)
@@ -44,9 +32,6 @@ slice-relend-prefix-inside c = passed (c .before .before) .tableFits
 slice-aggregate-inside : tie.Need-slice-aggregate-inside
 slice-aggregate-inside c = sym (length-take-le 8192 (c .before .before .before .before .before .before .before .before .before .args .table .now) (passed (c .before .before .before) .tableFits))
 
-slice-relend-prefix-inside-2 : tie.Need-slice-relend-prefix-inside-2
-slice-relend-prefix-inside-2 c = search needs
-
 slice-aggregate-inside-2 : tie.Need-slice-aggregate-inside-2
 slice-aggregate-inside-2 c = sym (length-take-le _ (c .before .before .before .before .before .before .before .before .before .before .args .work .now) (c .before .before .if2 .left))
 
@@ -56,31 +41,12 @@ inside-requires c κs =
     let p = passed (c .before .before .before .before) in
     (p .sheetFits, part-fits 8192 (start .table .now) (p .tableFits), p .textFits, part-demanded _ _ (start .work .now) (c .before .before .before .count-lf .ensures) (c .before .before .if2 .left))
 
-same-length : tie.Need-same-length
-same-length c = search needs
-
-same-length-2 : tie.Need-same-length-2
-same-length-2 c = search needs
-
 returns-3 : tie.Need-returns-3
 returns-3 c = check-passed _ _ _ _ _ _ _ _ _ (c .before .before .before .before .before .before .before .before .before .before .early .ensures) (c .before .before .before .before .before .before .before .before .before .if1 .left) (c .before .before .before .before .before .before .before .before .count-lf .ensures) (c .before .before .before .before .before .before .before .if2 .left) (c .before .before .before .before .inside .ensures .0) (c .before .before .before .before .inside .ensures .1) (c .before .before .before .before .inside .ensures .2)
 
 pub check-spec : {M : Type 1} → statement M
 check-spec =
     tie.close
-    (tie.spec
-    early-requires
-    refused-requires
-    returns
-    count-lf-requires
-    mul-m
-    refused-requires-2
-    returns-2
-    slice-relend-prefix-inside
-    slice-aggregate-inside
-    slice-relend-prefix-inside-2
-    slice-aggregate-inside-2
-    inside-requires
-    same-length
-    same-length-2
-    returns-3)
+    (tie.spec (λ c κs. search needs) (λ c κs. search needs) returns (λ c κs. search needs) mul-m (λ c κs. search needs)
+    returns-2 slice-relend-prefix-inside slice-aggregate-inside (λ c. search needs) slice-aggregate-inside-2 inside-requires
+    (λ c. search needs) (λ c. search needs) returns-3)

@@ -3,26 +3,11 @@ use borrow.Author.Needs.{needs}
 use Rattle.clauses.proofs.use_terms.Statement.{statement}
 use Rattle.clauses.proofs.use_terms.Tie as tie
 
-enum-known-a : tie.Need-enum-known-a
-enum-known-a c = search needs
-
-enum-told : tie.Need-enum-told
-enum-told c = search needs
-
-broken-requires : tie.Need-broken-requires
-broken-requires c κs = search needs
-
 returns : tie.Need-returns
 returns c = terms-none _ _ _ _ _ _ _ _ _ _ (c .before .enum-told .given .1) ((c .broken .ensures) _)
 
-use-member-requires : tie.Need-use-member-requires
-use-member-requires c κs = search needs
-
 returns-2 : tie.Need-returns-2
 returns-2 c = terms-used _ _ _ _ _ _ _ _ _ _ _ _ (c .before .before .before .a .given .1) (c .before .if1 .taken) (c .use-member .ensures)
-
-broken-requires-2 : tie.Need-broken-requires-2
-broken-requires-2 c κs = search needs
 
 returns-3 : tie.Need-returns-3
 returns-3 c = terms-more _ _ _ _ _ _ _ _ _ _ _ _ (c .before .before .before .a .given .1) (c .before .if1 .left) ((c .broken2 .ensures) _)
@@ -30,12 +15,5 @@ returns-3 c = terms-more _ _ _ _ _ _ _ _ _ _ _ _ (c .before .before .before .a .
 pub use-terms-spec : {M : Type 1} → statement M
 use-terms-spec =
     tie.close
-    (tie.spec
-    enum-known-a
-    enum-told
-    broken-requires
-    returns
-    use-member-requires
-    returns-2
-    broken-requires-2
-    returns-3)
+    (tie.spec (λ c. search needs) (λ c. search needs) (λ c κs. search needs) returns (λ c κs. search needs) returns-2
+    (λ c κs. search needs) returns-3)

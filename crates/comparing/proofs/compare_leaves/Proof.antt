@@ -4,22 +4,10 @@ use Rattle.machine.specs.Matching.{compareLeaves}
 use Rattle.comparing.proofs.compare_leaves.Statement.{statement}
 use Rattle.comparing.proofs.compare_leaves.Tie as tie
 
-due-pairs-requires : tie.Need-due-pairs-requires
-due-pairs-requires c κs = search needs
-
-same-length : tie.Need-same-length
-same-length c = search needs
-
 returns : tie.Need-returns
 unfolding compareLeaves
 returns c =
     simp (compareLeaves, ← c .due-pairs .ensures, eq-eqb _ _ (c .before .before .if1 .taken))
-
-failed-requires : tie.Need-failed-requires
-failed-requires c κs = search needs
-
-same-length-2 : tie.Need-same-length-2
-same-length-2 c = search needs
 
 returns-2 : tie.Need-returns-2
 unfolding compareLeaves
@@ -29,4 +17,4 @@ returns-2 c =
 pub compare-leaves-spec : {M : Type 1} → statement M
 compare-leaves-spec =
     tie.close
-    (tie.spec due-pairs-requires same-length returns failed-requires same-length-2 returns-2)
+    (tie.spec (λ c κs. search needs) (λ c. search needs) returns (λ c κs. search needs) (λ c. search needs) returns-2)

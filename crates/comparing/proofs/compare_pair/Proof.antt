@@ -3,30 +3,6 @@ use Rattle.machine.specs.Matching.{comparePair}
 use Rattle.comparing.proofs.compare_pair.Statement.{statement}
 use Rattle.comparing.proofs.compare_pair.Tie as tie
 
-add-pairs-from : tie.Need-add-pairs-from
-add-pairs-from c = search needs
-
-pairs-from-requires : tie.Need-pairs-from-requires
-pairs-from-requires c κs = search needs
-
-argument-word-requires : tie.Need-argument-word-requires
-argument-word-requires c κs = search needs
-
-look-word-requires : tie.Need-look-word-requires
-look-word-requires c κs = search needs
-
-argument-word-requires-2 : tie.Need-argument-word-requires-2
-argument-word-requires-2 c κs = search needs
-
-look-word-requires-2 : tie.Need-look-word-requires-2
-look-word-requires-2 c κs = search needs
-
-compare-words-requires : tie.Need-compare-words-requires
-compare-words-requires c κs = search needs
-
-same-length : tie.Need-same-length
-same-length c = search needs
-
 returns : tie.Need-returns
 unfolding comparePair
 returns c =
@@ -35,13 +11,5 @@ returns c =
 pub compare-pair-spec : {M : Type 1} → statement M
 compare-pair-spec =
     tie.close
-    (tie.spec
-    add-pairs-from
-    pairs-from-requires
-    argument-word-requires
-    look-word-requires
-    argument-word-requires-2
-    look-word-requires-2
-    compare-words-requires
-    same-length
-    returns)
+    (tie.spec (λ c. search needs) (λ c κs. search needs) (λ c κs. search needs) (λ c κs. search needs) (λ c κs. search needs)
+    (λ c κs. search needs) (λ c κs. search needs) (λ c. search needs) returns)

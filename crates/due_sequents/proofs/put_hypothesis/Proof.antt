@@ -4,18 +4,6 @@ use borrow.Author.Needs.{needs}
 use Rattle.due_sequents.proofs.put_hypothesis.Statement.{statement}
 use Rattle.due_sequents.proofs.put_hypothesis.Tie as tie
 
-put-field-requires : tie.Need-put-field-requires
-put-field-requires c κs = search needs
-
-put-field-requires-2 : tie.Need-put-field-requires-2
-put-field-requires-2 c κs = search needs
-
-put-field-requires-3 : tie.Need-put-field-requires-3
-put-field-requires-3 c κs = search needs
-
-same-length : tie.Need-same-length
-same-length c = search needs
-
 returns : tie.Need-returns
 unfolding putHypothesis
 returns c = and-put _ _ _ (and-put _ _ _ (c .before .before .before .before .before .before .before .before .before .before .put-field .ensures) (c .before .before .before .before .before .before .put-field2 .ensures)) (c .before .before .put-field3 .ensures)
@@ -23,4 +11,4 @@ returns c = and-put _ _ _ (and-put _ _ _ (c .before .before .before .before .bef
 pub put-hypothesis-spec : {M : Type 1} → statement M
 put-hypothesis-spec =
     tie.close
-    (tie.spec put-field-requires put-field-requires-2 put-field-requires-3 same-length returns)
+    (tie.spec (λ c κs. search needs) (λ c κs. search needs) (λ c κs. search needs) (λ c. search needs) returns)

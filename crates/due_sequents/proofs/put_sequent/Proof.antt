@@ -4,24 +4,6 @@ use borrow.Author.Needs.{needs}
 use Rattle.due_sequents.proofs.put_sequent.Statement.{statement}
 use Rattle.due_sequents.proofs.put_sequent.Tie as tie
 
-put-field-requires : tie.Need-put-field-requires
-put-field-requires c κs = search needs
-
-put-field-requires-2 : tie.Need-put-field-requires-2
-put-field-requires-2 c κs = search needs
-
-put-field-requires-3 : tie.Need-put-field-requires-3
-put-field-requires-3 c κs = search needs
-
-put-field-requires-4 : tie.Need-put-field-requires-4
-put-field-requires-4 c κs = search needs
-
-put-field-requires-5 : tie.Need-put-field-requires-5
-put-field-requires-5 c κs = search needs
-
-same-length : tie.Need-same-length
-same-length c = search needs
-
 returns : tie.Need-returns
 unfolding putSequent
 returns c = and-put _ _ _ (and-put _ _ _ (and-put _ _ _ (and-put _ _ _ (c .before .before .before .before .before .before .before .before .before .before .before .before .before .before .before .before .before .before .put-field .ensures) (c .before .before .before .before .before .before .before .before .before .before .before .before .before .before .put-field2 .ensures)) (c .before .before .before .before .before .before .before .before .before .before .put-field3 .ensures)) (c .before .before .before .before .before .before .put-field4 .ensures)) (c .before .before .put-field5 .ensures)
@@ -29,11 +11,5 @@ returns c = and-put _ _ _ (and-put _ _ _ (and-put _ _ _ (and-put _ _ _ (c .befor
 pub put-sequent-spec : {M : Type 1} → statement M
 put-sequent-spec =
     tie.close
-    (tie.spec
-    put-field-requires
-    put-field-requires-2
-    put-field-requires-3
-    put-field-requires-4
-    put-field-requires-5
-    same-length
-    returns)
+    (tie.spec (λ c κs. search needs) (λ c κs. search needs) (λ c κs. search needs) (λ c κs. search needs) (λ c κs. search needs)
+    (λ c. search needs) returns)

@@ -3,24 +3,6 @@ use borrow.Author.Needs.{needs}
 use Rattle.engine.proofs.inside.Statement.{statement}
 use Rattle.engine.proofs.inside.Tie as tie
 
-answer-sheet-requires : tie.Need-answer-sheet-requires
-answer-sheet-requires c κs = search needs
-
-zero-front-requires : tie.Need-zero-front-requires
-zero-front-requires c κs = search needs
-
-zero-front-requires-2 : tie.Need-zero-front-requires-2
-zero-front-requires-2 c κs = search needs
-
-same-length : tie.Need-same-length
-same-length c = search needs
-
-same-length-2 : tie.Need-same-length-2
-same-length-2 c = search needs
-
-same-length-3 : tie.Need-same-length-3
-same-length-3 c = search needs
-
 returns : tie.Need-returns
 returns c =
     let start = c .before .before .before .before .before .before .before .before .before .before .before .before .before .before .before .before .before .before .before .before .before .before .args in
@@ -33,11 +15,5 @@ returns c =
 pub inside-spec : {M : Type 1} → statement M
 inside-spec =
     tie.close
-    (tie.spec
-    answer-sheet-requires
-    zero-front-requires
-    zero-front-requires-2
-    same-length
-    same-length-2
-    same-length-3
-    returns)
+    (tie.spec (λ c κs. search needs) (λ c κs. search needs) (λ c κs. search needs) (λ c. search needs) (λ c. search needs)
+    (λ c. search needs) returns)

@@ -23,20 +23,8 @@ work-fits c =
     let e = c .wide .ensures .0 in
     omega arith
 
-early-requires : tie.Need-early-requires
-early-requires c κs = search needs
-
-refused-requires : tie.Need-refused-requires
-refused-requires c κs = search needs
-
 returns : tie.Need-returns
 returns c = run-refused _ _ _ _ _ _ _ (c .before .before .early .ensures) (c .before .if1 .taken) (c .refused .ensures)
-
-wide-requires : tie.Need-wide-requires
-wide-requires c κs = search needs
-
-mul-m : tie.Need-mul-m
-mul-m c = search needs
 
 slice-relend-prefix-inside : tie.Need-slice-relend-prefix-inside
 slice-relend-prefix-inside c = passed (c .before) .tableFits
@@ -56,33 +44,12 @@ inside-requires c κs =
     let p = passed (c .before .before .before .before) in
     (p .sheetFits, part-fits 8192 (start .table .now) (p .tableFits), p .most, part-demanded _ _ (start .work .now) (c .before .before .before .wide .ensures .0) (p .workFits))
 
-same-length : tie.Need-same-length
-same-length c = search needs
-
-same-length-2 : tie.Need-same-length-2
-same-length-2 c = search needs
-
-same-length-3 : tie.Need-same-length-3
-same-length-3 c = search needs
-
 returns-2 : tie.Need-returns-2
 returns-2 c = run-passed _ _ _ _ _ _ _ _ _ _ _ (c .before .before .before .before .before .before .before .before .before .before .before .before .early .ensures) (c .before .before .before .before .before .before .before .before .before .before .before .if1 .left) (c .before .before .before .before .before .before .before .before .before .before .wide .ensures .0) (c .before .before .before .before .before .before .inside .ensures .0) (c .before .before .before .before .before .before .inside .ensures .1) (c .before .before .before .before .before .before .inside .ensures .2)
 
 pub run-spec : {M : Type 1} → statement M
 run-spec =
     tie.close
-    (tie.spec
-    early-requires
-    refused-requires
-    returns
-    wide-requires
-    mul-m
-    slice-relend-prefix-inside
-    slice-aggregate-inside
-    slice-relend-prefix-inside-2
-    slice-aggregate-inside-2
-    inside-requires
-    same-length
-    same-length-2
-    same-length-3
-    returns-2)
+    (tie.spec (λ c κs. search needs) (λ c κs. search needs) returns (λ c κs. search needs) (λ c. search needs)
+    slice-relend-prefix-inside slice-aggregate-inside slice-relend-prefix-inside-2 slice-aggregate-inside-2 inside-requires
+    (λ c. search needs) (λ c. search needs) (λ c. search needs) returns-2)

@@ -8,17 +8,11 @@ use Rattle.fields.proofs.field_number.Tie as tie
 returns : tie.Need-returns
 returns c = answer-bad _ _ (number-empty _ (c .if1 .taken))
 
-shared-slice-read-if2 : tie.Need-shared-slice-read-if2
-shared-slice-read-if2 c = search needs
-
 returns-2 : tie.Need-returns-2
 returns-2 c = answer-value _ _ _ _ (number-zero _ (c .before .if2 .taken) (c .if3 .taken)) (c .if3 .taken)
 
 returns-3 : tie.Need-returns-3
 returns-3 c = answer-bad _ _ (number-padded _ (c .before .if2 .taken) (c .if3 .left))
-
-read-digits-requires : tie.Need-read-digits-requires
-read-digits-requires c κs = search needs
 
 returns-4 : tie.Need-returns-4
 returns-4 c = c .read-digits .ensures ∙ ap (numberAnswer _) (sym (number-digits _ (c .before .before .before .if1 .left) (c .before .if2 .left)))
@@ -26,4 +20,4 @@ returns-4 c = c .read-digits .ensures ∙ ap (numberAnswer _) (sym (number-digit
 pub field-number-spec : {M : Type 1} → statement M
 field-number-spec =
     tie.close
-    (tie.spec returns shared-slice-read-if2 returns-2 returns-3 read-digits-requires returns-4)
+    (tie.spec returns (λ c. search needs) returns-2 returns-3 (λ c κs. search needs) returns-4)

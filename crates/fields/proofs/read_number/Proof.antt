@@ -3,14 +3,8 @@ use borrow.Author.Needs.{needs}
 use Rattle.fields.proofs.read_number.Statement.{statement}
 use Rattle.fields.proofs.read_number.Tie as tie
 
-field-len-requires : tie.Need-field-len-requires
-field-len-requires c κs = search needs
-
 slice-aggregate-field-number : tie.Need-slice-aggregate-field-number
 slice-aggregate-field-number c = first-part _ _ (c .before .field-len .ensures)
-
-field-number-requires : tie.Need-field-number-requires
-field-number-requires c κs = search needs
 
 returns : tie.Need-returns
 returns c = number-first _ _ _ (c .before .before .field-len .ensures) (c .field-number .ensures)
@@ -18,4 +12,4 @@ returns c = number-first _ _ _ (c .before .before .field-len .ensures) (c .field
 pub read-number-spec : {M : Type 1} → statement M
 read-number-spec =
     tie.close
-    (tie.spec field-len-requires slice-aggregate-field-number field-number-requires returns)
+    (tie.spec (λ c κs. search needs) slice-aggregate-field-number (λ c κs. search needs) returns)

@@ -3,15 +3,6 @@ use borrow.Author.Needs.{needs}
 use Rattle.first_levels.proofs.is_showing.Statement.{statement}
 use Rattle.first_levels.proofs.is_showing.Tie as tie
 
-byte-requires : tie.Need-byte-requires
-byte-requires c κs = search needs
-
-is-symbol-requires : tie.Need-is-symbol-requires
-is-symbol-requires c κs = search needs
-
-number-after-requires : tie.Need-number-after-requires
-number-after-requires c κs = search needs
-
 returns : tie.Need-returns
 returns c = showing-here _ _ _ _ _ _ _ (c .before .before .before .before .byte .ensures) (c .before .before .before .if1 .taken) (c .before .before .is-symbol .ensures) (c .before .if2 .taken) (c .number-after .ensures .0)
 
@@ -24,10 +15,4 @@ returns-3 c = showing-other _ _ _ _ _ (c .before .byte .ensures) (c .if1 .left)
 pub is-showing-spec : {M : Type 1} → statement M
 is-showing-spec =
     tie.close
-    (tie.spec
-    byte-requires
-    is-symbol-requires
-    number-after-requires
-    returns
-    returns-2
-    returns-3)
+    (tie.spec (λ c κs. search needs) (λ c κs. search needs) (λ c κs. search needs) returns returns-2 returns-3)

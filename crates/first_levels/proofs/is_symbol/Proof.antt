@@ -3,14 +3,8 @@ use borrow.Author.Needs.{needs}
 use Rattle.first_levels.proofs.is_symbol.Statement.{statement}
 use Rattle.first_levels.proofs.is_symbol.Tie as tie
 
-byte-requires : tie.Need-byte-requires
-byte-requires c κs = search needs
-
 returns : tie.Need-returns
 returns c = symbol-made _ _ _ (c .before .byte .ensures) (c .if1 .taken)
-
-outside-name-requires : tie.Need-outside-name-requires
-outside-name-requires c κs = search needs
 
 returns-2 : tie.Need-returns-2
 returns-2 c = symbol-leftover _ _ _ _ (c .before .before .before .byte .ensures) (c .before .before .if1 .left) (c .before .if2 .taken) (c .outside-name .ensures)
@@ -20,4 +14,4 @@ returns-3 c = symbol-none _ _ _ (c .before .before .byte .ensures) (c .before .i
 
 pub is-symbol-spec : {M : Type 1} → statement M
 is-symbol-spec =
-    tie.close (tie.spec byte-requires returns outside-name-requires returns-2 returns-3)
+    tie.close (tie.spec (λ c κs. search needs) returns (λ c κs. search needs) returns-2 returns-3)

@@ -14,26 +14,11 @@ Inv-loop text c n i at₀ at = levelFrom (length text - i) text c n i ≡ levelF
 abbrev μ-loop : tie.MeasureT-loop
 μ-loop text c n i at₀ at = length text - at
 
-find-byte-requires : tie.Need-find-byte-requires Inv-loop μ-loop
-find-byte-requires c κs = search needs
-
 loop-holds : tie.Need-loop-holds Inv-loop μ-loop
 loop-holds c = from-found (c .before .before .args .text .now) _ _ _ _ (c .find-byte .ensures)
 
-is-showing-requires : tie.Need-is-showing-requires Inv-loop μ-loop
-is-showing-requires c κs = search needs
-
-level-at-requires : tie.Need-level-at-requires Inv-loop μ-loop
-level-at-requires c κs = search needs
-
 returns : tie.Need-returns Inv-loop μ-loop
 returns c = sym ((c .before .before .before .before .loop .inv) ∙ from-here (c .before .before .before .before .before .before .before .args .text .now) _ _ _ _ _ (c .before .before .before .loop-test .taken) (c .before .before .is-showing .ensures) (c .before .if1 .taken) (c .level-at .ensures))
-
-add-find-byte : tie.Need-add-find-byte Inv-loop μ-loop
-add-find-byte c = search needs
-
-find-byte-requires-2 : tie.Need-find-byte-requires-2 Inv-loop μ-loop
-find-byte-requires-2 c κs = search needs
 
 loop-less : tie.Need-loop-less Inv-loop μ-loop
 loop-less c = omega (arith, found-later (c .before .before .before .before .before .before .before .args .text .now) _ _ _ (c .find-byte2 .ensures))
@@ -47,16 +32,5 @@ returns-2 c = sym ((c .before .loop .inv) ∙ from-none (c .before .before .befo
 pub level-from-spec : {M : Type 1} → statement M
 level-from-spec =
     tie.close
-    (tie.spec
-    Inv-loop
-    μ-loop
-    find-byte-requires
-    loop-holds
-    is-showing-requires
-    level-at-requires
-    returns
-    add-find-byte
-    find-byte-requires-2
-    loop-less
-    loop-again
-    returns-2)
+    (tie.spec Inv-loop μ-loop (λ c κs. search needs) loop-holds (λ c κs. search needs) (λ c κs. search needs) returns
+    (λ c. search needs) (λ c κs. search needs) loop-less loop-again returns-2)

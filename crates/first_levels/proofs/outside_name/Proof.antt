@@ -6,15 +6,6 @@ use Rattle.first_levels.proofs.outside_name.Tie as tie
 returns : tie.Need-returns
 returns c = outside-first _ _ (c .if1 .taken)
 
-sub-byte : tie.Need-sub-byte
-sub-byte c = search needs
-
-byte-requires : tie.Need-byte-requires
-byte-requires c κs = search needs
-
-is-name-byte-requires : tie.Need-is-name-byte-requires
-is-name-byte-requires c κs = search needs
-
 returns-2 : tie.Need-returns-2
 returns-2 c = outside-in _ _ _ _ (c .before .before .before .if1 .left) (c .before .before .byte .ensures) (c .before .is-name-byte .ensures) (c .if2 .taken)
 
@@ -23,4 +14,4 @@ returns-3 c = outside-out _ _ _ _ (c .before .before .before .if1 .left) (c .bef
 
 pub outside-name-spec : {M : Type 1} → statement M
 outside-name-spec =
-    tie.close (tie.spec returns sub-byte byte-requires is-name-byte-requires returns-2 returns-3)
+    tie.close (tie.spec returns (λ c. search needs) (λ c κs. search needs) (λ c κs. search needs) returns-2 returns-3)

@@ -13,29 +13,8 @@ Inv-loop n w₀ r q f left₀ at₀ w left at = (at + left ≡ f + n) × (length
 abbrev μ-loop : tie.MeasureT-loop
 μ-loop n w₀ r q f left₀ at₀ w left at = left
 
-loop-holds : tie.Need-loop-holds Inv-loop μ-loop
-loop-holds c = search needs
-
-field-requires : tie.Need-field-requires Inv-loop μ-loop
-field-requires c κs = search needs
-
-put-field-requires : tie.Need-put-field-requires Inv-loop μ-loop
-put-field-requires c κs = search needs
-
-add-at : tie.Need-add-at Inv-loop μ-loop
-add-at c = search needs
-
-sub-left : tie.Need-sub-left Inv-loop μ-loop
-sub-left c = search needs
-
-loop-less : tie.Need-loop-less Inv-loop μ-loop
-loop-less c = search needs
-
 loop-again : tie.Need-loop-again Inv-loop μ-loop
 loop-again c = (search needs, (c .before .before .put-field .kept .0) ∙ (c .before .before .before .before .before .before .before .loop .inv .1), (c .before .before .before .before .before .before .before .loop .inv .2) ∙ copy-on _ _ _ _ _ _ _ (c .before .before .before .before .before .before .loop-test .taken) (c .before .before .before .before .field .ensures) (c .before .before .put-field .ensures))
-
-same-length : tie.Need-same-length Inv-loop μ-loop
-same-length c = search needs
 
 returns : tie.Need-returns Inv-loop μ-loop
 returns c = sym ((c .before .loop .inv .2) ∙ copy-end _ _ _ _ _ (c .loop-test .left))
@@ -43,15 +22,5 @@ returns c = sym ((c .before .loop .inv .2) ∙ copy-end _ _ _ _ _ (c .loop-test 
 pub copy-frame-spec : {M : Type 1} → statement M
 copy-frame-spec =
     tie.close
-    (tie.spec
-    Inv-loop
-    μ-loop
-    loop-holds
-    field-requires
-    put-field-requires
-    add-at
-    sub-left
-    loop-less
-    loop-again
-    same-length
-    returns)
+    (tie.spec Inv-loop μ-loop (λ c. search needs) (λ c κs. search needs) (λ c κs. search needs) (λ c. search needs)
+    (λ c. search needs) (λ c. search needs) loop-again (λ c. search needs) returns)

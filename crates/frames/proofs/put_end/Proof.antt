@@ -3,30 +3,6 @@ use borrow.Author.Needs.{needs}
 use Rattle.frames.proofs.put_end.Statement.{statement}
 use Rattle.frames.proofs.put_end.Tie as tie
 
-wide-requires : tie.Need-wide-requires
-wide-requires c κs = search needs
-
-mul-put : tie.Need-mul-put
-mul-put c = search needs
-
-wide-requires-2 : tie.Need-wide-requires-2
-wide-requires-2 c κs = search needs
-
-mul-put-2 : tie.Need-mul-put-2
-mul-put-2 c = search needs
-
-add-put : tie.Need-add-put
-add-put c = search needs
-
-add-put-2 : tie.Need-add-put-2
-add-put-2 c = search needs
-
-put-requires : tie.Need-put-requires
-put-requires c κs = search needs
-
-same-length : tie.Need-same-length
-same-length c = search needs
-
 returns : tie.Need-returns
 unfolding put
 returns c = simp (put, ← (c .before .before .put .ensures), ← (c .before .before .before .wide2 .ensures .0), ← (c .before .before .before .before .wide .ensures .0))
@@ -34,13 +10,5 @@ returns c = simp (put, ← (c .before .before .put .ensures), ← (c .before .be
 pub put-end-spec : {M : Type 1} → statement M
 put-end-spec =
     tie.close
-    (tie.spec
-    wide-requires
-    mul-put
-    wide-requires-2
-    mul-put-2
-    add-put
-    add-put-2
-    put-requires
-    same-length
-    returns)
+    (tie.spec (λ c κs. search needs) (λ c. search needs) (λ c κs. search needs) (λ c. search needs) (λ c. search needs)
+    (λ c. search needs) (λ c κs. search needs) (λ c. search needs) returns)

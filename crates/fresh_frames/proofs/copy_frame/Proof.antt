@@ -6,10 +6,6 @@ use mathlib.Core.Path.{_≡_, sym, _∙_}
 use Prim.Native.Nat.{ℕ, _+_}
 use Rattle.fresh_frames.proofs.copy_frame.Statement.{statement}
 use Rattle.fresh_frames.proofs.copy_frame.Tie as tie
-use Rattle.fresh_frames.proofs.copy_frame.Reads as reads
-use Rattle.fresh_frames.proofs.copy_frame.Lts as lts
-use Rattle.cells.proofs.put_slot.Reads as put-slot-reads
-use Rattle.words.proofs.slot_of.Reads as slot-of-reads
 
 abbrev Inv-loop : tie.InvT-loop
 Inv-loop n w₀ u f v slots₀ at₀ w slots at = (at + slots ≡ v + n) × (length w ≡ length w₀) × (copyFrame n w₀ u f v ≡ copyFrame slots w u f at)
@@ -17,29 +13,8 @@ Inv-loop n w₀ u f v slots₀ at₀ w slots at = (at + slots ≡ v + n) × (len
 abbrev μ-loop : tie.MeasureT-loop
 μ-loop n w₀ u f v slots₀ at₀ w slots at = slots
 
-loop-holds : tie.Need-loop-holds Inv-loop μ-loop
-loop-holds c = search needs
-
-slot-of-requires : tie.Need-slot-of-requires Inv-loop μ-loop
-slot-of-requires c κs = search needs
-
-put-slot-requires : tie.Need-put-slot-requires Inv-loop μ-loop
-put-slot-requires c κs = search needs
-
-add-at : tie.Need-add-at Inv-loop μ-loop
-add-at c = search needs
-
-sub-slots : tie.Need-sub-slots Inv-loop μ-loop
-sub-slots c = search needs
-
-loop-less : tie.Need-loop-less Inv-loop μ-loop
-loop-less c = search needs
-
 loop-again : tie.Need-loop-again Inv-loop μ-loop
 loop-again c = (search needs, c .before .before .put-slot .kept .0 ∙ c .before .before .before .before .before .before .before .loop .inv .1, c .before .before .before .before .before .before .before .loop .inv .2 ∙ copy-on _ _ _ _ _ _ _ (c .before .before .before .before .before .before .loop-test .taken) (c .before .before .before .before .slot-of .ensures) (c .before .before .put-slot .ensures))
-
-same-length : tie.Need-same-length Inv-loop μ-loop
-same-length c = search needs
 
 returns : tie.Need-returns Inv-loop μ-loop
 returns c = sym (c .before .loop .inv .2 ∙ copy-end _ _ _ _ _ (c .loop-test .left))
@@ -47,15 +22,5 @@ returns c = sym (c .before .loop .inv .2 ∙ copy-end _ _ _ _ _ (c .loop-test .l
 pub copy-frame-spec : {M : Type 1} → statement M
 copy-frame-spec =
     tie.close
-    (tie.spec
-    Inv-loop
-    μ-loop
-    loop-holds
-    slot-of-requires
-    put-slot-requires
-    add-at
-    sub-slots
-    loop-less
-    loop-again
-    same-length
-    returns)
+    (tie.spec Inv-loop μ-loop (λ c. search needs) (λ c κs. search needs) (λ c κs. search needs) (λ c. search needs)
+    (λ c. search needs) (λ c. search needs) loop-again (λ c. search needs) returns)

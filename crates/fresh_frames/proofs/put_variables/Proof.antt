@@ -6,9 +6,6 @@ use mathlib.Core.Path.{_≡_, sym, _∙_}
 use Prim.Native.Nat.{ℕ, _+_}
 use Rattle.fresh_frames.proofs.put_variables.Statement.{statement}
 use Rattle.fresh_frames.proofs.put_variables.Tie as tie
-use Rattle.fresh_frames.proofs.put_variables.Reads as reads
-use Rattle.fresh_frames.proofs.put_variables.Lts as lts
-use Rattle.fresh_frames.proofs.put_variable.Reads as put-variable-reads
 
 abbrev Inv-loop : tie.InvT-loop
 Inv-loop n w₀ x left₀ fresh₀ w left fresh = (fresh + left ≡ x + n) × (length w ≡ length w₀) × (putVariables n w₀ x ≡ putVariables left w fresh)
@@ -16,26 +13,8 @@ Inv-loop n w₀ x left₀ fresh₀ w left fresh = (fresh + left ≡ x + n) × (l
 abbrev μ-loop : tie.MeasureT-loop
 μ-loop n w₀ x left₀ fresh₀ w left fresh = left
 
-loop-holds : tie.Need-loop-holds Inv-loop μ-loop
-loop-holds c = search needs
-
-put-variable-requires : tie.Need-put-variable-requires Inv-loop μ-loop
-put-variable-requires c κs = search needs
-
-add-fresh : tie.Need-add-fresh Inv-loop μ-loop
-add-fresh c = search needs
-
-sub-left : tie.Need-sub-left Inv-loop μ-loop
-sub-left c = search needs
-
-loop-less : tie.Need-loop-less Inv-loop μ-loop
-loop-less c = search needs
-
 loop-again : tie.Need-loop-again Inv-loop μ-loop
 loop-again c = (search needs, c .before .before .put-variable .kept .0 ∙ c .before .before .before .before .before .loop .inv .1, c .before .before .before .before .before .loop .inv .2 ∙ variables-on _ _ _ _ (c .before .before .before .before .loop-test .taken) (c .before .before .put-variable .ensures))
-
-same-length : tie.Need-same-length Inv-loop μ-loop
-same-length c = search needs
 
 returns : tie.Need-returns Inv-loop μ-loop
 returns c = sym (c .before .loop .inv .2 ∙ variables-end _ _ _ (c .loop-test .left))
@@ -43,14 +22,5 @@ returns c = sym (c .before .loop .inv .2 ∙ variables-end _ _ _ (c .loop-test .
 pub put-variables-spec : {M : Type 1} → statement M
 put-variables-spec =
     tie.close
-    (tie.spec
-    Inv-loop
-    μ-loop
-    loop-holds
-    put-variable-requires
-    add-fresh
-    sub-left
-    loop-less
-    loop-again
-    same-length
-    returns)
+    (tie.spec Inv-loop μ-loop (λ c. search needs) (λ c κs. search needs) (λ c. search needs) (λ c. search needs)
+    (λ c. search needs) loop-again (λ c. search needs) returns)

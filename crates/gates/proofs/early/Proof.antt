@@ -21,12 +21,6 @@ returns-4 : tie.Need-returns-4
 unfolding earlyNumber
 returns-4 c = simp (earlyNumber, lt-ltb _ _ (c .if4 .taken), le-ltb _ _ (c .before .before .before .if1 .left), le-ltb _ _ (c .before .before .if2 .left), ne-eqb _ _ (c .before .if3 .left))
 
-wide-requires : tie.Need-wide-requires
-wide-requires c κs = search needs
-
-mul-if5 : tie.Need-mul-if5
-mul-if5 c = search needs
-
 returns-5 : tie.Need-returns-5
 unfolding earlyNumber demanded
 returns-5 c = simp (earlyNumber, ← c .before .wide .ensures .0, lt-ltb _ _ (c .if5 .taken), le-ltb _ _ (c .before .before .before .before .before .if1 .left), le-ltb _ _ (c .before .before .before .before .if2 .left), ne-eqb _ _ (c .before .before .before .if3 .left), le-ltb _ _ (c .before .before .if4 .left))
@@ -38,4 +32,4 @@ returns-6 c = simp (earlyNumber, ← c .before .wide .ensures .0, le-ltb _ _ (c 
 pub early-spec : {M : Type 1} → statement M
 early-spec =
     tie.close
-    (tie.spec returns returns-2 returns-3 returns-4 wide-requires mul-if5 returns-5 returns-6)
+    (tie.spec returns returns-2 returns-3 returns-4 (λ c κs. search needs) (λ c. search needs) returns-5 returns-6)

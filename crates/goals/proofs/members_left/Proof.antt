@@ -2,8 +2,6 @@ use borrow.Author.Tests.{eq-eqb, ne-eqb}
 use Rattle.machine.specs.Goals.{membersLeft}
 use Rattle.goals.proofs.members_left.Statement.{statement}
 use Rattle.goals.proofs.members_left.Tie as tie
-use Rattle.goals.proofs.members_left.Reads as reads
-use Rattle.goals.proofs.members_left.Lts as lts
 
 returns : tie.Need-returns
 unfolding membersLeft

@@ -71,32 +71,11 @@ along-instance-μ-loop rank sheet t text w g m i name e left₀ at₀ j₀ mark�
 along-instance-returns : (t : ℕ) → along-instance-lts.Need-returns (claims t) (along-instance-at t) along-instance.Post along-instance-Inv-loop along-instance-μ-loop
 along-instance-returns t c = along-rank _ _ _ _ _ _ _ _ (c .if1 .taken)
 
-along-instance-label-requires : (t : ℕ) → along-instance-lts.Need-label-requires (claims t) (along-instance-at t) along-instance.Post along-instance-Inv-loop along-instance-μ-loop
-along-instance-label-requires t c κs = search needs
-
-along-instance-kind-requires : (t : ℕ) → along-instance-lts.Need-kind-requires (claims t) (along-instance-at t) along-instance.Post along-instance-Inv-loop along-instance-μ-loop
-along-instance-kind-requires t c κs = search needs
-
-along-instance-along-slot-requires : (t : ℕ) → along-instance-lts.Need-along-slot-requires (claims t) (along-instance-at t) along-instance.Post along-instance-Inv-loop along-instance-μ-loop
-along-instance-along-slot-requires t c κs = search needs
-
 along-instance-returns-2 : (t : ℕ) → along-instance-lts.Need-returns-2 (claims t) (along-instance-at t) along-instance.Post along-instance-Inv-loop along-instance-μ-loop
 along-instance-returns-2 t c = along-variable _ _ _ _ _ _ _ _ _ _ _ (c .before .before .before .before .if1 .left) (c .before .before .before .label .ensures) (c .before .before .kind .ensures) (c .before .if2 .taken) (c .along-slot .ensures)
 
-along-instance-along-name-requires : (t : ℕ) → along-instance-lts.Need-along-name-requires (claims t) (along-instance-at t) along-instance.Post along-instance-Inv-loop along-instance-μ-loop
-along-instance-along-name-requires t c κs = search needs
-
-along-instance-enum-known-e : (t : ℕ) → along-instance-lts.Need-enum-known-e (claims t) (along-instance-at t) along-instance.Post along-instance-Inv-loop along-instance-μ-loop
-along-instance-enum-known-e t c = search needs
-
-along-instance-enum-told : (t : ℕ) → along-instance-lts.Need-enum-told (claims t) (along-instance-at t) along-instance.Post along-instance-Inv-loop along-instance-μ-loop
-along-instance-enum-told t c = search needs
-
 along-instance-returns-3 : (t : ℕ) → along-instance-lts.Need-returns-3 (claims t) (along-instance-at t) along-instance.Post along-instance-Inv-loop along-instance-μ-loop
 along-instance-returns-3 t c = along-differs _ _ _ _ _ _ _ _ _ _ _ (c .before .before .before .before .before .before .if1 .left) (c .before .before .before .before .before .label .ensures) (c .before .before .before .before .kind .ensures) (c .before .before .before .if2 .left) (c .before .before .along-name .ensures) (c .enum-told .given .1)
-
-along-instance-child-count-requires : (t : ℕ) → along-instance-lts.Need-child-count-requires (claims t) (along-instance-at t) along-instance.Post along-instance-Inv-loop along-instance-μ-loop
-along-instance-child-count-requires t c κs = search needs
 
 along-instance-returns-4 : (t : ℕ) → along-instance-lts.Need-returns-4 (claims t) (along-instance-at t) along-instance.Post along-instance-Inv-loop along-instance-μ-loop
 along-instance-returns-4 t c = along-constant _ _ _ _ _ _ _ _ _ _ _ _ _ (c .before .before .before .before .before .before .before .before .before .if1 .left) (c .before .before .before .before .before .before .before .before .label .ensures) (c .before .before .before .before .before .before .before .kind .ensures) (c .before .before .before .before .before .before .if2 .left) (c .before .before .before .before .before .along-name .ensures) (c .before .before .before .e .given .1) (c .before .child-count .ensures) (c .if3 .taken)
@@ -104,38 +83,11 @@ along-instance-returns-4 t c = along-constant _ _ _ _ _ _ _ _ _ _ _ _ _ (c .befo
 along-instance-loop-holds : (t : ℕ) → along-instance-lts.Need-loop-holds (claims t) (along-instance-at t) along-instance.Post along-instance-Inv-loop along-instance-μ-loop
 along-instance-loop-holds t c = (omega arith, omega arith, along-applied _ _ _ _ _ _ _ _ _ _ _ _ _ (c .before .before .before .before .before .before .before .before .before .if1 .left) (c .before .before .before .before .before .before .before .before .label .ensures) (c .before .before .before .before .before .before .before .kind .ensures) (c .before .before .before .before .before .before .if2 .left) (c .before .before .before .before .before .along-name .ensures) (c .before .before .before .e .given .1) (c .before .child-count .ensures) (c .if3 .left))
 
-along-instance-byte-requires : (t : ℕ) → along-instance-lts.Need-byte-requires (claims t) (along-instance-at t) along-instance.Post along-instance-Inv-loop along-instance-μ-loop
-along-instance-byte-requires t c κs = search needs
-
-along-instance-sub-along-instance : (t : ℕ) → along-instance-lts.Need-sub-along-instance (claims t) (along-instance-at t) along-instance.Post along-instance-Inv-loop along-instance-μ-loop
-along-instance-sub-along-instance t c = search needs
-
-along-instance-child-requires : (t : ℕ) → along-instance-lts.Need-child-requires (claims t) (along-instance-at t) along-instance.Post along-instance-Inv-loop along-instance-μ-loop
-along-instance-child-requires t c κs = search needs
-
 along-instance-add-along-instance : (t : ℕ) → along-instance-lts.Need-add-along-instance (claims t) (along-instance-at t) along-instance.Post along-instance-Inv-loop along-instance-μ-loop
 along-instance-add-along-instance t c = omega (arith, inside (c .before .before .before .before .before .before .before .before .before .before .before .before .before .before .before .before .before .before .before .args .text .now) _ _ _ (c .before .before .byte .ensures) (c .before .if4 .taken) (c .before .before .before .before .loop .inv .0))
 
-along-instance-along-instance-requires : (t : ℕ) → along-instance-lts.Need-along-instance-requires (claims t) (along-instance-at t) along-instance.Post along-instance-Inv-loop along-instance-μ-loop
-along-instance-along-instance-requires t c κs = search needs
-
-along-instance-enum-known-p : (t : ℕ) → along-instance-lts.Need-enum-known-p (claims t) (along-instance-at t) along-instance.Post along-instance-Inv-loop along-instance-μ-loop
-along-instance-enum-known-p t c = search needs
-
-along-instance-enum-told-2 : (t : ℕ) → along-instance-lts.Need-enum-told-2 (claims t) (along-instance-at t) along-instance.Post along-instance-Inv-loop along-instance-μ-loop
-along-instance-enum-told-2 t c = search needs
-
 along-instance-returns-5 : (t : ℕ) → along-instance-lts.Need-returns-5 (claims t) (along-instance-at t) along-instance.Post along-instance-Inv-loop along-instance-μ-loop
 along-instance-returns-5 t c = sym (c .before .before .before .before .before .before .before .loop .inv .2 ∙ more-differs _ _ _ _ _ _ _ _ _ _ _ (c .before .before .before .before .before .before .loop-test .taken) (c .before .before .before .before .before .byte .ensures) (c .before .before .before .before .if4 .taken) (c .before .before .before .child .ensures) (c .before .before .along-instance .ensures) (c .enum-told2 .given .1))
-
-along-instance-add-j : (t : ℕ) → along-instance-lts.Need-add-j (claims t) (along-instance-at t) along-instance.Post along-instance-Inv-loop along-instance-μ-loop
-along-instance-add-j t c = search needs
-
-along-instance-sub-left : (t : ℕ) → along-instance-lts.Need-sub-left (claims t) (along-instance-at t) along-instance.Post along-instance-Inv-loop along-instance-μ-loop
-along-instance-sub-left t c = search needs
-
-along-instance-loop-less : (t : ℕ) → along-instance-lts.Need-loop-less (claims t) (along-instance-at t) along-instance.Post along-instance-Inv-loop along-instance-μ-loop
-along-instance-loop-less t c = search needs
 
 along-instance-loop-again : (t : ℕ) → along-instance-lts.Need-loop-again (claims t) (along-instance-at t) along-instance.Post along-instance-Inv-loop along-instance-μ-loop
 along-instance-loop-again t c = (omega arith, search needs, c .before .before .before .before .before .before .before .before .loop .inv .2 ∙ more-on _ _ _ _ _ _ _ _ _ _ _ _ (c .before .before .before .before .before .before .before .loop-test .taken) (c .before .before .before .before .before .before .byte .ensures) (c .before .before .before .before .before .if4 .taken) (c .before .before .before .before .child .ensures) (c .before .before .before .along-instance .ensures) (c .before .p .given .1))
@@ -143,42 +95,15 @@ along-instance-loop-again t c = (omega arith, search needs, c .before .before .b
 along-instance-returns-6 : (t : ℕ) → along-instance-lts.Need-returns-6 (claims t) (along-instance-at t) along-instance.Post along-instance-Inv-loop along-instance-μ-loop
 along-instance-returns-6 t c = sym (c .before .before .before .loop .inv .2 ∙ more-other _ _ _ _ _ _ _ _ _ (c .before .before .loop-test .taken) (c .before .byte .ensures) (c .if4 .left))
 
-along-instance-along-close-requires : (t : ℕ) → along-instance-lts.Need-along-close-requires (claims t) (along-instance-at t) along-instance.Post along-instance-Inv-loop along-instance-μ-loop
-along-instance-along-close-requires t c κs = search needs
-
 along-instance-returns-7 : (t : ℕ) → along-instance-lts.Need-returns-7 (claims t) (along-instance-at t) along-instance.Post along-instance-Inv-loop along-instance-μ-loop
 along-instance-returns-7 t c = more-end _ _ _ _ _ _ _ _ _ (c .before .loop-test .left) (c .along-close .ensures) ∙ sym (c .before .before .loop .inv .2)
 
 pub +along-instance-spec : {M : Type 1} → statement M
 +along-instance-spec = close μ-along-instance λ t. along-instance-lts.spec (claims t)
-    (along-instance-at t)
-    along-instance.Post
-    along-instance-Inv-loop
-    along-instance-μ-loop
-    (along-instance-returns t)
-    (along-instance-label-requires t)
-    (along-instance-kind-requires t)
-    (along-instance-along-slot-requires t)
-    (along-instance-returns-2 t)
-    (along-instance-along-name-requires t)
-    (along-instance-enum-known-e t)
-    (along-instance-enum-told t)
-    (along-instance-returns-3 t)
-    (along-instance-child-count-requires t)
-    (along-instance-returns-4 t)
-    (along-instance-loop-holds t)
-    (along-instance-byte-requires t)
-    (along-instance-sub-along-instance t)
-    (along-instance-child-requires t)
-    (along-instance-add-along-instance t)
-    (along-instance-along-instance-requires t)
-    (along-instance-enum-known-p t)
-    (along-instance-enum-told-2 t)
-    (along-instance-returns-5 t)
-    (along-instance-add-j t)
-    (along-instance-sub-left t)
-    (along-instance-loop-less t)
-    (along-instance-loop-again t)
-    (along-instance-returns-6 t)
-    (along-instance-along-close-requires t)
-    (along-instance-returns-7 t)
+    (along-instance-at t) along-instance.Post along-instance-Inv-loop along-instance-μ-loop (along-instance-returns t)
+    (λ c κs. search needs) (λ c κs. search needs) (λ c κs. search needs) (along-instance-returns-2 t) (λ c κs. search needs)
+    (λ c. search needs) (λ c. search needs) (along-instance-returns-3 t) (λ c κs. search needs) (along-instance-returns-4 t)
+    (along-instance-loop-holds t) (λ c κs. search needs) (λ c. search needs) (λ c κs. search needs)
+    (along-instance-add-along-instance t) (λ c κs. search needs) (λ c. search needs) (λ c. search needs)
+    (along-instance-returns-5 t) (λ c. search needs) (λ c. search needs) (λ c. search needs) (along-instance-loop-again t)
+    (along-instance-returns-6 t) (λ c κs. search needs) (along-instance-returns-7 t)

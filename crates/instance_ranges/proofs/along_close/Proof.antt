@@ -5,9 +5,6 @@ use borrow.Author.Tests.{eq-eqb, ne-eqb}
 use native.Mathlib.Omega.{arith}
 use Rattle.instance_ranges.proofs.along_close.Tie as tie
 
-byte-requires : tie.Need-byte-requires
-byte-requires c κs = search needs
-
 add-t5 : tie.Need-add-t5
 add-t5 c = omega (arith, inside (c .before .before .before .args .text .now) _ _ 41 (c .before .byte .ensures) (c .if1 .taken) (omega arith))
 
@@ -18,4 +15,4 @@ returns-2 : tie.Need-returns-2
 returns-2 c = simp (← (c .before .byte .ensures), ne-eqb _ _ (c .if1 .left))
 
 pub along-close-spec : {M : Type 1} → statement M
-along-close-spec = tie.close (tie.spec byte-requires add-t5 returns returns-2)
+along-close-spec = tie.close (tie.spec (λ c κs. search needs) add-t5 returns returns-2)

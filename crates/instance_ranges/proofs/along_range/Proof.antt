@@ -4,12 +4,6 @@ use borrow.Author.Needs.{needs}
 use native.Mathlib.Omega.{arith}
 use Rattle.instance_ranges.proofs.along_range.Tie as tie
 
-monus-requires : tie.Need-monus-requires
-monus-requires c κs = search needs
-
-same-range-requires : tie.Need-same-range-requires
-same-range-requires c κs = search needs
-
 add-t10 : tie.Need-add-t10
 add-t10 c = omega (arith, c .before .before .before .monus .ensures)
 
@@ -24,4 +18,4 @@ returns-3 c = range-long _ _ _ _ _ _ (c .before .monus .ensures) (c .if1 .left)
 
 pub along-range-spec : {M : Type 1} → statement M
 along-range-spec =
-    tie.close (tie.spec monus-requires same-range-requires add-t10 returns returns-2 returns-3)
+    tie.close (tie.spec (λ c κs. search needs) (λ c κs. search needs) add-t10 returns returns-2 returns-3)

@@ -9,15 +9,6 @@ returns : tie.Need-returns
 unfolding sameSlots
 returns c = rw (eq-eqb _ _ (c .if1 .taken))
 
-monus-requires : tie.Need-monus-requires
-monus-requires c κs = search needs
-
-monus-requires-2 : tie.Need-monus-requires-2
-monus-requires-2 c κs = search needs
-
-same-range-requires : tie.Need-same-range-requires
-same-range-requires c κs = search needs
-
 returns-2 : tie.Need-returns-2
 returns-2 c = slots-same _ _ _ _ _ _ _ _ (c .before .before .before .before .if1 .left) (c .before .before .before .monus .ensures) (c .before .before .monus2 .ensures) (c .before .if2 .taken) (c .same-range .ensures)
 
@@ -27,4 +18,4 @@ returns-3 c = slots-other _ _ _ _ _ _ _ (c .before .before .before .if1 .left) (
 pub same-slots-spec : {M : Type 1} → statement M
 same-slots-spec =
     tie.close
-    (tie.spec returns monus-requires monus-requires-2 same-range-requires returns-2 returns-3)
+    (tie.spec returns (λ c κs. search needs) (λ c κs. search needs) (λ c κs. search needs) returns-2 returns-3)

@@ -63,130 +63,36 @@ same-elements-μ-loop rank sheet t text w f g c₀ i j a b m children₀ k₀ c 
 same-elements-returns : (t : ℕ) → same-elements-lts.Need-returns (claims t) (same-elements-at t) same-elements.Post same-elements-Inv-loop same-elements-μ-loop
 same-elements-returns t c = elements-rank _ _ _ _ _ _ _ _ _ _ (c .if1 .taken)
 
-same-elements-root-of-requires : (t : ℕ) → same-elements-lts.Need-root-of-requires (claims t) (same-elements-at t) same-elements.Post same-elements-Inv-loop same-elements-μ-loop
-same-elements-root-of-requires t c κs = search needs
-
-same-elements-root-of-requires-2 : (t : ℕ) → same-elements-lts.Need-root-of-requires-2 (claims t) (same-elements-at t) same-elements.Post same-elements-Inv-loop same-elements-μ-loop
-same-elements-root-of-requires-2 t c κs = search needs
-
-same-elements-same-length : (t : ℕ) → same-elements-lts.Need-same-length (claims t) (same-elements-at t) same-elements.Post same-elements-Inv-loop same-elements-μ-loop
-same-elements-same-length t c = search needs
-
 same-elements-returns-2 : (t : ℕ) → same-elements-lts.Need-returns-2 (claims t) (same-elements-at t) same-elements.Post same-elements-Inv-loop same-elements-μ-loop
 same-elements-returns-2 t c = elements-one _ _ _ _ _ _ _ _ _ _ _ _ _ (c .before .before .before .before .before .before .before .root-of .ensures) (c .before .before .before .root-of2 .ensures) _ (c .before .before .before .before .before .before .before .before .before .if1 .left) (c .if2 .taken)
-
-same-elements-join-name-requires : (t : ℕ) → same-elements-lts.Need-join-name-requires (claims t) (same-elements-at t) same-elements.Post same-elements-Inv-loop same-elements-μ-loop
-same-elements-join-name-requires t c κs = search needs
-
-same-elements-same-length-2 : (t : ℕ) → same-elements-lts.Need-same-length-2 (claims t) (same-elements-at t) same-elements.Post same-elements-Inv-loop same-elements-μ-loop
-same-elements-same-length-2 t c = search needs
 
 same-elements-returns-3 : (t : ℕ) → same-elements-lts.Need-returns-3 (claims t) (same-elements-at t) same-elements.Post same-elements-Inv-loop same-elements-μ-loop
 same-elements-returns-3 t c = elements-first _ _ _ _ _ _ _ _ _ _ _ _ _ (c .before .before .before .before .before .before .before .before .before .before .before .before .root-of .ensures) (c .before .before .before .before .before .before .before .before .root-of2 .ensures) _ (c .before .before .before .before .before .before .before .before .before .before .before .before .before .before .if1 .left) (c .before .before .before .before .before .if2 .left) _ _ (c .before .before .before .before .if3 .taken) (c .before .before .join-name .ensures)
 
-same-elements-join-name-requires-2 : (t : ℕ) → same-elements-lts.Need-join-name-requires-2 (claims t) (same-elements-at t) same-elements.Post same-elements-Inv-loop same-elements-μ-loop
-same-elements-join-name-requires-2 t c κs = search needs
-
-same-elements-same-length-3 : (t : ℕ) → same-elements-lts.Need-same-length-3 (claims t) (same-elements-at t) same-elements.Post same-elements-Inv-loop same-elements-μ-loop
-same-elements-same-length-3 t c = search needs
-
 same-elements-returns-4 : (t : ℕ) → same-elements-lts.Need-returns-4 (claims t) (same-elements-at t) same-elements.Post same-elements-Inv-loop same-elements-μ-loop
 same-elements-returns-4 t c = elements-second _ _ _ _ _ _ _ _ _ _ _ _ _ (c .before .before .before .before .before .before .before .before .before .before .before .before .before .root-of .ensures) (c .before .before .before .before .before .before .before .before .before .root-of2 .ensures) _ (c .before .before .before .before .before .before .before .before .before .before .before .before .before .before .before .if1 .left) (c .before .before .before .before .before .before .if2 .left) _ _ (c .before .before .before .before .before .if3 .left) (c .before .before .before .before .if4 .taken) (c .before .before .join-name2 .ensures)
-
-same-elements-label-requires : (t : ℕ) → same-elements-lts.Need-label-requires (claims t) (same-elements-at t) same-elements.Post same-elements-Inv-loop same-elements-μ-loop
-same-elements-label-requires t c κs = search needs
-
-same-elements-label-requires-2 : (t : ℕ) → same-elements-lts.Need-label-requires-2 (claims t) (same-elements-at t) same-elements.Post same-elements-Inv-loop same-elements-μ-loop
-same-elements-label-requires-2 t c κs = search needs
-
-same-elements-child-count-requires : (t : ℕ) → same-elements-lts.Need-child-count-requires (claims t) (same-elements-at t) same-elements.Post same-elements-Inv-loop same-elements-μ-loop
-same-elements-child-count-requires t c κs = search needs
 
 same-elements-loop-holds : (t : ℕ) → same-elements-lts.Need-loop-holds (claims t) (same-elements-at t) same-elements.Post same-elements-Inv-loop same-elements-μ-loop
 same-elements-loop-holds t c = (omega arith, refl, refl)
 
-same-elements-sub-same-elements : (t : ℕ) → same-elements-lts.Need-sub-same-elements (claims t) (same-elements-at t) same-elements.Post same-elements-Inv-loop same-elements-μ-loop
-same-elements-sub-same-elements t c = search needs
-
-same-elements-child-of-requires : (t : ℕ) → same-elements-lts.Need-child-of-requires (claims t) (same-elements-at t) same-elements.Post same-elements-Inv-loop same-elements-μ-loop
-same-elements-child-of-requires t c κs = search needs
-
-same-elements-child-of-requires-2 : (t : ℕ) → same-elements-lts.Need-child-of-requires-2 (claims t) (same-elements-at t) same-elements.Post same-elements-Inv-loop same-elements-μ-loop
-same-elements-child-of-requires-2 t c κs = search needs
-
-same-elements-same-elements-requires : (t : ℕ) → same-elements-lts.Need-same-elements-requires (claims t) (same-elements-at t) same-elements.Post same-elements-Inv-loop same-elements-μ-loop
-same-elements-same-elements-requires t c κs = search needs
-
-same-elements-add-k : (t : ℕ) → same-elements-lts.Need-add-k (claims t) (same-elements-at t) same-elements.Post same-elements-Inv-loop same-elements-μ-loop
-same-elements-add-k t c = search needs
-
-same-elements-sub-children : (t : ℕ) → same-elements-lts.Need-sub-children (claims t) (same-elements-at t) same-elements.Post same-elements-Inv-loop same-elements-μ-loop
-same-elements-sub-children t c = search needs
-
-same-elements-loop-less : (t : ℕ) → same-elements-lts.Need-loop-less (claims t) (same-elements-at t) same-elements.Post same-elements-Inv-loop same-elements-μ-loop
-same-elements-loop-less t c = search needs
-
 same-elements-loop-again : (t : ℕ) → same-elements-lts.Need-loop-again (claims t) (same-elements-at t) same-elements.Post same-elements-Inv-loop same-elements-μ-loop
 same-elements-loop-again t c = let h : 0 < c .before .before .before .before .before .before .before .before .loop .children = omega (arith, c .before .before .before .before .before .before .before .loop-test .taken) in (omega arith, search needs, c .before .before .before .before .before .before .before .before .loop .inv .2 ∙ children-on _ _ _ _ _ _ _ _ _ _ _ h (c .before .before .before .before .before .child-of .ensures) (c .before .before .before .before .child-of2 .ensures) (c .before .before .before .same-elements .ensures) (c .if6 .taken))
-
-same-elements-same-length-4 : (t : ℕ) → same-elements-lts.Need-same-length-4 (claims t) (same-elements-at t) same-elements.Post same-elements-Inv-loop same-elements-μ-loop
-same-elements-same-length-4 t c = search needs
 
 same-elements-returns-5 : (t : ℕ) → same-elements-lts.Need-returns-5 (claims t) (same-elements-at t) same-elements.Post same-elements-Inv-loop same-elements-μ-loop
 same-elements-returns-5 t c = let h : 0 < c .before .before .before .before .before .before .before .before .loop .children = omega (arith, c .before .before .before .before .before .before .before .loop-test .taken) in sym (elements-same _ _ _ _ _ _ _ _ _ _ _ _ _ (c .before .before .before .before .before .before .before .before .before .before .before .before .before .before .before .before .before .before .before .before .before .before .root-of .ensures) (c .before .before .before .before .before .before .before .before .before .before .before .before .before .before .before .before .before .before .root-of2 .ensures) _ (c .before .before .before .before .before .before .before .before .before .before .before .before .before .before .before .before .before .before .before .before .before .before .before .before .if1 .left) (c .before .before .before .before .before .before .before .before .before .before .before .before .before .before .before .if2 .left) (c .before .before .before .before .before .before .before .before .before .before .before .before .before .before .if3 .left) (c .before .before .before .before .before .before .before .before .before .before .before .before .before .if4 .left) _ _ (c .before .before .before .before .before .before .before .before .before .before .before .before .label .ensures) (c .before .before .before .before .before .before .before .before .before .before .before .label2 .ensures) _ (c .before .before .before .before .before .before .before .before .before .before .if5 .taken) (c .before .before .before .before .before .before .before .before .before .child-count .ensures) ∙ c .before .before .before .before .before .before .before .before .loop .inv .2 ∙ children-off _ _ _ _ _ _ _ _ _ _ _ h (c .before .before .before .before .before .child-of .ensures) (c .before .before .before .before .child-of2 .ensures) (c .before .before .before .same-elements .ensures) (c .if6 .left))
 
-same-elements-wide-requires : (t : ℕ) → same-elements-lts.Need-wide-requires (claims t) (same-elements-at t) same-elements.Post same-elements-Inv-loop same-elements-μ-loop
-same-elements-wide-requires t c κs = search needs
-
-same-elements-put-requires : (t : ℕ) → same-elements-lts.Need-put-requires (claims t) (same-elements-at t) same-elements.Post same-elements-Inv-loop same-elements-μ-loop
-same-elements-put-requires t c κs = search needs
-
-same-elements-same-length-5 : (t : ℕ) → same-elements-lts.Need-same-length-5 (claims t) (same-elements-at t) same-elements.Post same-elements-Inv-loop same-elements-μ-loop
-same-elements-same-length-5 t c = search needs
-
 same-elements-returns-6 : (t : ℕ) → same-elements-lts.Need-returns-6 (claims t) (same-elements-at t) same-elements.Post same-elements-Inv-loop same-elements-μ-loop
 same-elements-returns-6 t c = children-end _ _ _ _ _ _ _ _ _ (c .before .before .before .before .before .loop-test .left) (c .before .before .before .wide .ensures .0) (c .before .before .put .ensures) ∙ sym (elements-same _ _ _ _ _ _ _ _ _ _ _ _ _ (c .before .before .before .before .before .before .before .before .before .before .before .before .before .before .before .before .before .before .before .before .root-of .ensures) (c .before .before .before .before .before .before .before .before .before .before .before .before .before .before .before .before .root-of2 .ensures) _ (c .before .before .before .before .before .before .before .before .before .before .before .before .before .before .before .before .before .before .before .before .before .before .if1 .left) (c .before .before .before .before .before .before .before .before .before .before .before .before .before .if2 .left) (c .before .before .before .before .before .before .before .before .before .before .before .before .if3 .left) (c .before .before .before .before .before .before .before .before .before .before .before .if4 .left) _ _ (c .before .before .before .before .before .before .before .before .before .before .label .ensures) (c .before .before .before .before .before .before .before .before .before .label2 .ensures) _ (c .before .before .before .before .before .before .before .before .if5 .taken) (c .before .before .before .before .before .before .before .child-count .ensures) ∙ c .before .before .before .before .before .before .loop .inv .2)
-
-same-elements-same-length-6 : (t : ℕ) → same-elements-lts.Need-same-length-6 (claims t) (same-elements-at t) same-elements.Post same-elements-Inv-loop same-elements-μ-loop
-same-elements-same-length-6 t c = search needs
 
 same-elements-returns-7 : (t : ℕ) → same-elements-lts.Need-returns-7 (claims t) (same-elements-at t) same-elements.Post same-elements-Inv-loop same-elements-μ-loop
 same-elements-returns-7 t c = elements-other _ _ _ _ _ _ _ _ _ _ _ _ _ (c .before .before .before .before .before .before .before .before .before .before .before .before .root-of .ensures) (c .before .before .before .before .before .before .before .before .root-of2 .ensures) _ (c .before .before .before .before .before .before .before .before .before .before .before .before .before .before .if1 .left) (c .before .before .before .before .before .if2 .left) (c .before .before .before .before .if3 .left) (c .before .before .before .if4 .left) _ _ (c .before .before .label .ensures) (c .before .label2 .ensures) (c .if5 .left)
 
 pub +same-elements-spec : {M : Type 1} → statement M
 +same-elements-spec = close μ-same-elements λ t. same-elements-lts.spec (claims t)
-    (same-elements-at t)
-    same-elements.Post
-    same-elements-Inv-loop
-    same-elements-μ-loop
-    (same-elements-returns t)
-    (same-elements-root-of-requires t)
-    (same-elements-root-of-requires-2 t)
-    (same-elements-same-length t)
-    (same-elements-returns-2 t)
-    (same-elements-join-name-requires t)
-    (same-elements-same-length-2 t)
-    (same-elements-returns-3 t)
-    (same-elements-join-name-requires-2 t)
-    (same-elements-same-length-3 t)
-    (same-elements-returns-4 t)
-    (same-elements-label-requires t)
-    (same-elements-label-requires-2 t)
-    (same-elements-child-count-requires t)
-    (same-elements-loop-holds t)
-    (same-elements-sub-same-elements t)
-    (same-elements-child-of-requires t)
-    (same-elements-child-of-requires-2 t)
-    (same-elements-same-elements-requires t)
-    (same-elements-add-k t)
-    (same-elements-sub-children t)
-    (same-elements-loop-less t)
-    (same-elements-loop-again t)
-    (same-elements-same-length-4 t)
-    (same-elements-returns-5 t)
-    (same-elements-wide-requires t)
-    (same-elements-put-requires t)
-    (same-elements-same-length-5 t)
-    (same-elements-returns-6 t)
-    (same-elements-same-length-6 t)
-    (same-elements-returns-7 t)
+    (same-elements-at t) same-elements.Post same-elements-Inv-loop same-elements-μ-loop (same-elements-returns t)
+    (λ c κs. search needs) (λ c κs. search needs) (λ c. search needs) (same-elements-returns-2 t) (λ c κs. search needs)
+    (λ c. search needs) (same-elements-returns-3 t) (λ c κs. search needs) (λ c. search needs) (same-elements-returns-4 t)
+    (λ c κs. search needs) (λ c κs. search needs) (λ c κs. search needs) (same-elements-loop-holds t) (λ c. search needs)
+    (λ c κs. search needs) (λ c κs. search needs) (λ c κs. search needs) (λ c. search needs) (λ c. search needs)
+    (λ c. search needs) (same-elements-loop-again t) (λ c. search needs) (same-elements-returns-5 t) (λ c κs. search needs)
+    (λ c κs. search needs) (λ c. search needs) (same-elements-returns-6 t) (λ c. search needs) (same-elements-returns-7 t)

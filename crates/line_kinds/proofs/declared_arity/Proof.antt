@@ -4,15 +4,6 @@ use borrow.Author.Needs.{needs}
 use Rattle.line_kinds.proofs.declared_arity.Statement.{statement}
 use Rattle.line_kinds.proofs.declared_arity.Tie as tie
 
-one-number-requires : tie.Need-one-number-requires
-one-number-requires c κs = search needs
-
-enum-known-a : tie.Need-enum-known-a
-enum-known-a c = search needs
-
-enum-told : tie.Need-enum-told
-enum-told c = search needs
-
 returns : tie.Need-returns
 returns c = arity-none _ _ _ (sym (c .before .before .one-number .ensures) ∙ c .enum-told .given .1)
 
@@ -24,4 +15,4 @@ returns-3 c = arity-is _ _ _ _ (sym (c .before .before .before .before .one-numb
 
 pub declared-arity-spec : {M : Type 1} → statement M
 declared-arity-spec =
-    tie.close (tie.spec one-number-requires enum-known-a enum-told returns returns-2 returns-3)
+    tie.close (tie.spec (λ c κs. search needs) (λ c. search needs) (λ c. search needs) returns returns-2 returns-3)

@@ -4,15 +4,6 @@ use borrow.Author.Needs.{needs}
 use Rattle.line_kinds.proofs.read_connective.Statement.{statement}
 use Rattle.line_kinds.proofs.read_connective.Tie as tie
 
-two-numbers-requires : tie.Need-two-numbers-requires
-two-numbers-requires c κs = search needs
-
-enum-known-n : tie.Need-enum-known-n
-enum-known-n c = search needs
-
-enum-told : tie.Need-enum-told
-enum-told c = search needs
-
 returns : tie.Need-returns
 returns c = connective-none _ _ (sym (c .before .before .two-numbers .ensures) ∙ c .enum-told .given .1)
 
@@ -31,12 +22,4 @@ returns-5 c = connective-other _ _ (c .before .before .if1 .left) (c .before .if
 pub read-connective-spec : {M : Type 1} → statement M
 read-connective-spec =
     tie.close
-    (tie.spec
-    two-numbers-requires
-    enum-known-n
-    enum-told
-    returns
-    returns-2
-    returns-3
-    returns-4
-    returns-5)
+    (tie.spec (λ c κs. search needs) (λ c. search needs) (λ c. search needs) returns returns-2 returns-3 returns-4 returns-5)

@@ -5,15 +5,6 @@ use borrow.Author.Needs.{needs}
 use Rattle.line_kinds.proofs.read_goal.Statement.{statement}
 use Rattle.line_kinds.proofs.read_goal.Tie as tie
 
-one-number-requires : tie.Need-one-number-requires
-one-number-requires c κs = search needs
-
-enum-known-n : tie.Need-enum-known-n
-enum-known-n c = search needs
-
-enum-told : tie.Need-enum-told
-enum-told c = search needs
-
 returns : tie.Need-returns
 returns c = single-none _ goalLine (sym (c .before .before .one-number .ensures) ∙ c .enum-told .given .1)
 
@@ -21,4 +12,4 @@ returns-2 : tie.Need-returns-2
 returns-2 c = goal-is _ _ (sym (c .before .before .before .one-number .ensures) ∙ c .before .n .given .1)
 
 pub read-goal-spec : {M : Type 1} → statement M
-read-goal-spec = tie.close (tie.spec one-number-requires enum-known-n enum-told returns returns-2)
+read-goal-spec = tie.close (tie.spec (λ c κs. search needs) (λ c. search needs) (λ c. search needs) returns returns-2)

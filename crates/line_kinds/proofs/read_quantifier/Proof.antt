@@ -4,15 +4,6 @@ use borrow.Author.Needs.{needs}
 use Rattle.line_kinds.proofs.read_quantifier.Statement.{statement}
 use Rattle.line_kinds.proofs.read_quantifier.Tie as tie
 
-two-numbers-requires : tie.Need-two-numbers-requires
-two-numbers-requires c κs = search needs
-
-enum-known-variable : tie.Need-enum-known-variable
-enum-known-variable c = search needs
-
-enum-told : tie.Need-enum-told
-enum-told c = search needs
-
 returns : tie.Need-returns
 returns c = quantifier-none _ _ (sym (c .before .before .two-numbers .ensures) ∙ c .enum-told .given .1)
 
@@ -31,12 +22,4 @@ returns-5 c = quantifier-other _ _ (c .before .if2 .left) (c .if3 .left)
 pub read-quantifier-spec : {M : Type 1} → statement M
 read-quantifier-spec =
     tie.close
-    (tie.spec
-    two-numbers-requires
-    enum-known-variable
-    enum-told
-    returns
-    returns-2
-    returns-3
-    returns-4
-    returns-5)
+    (tie.spec (λ c κs. search needs) (λ c. search needs) (λ c. search needs) returns returns-2 returns-3 returns-4 returns-5)

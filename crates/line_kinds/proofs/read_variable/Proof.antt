@@ -4,15 +4,6 @@ use borrow.Author.Needs.{needs}
 use Rattle.line_kinds.proofs.read_variable.Statement.{statement}
 use Rattle.line_kinds.proofs.read_variable.Tie as tie
 
-one-number-requires : tie.Need-one-number-requires
-one-number-requires c κs = search needs
-
-enum-known-v : tie.Need-enum-known-v
-enum-known-v c = search needs
-
-enum-told : tie.Need-enum-told
-enum-told c = search needs
-
 returns : tie.Need-returns
 returns c = variable-none _ (sym (c .before .before .one-number .ensures) ∙ c .enum-told .given .1)
 
@@ -24,4 +15,4 @@ returns-3 c = variable-is _ _ (sym (c .before .before .before .before .one-numbe
 
 pub read-variable-spec : {M : Type 1} → statement M
 read-variable-spec =
-    tie.close (tie.spec one-number-requires enum-known-v enum-told returns returns-2 returns-3)
+    tie.close (tie.spec (λ c κs. search needs) (λ c. search needs) (λ c. search needs) returns returns-2 returns-3)

@@ -5,30 +5,6 @@ use borrow.Author.Needs.{needs}
 use Rattle.line_reading.proofs.read_fields.Statement.{statement}
 use Rattle.line_reading.proofs.read_fields.Tie as tie
 
-read-declaration-requires : tie.Need-read-declaration-requires
-read-declaration-requires c κs = search needs
-
-read-declaration-requires-2 : tie.Need-read-declaration-requires-2
-read-declaration-requires-2 c κs = search needs
-
-read-variable-requires : tie.Need-read-variable-requires
-read-variable-requires c κs = search needs
-
-read-application-requires : tie.Need-read-application-requires
-read-application-requires c κs = search needs
-
-read-connective-requires : tie.Need-read-connective-requires
-read-connective-requires c κs = search needs
-
-read-quantifier-requires : tie.Need-read-quantifier-requires
-read-quantifier-requires c κs = search needs
-
-read-clause-requires : tie.Need-read-clause-requires
-read-clause-requires c κs = search needs
-
-read-goal-requires : tie.Need-read-goal-requires
-read-goal-requires c κs = search needs
-
 returns : tie.Need-returns
 returns c = c .read-declaration .ensures ∙ ap lineAnswer (letter-F _ _ (c .before .match .keys1))
 
@@ -61,21 +37,6 @@ returns-9 c =
 pub read-fields-spec : {M : Type 1} → statement M
 read-fields-spec =
     tie.close
-    (tie.spec
-    read-declaration-requires
-    read-declaration-requires-2
-    read-variable-requires
-    read-application-requires
-    read-connective-requires
-    read-quantifier-requires
-    read-clause-requires
-    read-goal-requires
-    returns
-    returns-2
-    returns-3
-    returns-4
-    returns-5
-    returns-6
-    returns-7
-    returns-8
-    returns-9)
+    (tie.spec (λ c κs. search needs) (λ c κs. search needs) (λ c κs. search needs) (λ c κs. search needs) (λ c κs. search needs)
+    (λ c κs. search needs) (λ c κs. search needs) (λ c κs. search needs) returns returns-2 returns-3 returns-4 returns-5
+    returns-6 returns-7 returns-8 returns-9)

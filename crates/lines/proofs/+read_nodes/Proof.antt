@@ -24,36 +24,6 @@ abbrev read-nodes-below : ℕ → In 1 read-nodes-kinds.ps
 read-nodes-below t =
     and 1 read-nodes-kinds.ps (falls 1 read-nodes-kinds.ps _<_ μ-read-nodes t) read-nodes.Pre
 
-read-nodes-read-number-requires : (t : ℕ) → read-nodes-lts.Need-read-number-requires (
-  read-number-reads.Asked,
-  read-number-reads.Learnt,
-  add-node-reads.Asked,
-  add-node-reads.Learnt,
-  read-nodes-below t,
-  read-nodes.Post,
-) (read-nodes-at t) read-nodes.Post
-read-nodes-read-number-requires t c κs = search needs
-
-read-nodes-enum-known-n : (t : ℕ) → read-nodes-lts.Need-enum-known-n (
-  read-number-reads.Asked,
-  read-number-reads.Learnt,
-  add-node-reads.Asked,
-  add-node-reads.Learnt,
-  read-nodes-below t,
-  read-nodes.Post,
-) (read-nodes-at t) read-nodes.Post
-read-nodes-enum-known-n t c = search needs
-
-read-nodes-enum-told : (t : ℕ) → read-nodes-lts.Need-enum-told (
-  read-number-reads.Asked,
-  read-number-reads.Learnt,
-  add-node-reads.Asked,
-  add-node-reads.Learnt,
-  read-nodes-below t,
-  read-nodes.Post,
-) (read-nodes-at t) read-nodes.Post
-read-nodes-enum-told t c = search needs
-
 read-nodes-returns : (t : ℕ) → read-nodes-lts.Need-returns (
   read-number-reads.Asked,
   read-number-reads.Learnt,
@@ -74,16 +44,6 @@ read-nodes-returns-2 : (t : ℕ) → read-nodes-lts.Need-returns-2 (
 ) (read-nodes-at t) read-nodes.Post
 read-nodes-returns-2 t c = nodes-full _ _ _ _ _ (sym (c .before .before .before .before .before .read-number .ensures) ∙ c .before .before .before .n .given .1) (c .if1 .taken)
 
-read-nodes-add-node-requires : (t : ℕ) → read-nodes-lts.Need-add-node-requires (
-  read-number-reads.Asked,
-  read-number-reads.Learnt,
-  add-node-reads.Asked,
-  add-node-reads.Learnt,
-  read-nodes-below t,
-  read-nodes.Post,
-) (read-nodes-at t) read-nodes.Post
-read-nodes-add-node-requires t c κs = search needs
-
 read-nodes-returns-3 : (t : ℕ) → read-nodes-lts.Need-returns-3 (
   read-number-reads.Asked,
   read-number-reads.Learnt,
@@ -93,46 +53,6 @@ read-nodes-returns-3 : (t : ℕ) → read-nodes-lts.Need-returns-3 (
   read-nodes.Post,
 ) (read-nodes-at t) read-nodes.Post
 read-nodes-returns-3 t c = nodes-last _ _ _ _ _ _ (sym (c .before .before .before .before .before .before .before .read-number .ensures) ∙ c .before .before .before .before .before .n .given .1) (c .before .before .if1 .left) (c .before .add-node .ensures) (c .if2 .taken)
-
-read-nodes-add-read-nodes : (t : ℕ) → read-nodes-lts.Need-add-read-nodes (
-  read-number-reads.Asked,
-  read-number-reads.Learnt,
-  add-node-reads.Asked,
-  add-node-reads.Learnt,
-  read-nodes-below t,
-  read-nodes.Post,
-) (read-nodes-at t) read-nodes.Post
-read-nodes-add-read-nodes t c = search needs
-
-read-nodes-sub-read-nodes : (t : ℕ) → read-nodes-lts.Need-sub-read-nodes (
-  read-number-reads.Asked,
-  read-number-reads.Learnt,
-  add-node-reads.Asked,
-  add-node-reads.Learnt,
-  read-nodes-below t,
-  read-nodes.Post,
-) (read-nodes-at t) read-nodes.Post
-read-nodes-sub-read-nodes t c = search needs
-
-read-nodes-part-read-nodes-start : (t : ℕ) → read-nodes-lts.Need-part-read-nodes-start (
-  read-number-reads.Asked,
-  read-number-reads.Learnt,
-  add-node-reads.Asked,
-  add-node-reads.Learnt,
-  read-nodes-below t,
-  read-nodes.Post,
-) (read-nodes-at t) read-nodes.Post
-read-nodes-part-read-nodes-start t c = search needs
-
-read-nodes-part-read-nodes-end : (t : ℕ) → read-nodes-lts.Need-part-read-nodes-end (
-  read-number-reads.Asked,
-  read-number-reads.Learnt,
-  add-node-reads.Asked,
-  add-node-reads.Learnt,
-  read-nodes-below t,
-  read-nodes.Post,
-) (read-nodes-at t) read-nodes.Post
-read-nodes-part-read-nodes-end t c = search needs
 
 read-nodes-read-nodes-requires : (t : ℕ) → read-nodes-lts.Need-read-nodes-requires (
   read-number-reads.Asked,
@@ -167,18 +87,6 @@ pub +read-nodes-spec : {M : Type 1} → statement M
   read-nodes-below t,
   read-nodes.Post,
 )
-    (read-nodes-at t)
-    read-nodes.Post
-    (read-nodes-read-number-requires t)
-    (read-nodes-enum-known-n t)
-    (read-nodes-enum-told t)
-    (read-nodes-returns t)
-    (read-nodes-returns-2 t)
-    (read-nodes-add-node-requires t)
-    (read-nodes-returns-3 t)
-    (read-nodes-add-read-nodes t)
-    (read-nodes-sub-read-nodes t)
-    (read-nodes-part-read-nodes-start t)
-    (read-nodes-part-read-nodes-end t)
-    (read-nodes-read-nodes-requires t)
-    (read-nodes-returns-4 t)
+    (read-nodes-at t) read-nodes.Post (λ c κs. search needs) (λ c. search needs) (λ c. search needs) (read-nodes-returns t)
+    (read-nodes-returns-2 t) (λ c κs. search needs) (read-nodes-returns-3 t) (λ c. search needs) (λ c. search needs)
+    (λ c. search needs) (λ c. search needs) (read-nodes-read-nodes-requires t) (read-nodes-returns-4 t)

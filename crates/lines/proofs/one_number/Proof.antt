@@ -4,15 +4,6 @@ use borrow.Author.Needs.{needs}
 use Rattle.lines.proofs.one_number.Statement.{statement}
 use Rattle.lines.proofs.one_number.Tie as tie
 
-read-number-requires : tie.Need-read-number-requires
-read-number-requires c κs = search needs
-
-enum-known-n : tie.Need-enum-known-n
-enum-known-n c = search needs
-
-enum-told : tie.Need-enum-told
-enum-told c = search needs
-
 returns : tie.Need-returns
 returns c = one-bad _ (sym (c .before .before .read-number .ensures) ∙ c .enum-told .given .1)
 
@@ -24,4 +15,4 @@ returns-3 c = one-last _ _ _ (sym (c .before .before .before .before .read-numbe
 
 pub one-number-spec : {M : Type 1} → statement M
 one-number-spec =
-    tie.close (tie.spec read-number-requires enum-known-n enum-told returns returns-2 returns-3)
+    tie.close (tie.spec (λ c κs. search needs) (λ c. search needs) (λ c. search needs) returns returns-2 returns-3)

@@ -4,15 +4,6 @@ use borrow.Author.Needs.{needs}
 use Rattle.lines.proofs.second_number.Statement.{statement}
 use Rattle.lines.proofs.second_number.Tie as tie
 
-one-number-requires : tie.Need-one-number-requires
-one-number-requires c κs = search needs
-
-enum-known-m : tie.Need-enum-known-m
-enum-known-m c = search needs
-
-enum-told : tie.Need-enum-told
-enum-told c = search needs
-
 returns : tie.Need-returns
 returns c = second-none _ _ (sym (c .before .before .one-number .ensures) ∙ c .enum-told .given .1)
 
@@ -21,4 +12,4 @@ returns-2 c = second-is _ _ _ (sym (c .before .before .before .one-number .ensur
 
 pub second-number-spec : {M : Type 1} → statement M
 second-number-spec =
-    tie.close (tie.spec one-number-requires enum-known-m enum-told returns returns-2)
+    tie.close (tie.spec (λ c κs. search needs) (λ c. search needs) (λ c. search needs) returns returns-2)

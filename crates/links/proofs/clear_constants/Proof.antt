@@ -12,23 +12,8 @@ Inv-loop n w₀ left₀ w left = (length w ≡ length w₀) × (clearConstants n
 abbrev μ-loop : tie.MeasureT-loop
 μ-loop n w₀ left₀ w left = left
 
-loop-holds : tie.Need-loop-holds Inv-loop μ-loop
-loop-holds c = search needs
-
-sub-left : tie.Need-sub-left Inv-loop μ-loop
-sub-left c = search needs
-
-put-field-requires : tie.Need-put-field-requires Inv-loop μ-loop
-put-field-requires c κs = search needs
-
-loop-less : tie.Need-loop-less Inv-loop μ-loop
-loop-less c = search needs
-
 loop-again : tie.Need-loop-again Inv-loop μ-loop
 loop-again c = (c .before .before .put-field .kept .0 ∙ c .before .before .before .before .before .loop .inv .0, c .before .before .before .before .before .loop .inv .1 ∙ constants-on _ _ _ (c .before .before .before .before .loop-test .taken) (c .before .before .put-field .ensures))
-
-same-length : tie.Need-same-length Inv-loop μ-loop
-same-length c = search needs
 
 returns : tie.Need-returns Inv-loop μ-loop
 returns c = sym (c .before .loop .inv .1 ∙ constants-end _ _ (c .loop-test .left))
@@ -36,13 +21,5 @@ returns c = sym (c .before .loop .inv .1 ∙ constants-end _ _ (c .loop-test .le
 pub clear-constants-spec : {M : Type 1} → statement M
 clear-constants-spec =
     tie.close
-    (tie.spec
-    Inv-loop
-    μ-loop
-    loop-holds
-    sub-left
-    put-field-requires
-    loop-less
-    loop-again
-    same-length
-    returns)
+    (tie.spec Inv-loop μ-loop (λ c. search needs) (λ c. search needs) (λ c κs. search needs) (λ c. search needs) loop-again
+    (λ c. search needs) returns)

@@ -12,23 +12,8 @@ Inv-loop n w₀ left₀ w left = (length w ≡ length w₀) × (clearVariables n
 abbrev μ-loop : tie.MeasureT-loop
 μ-loop n w₀ left₀ w left = left
 
-loop-holds : tie.Need-loop-holds Inv-loop μ-loop
-loop-holds c = search needs
-
-sub-left : tie.Need-sub-left Inv-loop μ-loop
-sub-left c = search needs
-
-clear-variable-requires : tie.Need-clear-variable-requires Inv-loop μ-loop
-clear-variable-requires c κs = search needs
-
-loop-less : tie.Need-loop-less Inv-loop μ-loop
-loop-less c = search needs
-
 loop-again : tie.Need-loop-again Inv-loop μ-loop
 loop-again c = (c .before .before .clear-variable .kept .0 ∙ c .before .before .before .before .before .loop .inv .0, c .before .before .before .before .before .loop .inv .1 ∙ variables-on _ _ _ (c .before .before .before .before .loop-test .taken) (c .before .before .clear-variable .ensures))
-
-same-length : tie.Need-same-length Inv-loop μ-loop
-same-length c = search needs
 
 returns : tie.Need-returns Inv-loop μ-loop
 returns c = sym (c .before .loop .inv .1 ∙ variables-end _ _ (c .loop-test .left))
@@ -36,13 +21,5 @@ returns c = sym (c .before .loop .inv .1 ∙ variables-end _ _ (c .loop-test .le
 pub clear-variables-spec : {M : Type 1} → statement M
 clear-variables-spec =
     tie.close
-    (tie.spec
-    Inv-loop
-    μ-loop
-    loop-holds
-    sub-left
-    clear-variable-requires
-    loop-less
-    loop-again
-    same-length
-    returns)
+    (tie.spec Inv-loop μ-loop (λ c. search needs) (λ c. search needs) (λ c κs. search needs) (λ c. search needs) loop-again
+    (λ c. search needs) returns)

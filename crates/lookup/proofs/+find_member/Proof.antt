@@ -42,86 +42,6 @@ find-member-returns : (t : ℕ) → find-member-lts.Need-returns (
 ) (find-member-at t) find-member.Post
 find-member-returns t c = sym (find-none _ _ _ _ (c .if1 .taken))
 
-find-member-kind-requires : (t : ℕ) → find-member-lts.Need-kind-requires (
-  kind-reads.Asked,
-  kind-reads.Learnt,
-  child-reads.Asked,
-  child-reads.Learnt,
-  members-reads.Asked,
-  members-reads.Learnt,
-  find-member-below t,
-  find-member.Post,
-  label-reads.Asked,
-  label-reads.Learnt,
-  add-name-reads.Asked,
-  add-name-reads.Learnt,
-) (find-member-at t) find-member.Post
-find-member-kind-requires t c κs = search needs
-
-find-member-child-requires : (t : ℕ) → find-member-lts.Need-child-requires (
-  kind-reads.Asked,
-  kind-reads.Learnt,
-  child-reads.Asked,
-  child-reads.Learnt,
-  members-reads.Asked,
-  members-reads.Learnt,
-  find-member-below t,
-  find-member.Post,
-  label-reads.Asked,
-  label-reads.Learnt,
-  add-name-reads.Asked,
-  add-name-reads.Learnt,
-) (find-member-at t) find-member.Post
-find-member-child-requires t c κs = search needs
-
-find-member-members-requires : (t : ℕ) → find-member-lts.Need-members-requires (
-  kind-reads.Asked,
-  kind-reads.Learnt,
-  child-reads.Asked,
-  child-reads.Learnt,
-  members-reads.Asked,
-  members-reads.Learnt,
-  find-member-below t,
-  find-member.Post,
-  label-reads.Asked,
-  label-reads.Learnt,
-  add-name-reads.Asked,
-  add-name-reads.Learnt,
-) (find-member-at t) find-member.Post
-find-member-members-requires t c κs = search needs
-
-find-member-sub-find-member : (t : ℕ) → find-member-lts.Need-sub-find-member (
-  kind-reads.Asked,
-  kind-reads.Learnt,
-  child-reads.Asked,
-  child-reads.Learnt,
-  members-reads.Asked,
-  members-reads.Learnt,
-  find-member-below t,
-  find-member.Post,
-  label-reads.Asked,
-  label-reads.Learnt,
-  add-name-reads.Asked,
-  add-name-reads.Learnt,
-) (find-member-at t) find-member.Post
-find-member-sub-find-member t c = search needs
-
-find-member-find-member-requires : (t : ℕ) → find-member-lts.Need-find-member-requires (
-  kind-reads.Asked,
-  kind-reads.Learnt,
-  child-reads.Asked,
-  child-reads.Learnt,
-  members-reads.Asked,
-  members-reads.Learnt,
-  find-member-below t,
-  find-member.Post,
-  label-reads.Asked,
-  label-reads.Learnt,
-  add-name-reads.Asked,
-  add-name-reads.Learnt,
-) (find-member-at t) find-member.Post
-find-member-find-member-requires t c κs = search needs
-
 find-member-returns-2 : (t : ℕ) → find-member-lts.Need-returns-2 (
   kind-reads.Asked,
   kind-reads.Learnt,
@@ -138,54 +58,6 @@ find-member-returns-2 : (t : ℕ) → find-member-lts.Need-returns-2 (
 ) (find-member-at t) find-member.Post
 find-member-returns-2 t c = find-left _ _ _ _ _ _ _ _ (c .before .before .before .before .before .before .if1 .left) (c .before .before .before .before .before .kind .ensures) (c .before .before .before .before .if2 .taken) (c .before .before .before .child .ensures) (c .before .before .members .ensures .0) (c .before .if3 .taken) (c .find-member .ensures)
 
-find-member-sub-find-member-2 : (t : ℕ) → find-member-lts.Need-sub-find-member-2 (
-  kind-reads.Asked,
-  kind-reads.Learnt,
-  child-reads.Asked,
-  child-reads.Learnt,
-  members-reads.Asked,
-  members-reads.Learnt,
-  find-member-below t,
-  find-member.Post,
-  label-reads.Asked,
-  label-reads.Learnt,
-  add-name-reads.Asked,
-  add-name-reads.Learnt,
-) (find-member-at t) find-member.Post
-find-member-sub-find-member-2 t c = search needs
-
-find-member-child-requires-2 : (t : ℕ) → find-member-lts.Need-child-requires-2 (
-  kind-reads.Asked,
-  kind-reads.Learnt,
-  child-reads.Asked,
-  child-reads.Learnt,
-  members-reads.Asked,
-  members-reads.Learnt,
-  find-member-below t,
-  find-member.Post,
-  label-reads.Asked,
-  label-reads.Learnt,
-  add-name-reads.Asked,
-  add-name-reads.Learnt,
-) (find-member-at t) find-member.Post
-find-member-child-requires-2 t c κs = search needs
-
-find-member-find-member-requires-2 : (t : ℕ) → find-member-lts.Need-find-member-requires-2 (
-  kind-reads.Asked,
-  kind-reads.Learnt,
-  child-reads.Asked,
-  child-reads.Learnt,
-  members-reads.Asked,
-  members-reads.Learnt,
-  find-member-below t,
-  find-member.Post,
-  label-reads.Asked,
-  label-reads.Learnt,
-  add-name-reads.Asked,
-  add-name-reads.Learnt,
-) (find-member-at t) find-member.Post
-find-member-find-member-requires-2 t c κs = search needs
-
 find-member-returns-3 : (t : ℕ) → find-member-lts.Need-returns-3 (
   kind-reads.Asked,
   kind-reads.Learnt,
@@ -201,86 +73,6 @@ find-member-returns-3 : (t : ℕ) → find-member-lts.Need-returns-3 (
   add-name-reads.Learnt,
 ) (find-member-at t) find-member.Post
 find-member-returns-3 t c = find-right _ _ _ _ _ _ _ _ _ (c .before .before .before .before .before .before .before .if1 .left) (c .before .before .before .before .before .before .kind .ensures) (c .before .before .before .before .before .if2 .taken) (c .before .before .before .before .child .ensures) (c .before .before .before .members .ensures .0) (c .before .before .if3 .left) (c .before .child2 .ensures) (c .find-member2 .ensures)
-
-find-member-sub-find-member-3 : (t : ℕ) → find-member-lts.Need-sub-find-member-3 (
-  kind-reads.Asked,
-  kind-reads.Learnt,
-  child-reads.Asked,
-  child-reads.Learnt,
-  members-reads.Asked,
-  members-reads.Learnt,
-  find-member-below t,
-  find-member.Post,
-  label-reads.Asked,
-  label-reads.Learnt,
-  add-name-reads.Asked,
-  add-name-reads.Learnt,
-) (find-member-at t) find-member.Post
-find-member-sub-find-member-3 t c = search needs
-
-find-member-child-requires-3 : (t : ℕ) → find-member-lts.Need-child-requires-3 (
-  kind-reads.Asked,
-  kind-reads.Learnt,
-  child-reads.Asked,
-  child-reads.Learnt,
-  members-reads.Asked,
-  members-reads.Learnt,
-  find-member-below t,
-  find-member.Post,
-  label-reads.Asked,
-  label-reads.Learnt,
-  add-name-reads.Asked,
-  add-name-reads.Learnt,
-) (find-member-at t) find-member.Post
-find-member-child-requires-3 t c κs = search needs
-
-find-member-find-member-requires-3 : (t : ℕ) → find-member-lts.Need-find-member-requires-3 (
-  kind-reads.Asked,
-  kind-reads.Learnt,
-  child-reads.Asked,
-  child-reads.Learnt,
-  members-reads.Asked,
-  members-reads.Learnt,
-  find-member-below t,
-  find-member.Post,
-  label-reads.Asked,
-  label-reads.Learnt,
-  add-name-reads.Asked,
-  add-name-reads.Learnt,
-) (find-member-at t) find-member.Post
-find-member-find-member-requires-3 t c κs = search needs
-
-find-member-label-requires : (t : ℕ) → find-member-lts.Need-label-requires (
-  kind-reads.Asked,
-  kind-reads.Learnt,
-  child-reads.Asked,
-  child-reads.Learnt,
-  members-reads.Asked,
-  members-reads.Learnt,
-  find-member-below t,
-  find-member.Post,
-  label-reads.Asked,
-  label-reads.Learnt,
-  add-name-reads.Asked,
-  add-name-reads.Learnt,
-) (find-member-at t) find-member.Post
-find-member-label-requires t c κs = search needs
-
-find-member-add-name-requires : (t : ℕ) → find-member-lts.Need-add-name-requires (
-  kind-reads.Asked,
-  kind-reads.Learnt,
-  child-reads.Asked,
-  child-reads.Learnt,
-  members-reads.Asked,
-  members-reads.Learnt,
-  find-member-below t,
-  find-member.Post,
-  label-reads.Asked,
-  label-reads.Learnt,
-  add-name-reads.Asked,
-  add-name-reads.Learnt,
-) (find-member-at t) find-member.Post
-find-member-add-name-requires t c κs = search needs
 
 find-member-returns-4 : (t : ℕ) → find-member-lts.Need-returns-4 (
   kind-reads.Asked,
@@ -329,23 +121,7 @@ pub +find-member-spec : {M : Type 1} → statement M
   add-name-reads.Asked,
   add-name-reads.Learnt,
 )
-    (find-member-at t)
-    find-member.Post
-    (find-member-returns t)
-    (find-member-kind-requires t)
-    (find-member-child-requires t)
-    (find-member-members-requires t)
-    (find-member-sub-find-member t)
-    (find-member-find-member-requires t)
-    (find-member-returns-2 t)
-    (find-member-sub-find-member-2 t)
-    (find-member-child-requires-2 t)
-    (find-member-find-member-requires-2 t)
-    (find-member-returns-3 t)
-    (find-member-sub-find-member-3 t)
-    (find-member-child-requires-3 t)
-    (find-member-find-member-requires-3 t)
-    (find-member-label-requires t)
-    (find-member-add-name-requires t)
-    (find-member-returns-4 t)
-    (find-member-returns-5 t)
+    (find-member-at t) find-member.Post (find-member-returns t) (λ c κs. search needs) (λ c κs. search needs)
+    (λ c κs. search needs) (λ c. search needs) (λ c κs. search needs) (find-member-returns-2 t) (λ c. search needs)
+    (λ c κs. search needs) (λ c κs. search needs) (find-member-returns-3 t) (λ c. search needs) (λ c κs. search needs)
+    (λ c κs. search needs) (λ c κs. search needs) (λ c κs. search needs) (find-member-returns-4 t) (find-member-returns-5 t)

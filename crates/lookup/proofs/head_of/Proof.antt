@@ -3,16 +3,6 @@ use borrow.Author.Tests.{eq-eqb, ne-eqb}
 use borrow.Author.Needs.{needs}
 use Rattle.lookup.proofs.head_of.Statement.{statement}
 use Rattle.lookup.proofs.head_of.Tie as tie
-use Rattle.lookup.proofs.head_of.Reads as reads
-use Rattle.lookup.proofs.head_of.Lts as lts
-use Rattle.tables.proofs.child.Reads as child-reads
-use Rattle.tables.proofs.kind.Reads as kind-reads
-
-kind-requires : tie.Need-kind-requires
-kind-requires c κs = search needs
-
-child-requires : tie.Need-child-requires
-child-requires c κs = search needs
 
 returns : tie.Need-returns
 unfolding headOf
@@ -25,4 +15,4 @@ returns-2 c =
     simp (headOf, ne-eqb _ _ (c .if1 .left), ← c .before .kind .ensures)
 
 pub head-of-spec : {M : Type 1} → statement M
-head-of-spec = tie.close (tie.spec kind-requires child-requires returns returns-2)
+head-of-spec = tie.close (tie.spec (λ c κs. search needs) (λ c κs. search needs) returns returns-2)

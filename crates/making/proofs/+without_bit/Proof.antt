@@ -20,41 +20,11 @@ abbrev without-bit-below : ℕ → In 0 without-bit-kinds.ps
 without-bit-below t =
     and 0 without-bit-kinds.ps (falls 0 without-bit-kinds.ps _<_ μ-without-bit t) without-bit.Pre
 
-without-bit-mul-result : (t : ℕ) → without-bit-lts.Need-mul-result (
-  without-bit-below t,
-  without-bit.Post,
-) (without-bit-at t) without-bit.Post
-without-bit-mul-result t c = search needs
-
 without-bit-returns : (t : ℕ) → without-bit-lts.Need-returns (
   without-bit-below t,
   without-bit.Post,
 ) (without-bit-at t) without-bit.Post
 without-bit-returns t c = (without-first _ _ (c .if1 .taken), search needs)
-
-without-bit-sub-without-bit : (t : ℕ) → without-bit-lts.Need-sub-without-bit (
-  without-bit-below t,
-  without-bit.Post,
-) (without-bit-at t) without-bit.Post
-without-bit-sub-without-bit t c = search needs
-
-without-bit-without-bit-requires : (t : ℕ) → without-bit-lts.Need-without-bit-requires (
-  without-bit-below t,
-  without-bit.Post,
-) (without-bit-at t) without-bit.Post
-without-bit-without-bit-requires t c κs = search needs
-
-without-bit-mul-result-2 : (t : ℕ) → without-bit-lts.Need-mul-result-2 (
-  without-bit-below t,
-  without-bit.Post,
-) (without-bit-at t) without-bit.Post
-without-bit-mul-result-2 t c = search needs
-
-without-bit-add-result : (t : ℕ) → without-bit-lts.Need-add-result (
-  without-bit-below t,
-  without-bit.Post,
-) (without-bit-at t) without-bit.Post
-without-bit-add-result t c = search needs
 
 without-bit-returns-2 : (t : ℕ) → without-bit-lts.Need-returns-2 (
   without-bit-below t,
@@ -67,12 +37,5 @@ pub +without-bit-spec : {M : Type 1} → statement M
   without-bit-below t,
   without-bit.Post,
 )
-    (without-bit-at t)
-    without-bit.Post
-    (without-bit-mul-result t)
-    (without-bit-returns t)
-    (without-bit-sub-without-bit t)
-    (without-bit-without-bit-requires t)
-    (without-bit-mul-result-2 t)
-    (without-bit-add-result t)
-    (without-bit-returns-2 t)
+    (without-bit-at t) without-bit.Post (λ c. search needs) (without-bit-returns t) (λ c. search needs) (λ c κs. search needs)
+    (λ c. search needs) (λ c. search needs) (without-bit-returns-2 t)

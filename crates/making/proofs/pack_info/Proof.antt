@@ -3,8 +3,6 @@ use Rattle.tables.specs.Layout.{packInfo}
 use borrow.Author.Needs.{needs}
 use Rattle.making.proofs.pack_info.Statement.{statement}
 use Rattle.making.proofs.pack_info.Tie as tie
-use Rattle.making.proofs.pack_info.Reads as reads
-use Rattle.making.proofs.pack_info.Lts as lts
 
 -- src/lib.rt:90:13
 mul-result : tie.Need-mul-result

@@ -3,16 +3,6 @@ use borrow.Author.Tests.{eq-eqb, ne-eqb}
 use borrow.Author.Needs.{needs}
 use Rattle.making.proofs.ruled_members.Statement.{statement}
 use Rattle.making.proofs.ruled_members.Tie as tie
-use Rattle.making.proofs.ruled_members.Reads as reads
-use Rattle.making.proofs.ruled_members.Lts as lts
-use Rattle.making.proofs.both_goals.Reads as both-goals-reads
-use Rattle.tables.proofs.kind.Reads as kind-reads
-
-kind-requires : tie.Need-kind-requires
-kind-requires c κs = search needs
-
-both-goals-requires : tie.Need-both-goals-requires
-both-goals-requires c κs = search needs
 
 returns : tie.Need-returns
 unfolding ruledMembers
@@ -25,4 +15,4 @@ returns-2 c =
     (simp (ruledMembers, ne-eqb _ _ (c .if1 .left), ← c .before .kind .ensures), search needs)
 
 pub ruled-members-spec : {M : Type 1} → statement M
-ruled-members-spec = tie.close (tie.spec kind-requires both-goals-requires returns returns-2)
+ruled-members-spec = tie.close (tie.spec (λ c κs. search needs) (λ c κs. search needs) returns returns-2)

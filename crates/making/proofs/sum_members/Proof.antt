@@ -3,8 +3,6 @@ use borrow.Author.Tests.{le-leb, lt-leb, eq-eqb, ne-eqb}
 use borrow.Author.Needs.{needs}
 use Rattle.making.proofs.sum_members.Statement.{statement}
 use Rattle.making.proofs.sum_members.Tie as tie
-use Rattle.making.proofs.sum_members.Reads as reads
-use Rattle.making.proofs.sum_members.Lts as lts
 
 returns : tie.Need-returns
 unfolding sumMembers
@@ -15,12 +13,6 @@ returns-2 : tie.Need-returns-2
 unfolding sumMembers
 returns-2 c =
     (simp (sumMembers, eq-eqb _ _ (c .if2 .taken), ne-eqb _ _ (c .before .if1 .left)), search needs)
-
-add-if3 : tie.Need-add-if3
-add-if3 c = search needs
-
-add-result : tie.Need-add-result
-add-result c = search needs
 
 returns-3 : tie.Need-returns-3
 unfolding sumMembers
@@ -33,4 +25,4 @@ returns-4 c =
     (simp (sumMembers, lt-leb _ _ (c .if3 .left), ne-eqb _ _ (c .before .if2 .left), ne-eqb _ _ (c .before .before .if1 .left)), search needs)
 
 pub sum-members-spec : {M : Type 1} → statement M
-sum-members-spec = tie.close (tie.spec returns returns-2 add-if3 add-result returns-3 returns-4)
+sum-members-spec = tie.close (tie.spec returns returns-2 (λ c. search needs) (λ c. search needs) returns-3 returns-4)

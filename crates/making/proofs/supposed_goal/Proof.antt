@@ -3,21 +3,11 @@ use borrow.Author.Tests.{eq-eqb, ne-eqb}
 use borrow.Author.Needs.{needs}
 use Rattle.making.proofs.supposed_goal.Statement.{statement}
 use Rattle.making.proofs.supposed_goal.Tie as tie
-use Rattle.making.proofs.supposed_goal.Reads as reads
-use Rattle.making.proofs.supposed_goal.Lts as lts
-use Rattle.tables.proofs.goal_bit.Reads as goal-bit-reads
-use Rattle.tables.proofs.members.Reads as members-reads
-
-members-requires : tie.Need-members-requires
-members-requires c κs = search needs
 
 returns : tie.Need-returns
 unfolding supposedGoal
 returns c =
     (simp (supposedGoal, eq-eqb _ _ (c .if1 .taken), ← c .before .members .ensures .0), search needs)
-
-goal-bit-requires : tie.Need-goal-bit-requires
-goal-bit-requires c κs = search needs
 
 returns-2 : tie.Need-returns-2
 unfolding supposedGoal
@@ -25,4 +15,4 @@ returns-2 c =
     (simp (supposedGoal, ← c .goal-bit .ensures .0, ne-eqb _ _ (c .before .if1 .left), ← c .before .before .members .ensures .0), search needs)
 
 pub supposed-goal-spec : {M : Type 1} → statement M
-supposed-goal-spec = tie.close (tie.spec members-requires returns goal-bit-requires returns-2)
+supposed-goal-spec = tie.close (tie.spec (λ c κs. search needs) returns (λ c κs. search needs) returns-2)

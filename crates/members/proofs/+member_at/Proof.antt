@@ -41,86 +41,6 @@ member-at-returns : (t : ℕ) → member-at-lts.Need-returns (
 ) (member-at-at t) member-at.Post
 member-at-returns t c = sym (at-none _ _ _ _ (c .if1 .taken))
 
-member-at-kind-requires : (t : ℕ) → member-at-lts.Need-kind-requires (
-  kind-reads.Asked,
-  kind-reads.Learnt,
-  child-reads.Asked,
-  child-reads.Learnt,
-  members-reads.Asked,
-  members-reads.Learnt,
-  member-at-below t,
-  member-at.Post,
-  label-reads.Asked,
-  label-reads.Learnt,
-  add-name-reads.Asked,
-  add-name-reads.Learnt,
-) (member-at-at t) member-at.Post
-member-at-kind-requires t c κs = search needs
-
-member-at-child-requires : (t : ℕ) → member-at-lts.Need-child-requires (
-  kind-reads.Asked,
-  kind-reads.Learnt,
-  child-reads.Asked,
-  child-reads.Learnt,
-  members-reads.Asked,
-  members-reads.Learnt,
-  member-at-below t,
-  member-at.Post,
-  label-reads.Asked,
-  label-reads.Learnt,
-  add-name-reads.Asked,
-  add-name-reads.Learnt,
-) (member-at-at t) member-at.Post
-member-at-child-requires t c κs = search needs
-
-member-at-members-requires : (t : ℕ) → member-at-lts.Need-members-requires (
-  kind-reads.Asked,
-  kind-reads.Learnt,
-  child-reads.Asked,
-  child-reads.Learnt,
-  members-reads.Asked,
-  members-reads.Learnt,
-  member-at-below t,
-  member-at.Post,
-  label-reads.Asked,
-  label-reads.Learnt,
-  add-name-reads.Asked,
-  add-name-reads.Learnt,
-) (member-at-at t) member-at.Post
-member-at-members-requires t c κs = search needs
-
-member-at-sub-member-at : (t : ℕ) → member-at-lts.Need-sub-member-at (
-  kind-reads.Asked,
-  kind-reads.Learnt,
-  child-reads.Asked,
-  child-reads.Learnt,
-  members-reads.Asked,
-  members-reads.Learnt,
-  member-at-below t,
-  member-at.Post,
-  label-reads.Asked,
-  label-reads.Learnt,
-  add-name-reads.Asked,
-  add-name-reads.Learnt,
-) (member-at-at t) member-at.Post
-member-at-sub-member-at t c = search needs
-
-member-at-member-at-requires : (t : ℕ) → member-at-lts.Need-member-at-requires (
-  kind-reads.Asked,
-  kind-reads.Learnt,
-  child-reads.Asked,
-  child-reads.Learnt,
-  members-reads.Asked,
-  members-reads.Learnt,
-  member-at-below t,
-  member-at.Post,
-  label-reads.Asked,
-  label-reads.Learnt,
-  add-name-reads.Asked,
-  add-name-reads.Learnt,
-) (member-at-at t) member-at.Post
-member-at-member-at-requires t c κs = search needs
-
 member-at-returns-2 : (t : ℕ) → member-at-lts.Need-returns-2 (
   kind-reads.Asked,
   kind-reads.Learnt,
@@ -137,54 +57,6 @@ member-at-returns-2 : (t : ℕ) → member-at-lts.Need-returns-2 (
 ) (member-at-at t) member-at.Post
 member-at-returns-2 t c = at-left _ _ _ _ _ _ _ _ (c .before .before .before .before .before .before .if1 .left) (c .before .before .before .before .before .kind .ensures) (c .before .before .before .before .if2 .taken) (c .before .before .before .child .ensures) (c .before .before .members .ensures .0) (c .before .if3 .taken) (c .member-at .ensures)
 
-member-at-sub-member-at-2 : (t : ℕ) → member-at-lts.Need-sub-member-at-2 (
-  kind-reads.Asked,
-  kind-reads.Learnt,
-  child-reads.Asked,
-  child-reads.Learnt,
-  members-reads.Asked,
-  members-reads.Learnt,
-  member-at-below t,
-  member-at.Post,
-  label-reads.Asked,
-  label-reads.Learnt,
-  add-name-reads.Asked,
-  add-name-reads.Learnt,
-) (member-at-at t) member-at.Post
-member-at-sub-member-at-2 t c = search needs
-
-member-at-child-requires-2 : (t : ℕ) → member-at-lts.Need-child-requires-2 (
-  kind-reads.Asked,
-  kind-reads.Learnt,
-  child-reads.Asked,
-  child-reads.Learnt,
-  members-reads.Asked,
-  members-reads.Learnt,
-  member-at-below t,
-  member-at.Post,
-  label-reads.Asked,
-  label-reads.Learnt,
-  add-name-reads.Asked,
-  add-name-reads.Learnt,
-) (member-at-at t) member-at.Post
-member-at-child-requires-2 t c κs = search needs
-
-member-at-member-at-requires-2 : (t : ℕ) → member-at-lts.Need-member-at-requires-2 (
-  kind-reads.Asked,
-  kind-reads.Learnt,
-  child-reads.Asked,
-  child-reads.Learnt,
-  members-reads.Asked,
-  members-reads.Learnt,
-  member-at-below t,
-  member-at.Post,
-  label-reads.Asked,
-  label-reads.Learnt,
-  add-name-reads.Asked,
-  add-name-reads.Learnt,
-) (member-at-at t) member-at.Post
-member-at-member-at-requires-2 t c κs = search needs
-
 member-at-returns-3 : (t : ℕ) → member-at-lts.Need-returns-3 (
   kind-reads.Asked,
   kind-reads.Learnt,
@@ -200,86 +72,6 @@ member-at-returns-3 : (t : ℕ) → member-at-lts.Need-returns-3 (
   add-name-reads.Learnt,
 ) (member-at-at t) member-at.Post
 member-at-returns-3 t c = at-right _ _ _ _ _ _ _ _ _ (c .before .before .before .before .before .before .before .if1 .left) (c .before .before .before .before .before .before .kind .ensures) (c .before .before .before .before .before .if2 .taken) (c .before .before .before .before .child .ensures) (c .before .before .before .members .ensures .0) (c .before .before .if3 .left) (c .before .child2 .ensures) (c .member-at2 .ensures)
-
-member-at-sub-member-at-3 : (t : ℕ) → member-at-lts.Need-sub-member-at-3 (
-  kind-reads.Asked,
-  kind-reads.Learnt,
-  child-reads.Asked,
-  child-reads.Learnt,
-  members-reads.Asked,
-  members-reads.Learnt,
-  member-at-below t,
-  member-at.Post,
-  label-reads.Asked,
-  label-reads.Learnt,
-  add-name-reads.Asked,
-  add-name-reads.Learnt,
-) (member-at-at t) member-at.Post
-member-at-sub-member-at-3 t c = search needs
-
-member-at-child-requires-3 : (t : ℕ) → member-at-lts.Need-child-requires-3 (
-  kind-reads.Asked,
-  kind-reads.Learnt,
-  child-reads.Asked,
-  child-reads.Learnt,
-  members-reads.Asked,
-  members-reads.Learnt,
-  member-at-below t,
-  member-at.Post,
-  label-reads.Asked,
-  label-reads.Learnt,
-  add-name-reads.Asked,
-  add-name-reads.Learnt,
-) (member-at-at t) member-at.Post
-member-at-child-requires-3 t c κs = search needs
-
-member-at-member-at-requires-3 : (t : ℕ) → member-at-lts.Need-member-at-requires-3 (
-  kind-reads.Asked,
-  kind-reads.Learnt,
-  child-reads.Asked,
-  child-reads.Learnt,
-  members-reads.Asked,
-  members-reads.Learnt,
-  member-at-below t,
-  member-at.Post,
-  label-reads.Asked,
-  label-reads.Learnt,
-  add-name-reads.Asked,
-  add-name-reads.Learnt,
-) (member-at-at t) member-at.Post
-member-at-member-at-requires-3 t c κs = search needs
-
-member-at-label-requires : (t : ℕ) → member-at-lts.Need-label-requires (
-  kind-reads.Asked,
-  kind-reads.Learnt,
-  child-reads.Asked,
-  child-reads.Learnt,
-  members-reads.Asked,
-  members-reads.Learnt,
-  member-at-below t,
-  member-at.Post,
-  label-reads.Asked,
-  label-reads.Learnt,
-  add-name-reads.Asked,
-  add-name-reads.Learnt,
-) (member-at-at t) member-at.Post
-member-at-label-requires t c κs = search needs
-
-member-at-add-name-requires : (t : ℕ) → member-at-lts.Need-add-name-requires (
-  kind-reads.Asked,
-  kind-reads.Learnt,
-  child-reads.Asked,
-  child-reads.Learnt,
-  members-reads.Asked,
-  members-reads.Learnt,
-  member-at-below t,
-  member-at.Post,
-  label-reads.Asked,
-  label-reads.Learnt,
-  add-name-reads.Asked,
-  add-name-reads.Learnt,
-) (member-at-at t) member-at.Post
-member-at-add-name-requires t c κs = search needs
 
 member-at-returns-4 : (t : ℕ) → member-at-lts.Need-returns-4 (
   kind-reads.Asked,
@@ -328,23 +120,7 @@ pub +member-at-spec : {M : Type 1} → statement M
   add-name-reads.Asked,
   add-name-reads.Learnt,
 )
-    (member-at-at t)
-    member-at.Post
-    (member-at-returns t)
-    (member-at-kind-requires t)
-    (member-at-child-requires t)
-    (member-at-members-requires t)
-    (member-at-sub-member-at t)
-    (member-at-member-at-requires t)
-    (member-at-returns-2 t)
-    (member-at-sub-member-at-2 t)
-    (member-at-child-requires-2 t)
-    (member-at-member-at-requires-2 t)
-    (member-at-returns-3 t)
-    (member-at-sub-member-at-3 t)
-    (member-at-child-requires-3 t)
-    (member-at-member-at-requires-3 t)
-    (member-at-label-requires t)
-    (member-at-add-name-requires t)
-    (member-at-returns-4 t)
-    (member-at-returns-5 t)
+    (member-at-at t) member-at.Post (member-at-returns t) (λ c κs. search needs) (λ c κs. search needs) (λ c κs. search needs)
+    (λ c. search needs) (λ c κs. search needs) (member-at-returns-2 t) (λ c. search needs) (λ c κs. search needs)
+    (λ c κs. search needs) (member-at-returns-3 t) (λ c. search needs) (λ c κs. search needs) (λ c κs. search needs)
+    (λ c κs. search needs) (λ c κs. search needs) (member-at-returns-4 t) (member-at-returns-5 t)

@@ -3,20 +3,8 @@ use borrow.Author.Needs.{needs}
 use Rattle.members.proofs.add_name.Statement.{statement}
 use Rattle.members.proofs.add_name.Tie as tie
 
-has-name-requires : tie.Need-has-name-requires
-has-name-requires c κs = search needs
-
 returns : tie.Need-returns
 returns c = named-again _ _ _ _ (c .before .has-name .ensures) (c .if1 .taken)
-
-mask-requires : tie.Need-mask-requires
-mask-requires c κs = search needs
-
-bit-of-requires : tie.Need-bit-of-requires
-bit-of-requires c κs = search needs
-
-push-name-requires : tie.Need-push-name-requires
-push-name-requires c κs = search needs
 
 returns-2 : tie.Need-returns-2
 returns-2 c = named-free _ _ _ _ _ _ _ (c .before .before .before .before .before .has-name .ensures) (c .before .before .before .before .if1 .left) (c .before .before .before .mask .ensures .0) (c .before .before .bit-of .ensures) (c .before .if2 .taken) (c .push-name .ensures)
@@ -27,11 +15,5 @@ returns-3 c = named-bound _ _ _ _ _ _ (c .before .before .before .before .has-na
 pub add-name-spec : {M : Type 1} → statement M
 add-name-spec =
     tie.close
-    (tie.spec
-    has-name-requires
-    returns
-    mask-requires
-    bit-of-requires
-    push-name-requires
-    returns-2
+    (tie.spec (λ c κs. search needs) returns (λ c κs. search needs) (λ c κs. search needs) (λ c κs. search needs) returns-2
     returns-3)

@@ -11,17 +11,8 @@ Inv-loop n vs v left₀ names₀ left names = hasName n vs v ≡ hasName left na
 abbrev μ-loop : tie.MeasureT-loop
 μ-loop n vs v left₀ names₀ left names = left
 
-loop-holds : tie.Need-loop-holds Inv-loop μ-loop
-loop-holds c = search needs
-
 returns : tie.Need-returns Inv-loop μ-loop
 returns c = sym ((c .before .before .loop .inv) ∙ name-here _ _ _ (c .before .loop-test .taken) (c .if1 .taken))
-
-sub-left : tie.Need-sub-left Inv-loop μ-loop
-sub-left c = search needs
-
-loop-less : tie.Need-loop-less Inv-loop μ-loop
-loop-less c = search needs
 
 loop-again : tie.Need-loop-again Inv-loop μ-loop
 loop-again c = (c .before .before .loop .inv) ∙ name-on _ _ _ (c .before .loop-test .taken) (c .if1 .left)
@@ -31,4 +22,4 @@ returns-2 c = sym ((c .before .loop .inv) ∙ name-end _ _ _ (c .loop-test .left
 
 pub has-name-spec : {M : Type 1} → statement M
 has-name-spec =
-    tie.close (tie.spec Inv-loop μ-loop loop-holds returns sub-left loop-less loop-again returns-2)
+    tie.close (tie.spec Inv-loop μ-loop (λ c. search needs) returns (λ c. search needs) (λ c. search needs) loop-again returns-2)

@@ -3,12 +3,6 @@ use borrow.Author.Needs.{needs}
 use Rattle.members.proofs.head_of.Statement.{statement}
 use Rattle.members.proofs.head_of.Tie as tie
 
-kind-requires : tie.Need-kind-requires
-kind-requires c κs = search needs
-
-child-requires : tie.Need-child-requires
-child-requires c κs = search needs
-
 returns : tie.Need-returns
 returns c = head-rule _ _ _ (c .before .before .kind .ensures) _ (c .before .if1 .taken) (c .child .ensures)
 
@@ -16,4 +10,4 @@ returns-2 : tie.Need-returns-2
 returns-2 c = head-fact _ _ _ (c .before .kind .ensures) (c .if1 .left)
 
 pub head-of-spec : {M : Type 1} → statement M
-head-of-spec = tie.close (tie.spec kind-requires child-requires returns returns-2)
+head-of-spec = tie.close (tie.spec (λ c κs. search needs) (λ c κs. search needs) returns returns-2)

@@ -3,20 +3,9 @@ use lib.ListN.{List·getD-eq-default}
 use borrow.Author.Needs.{needs}
 use Rattle.memory.proofs.get.Statement.{statement}
 use Rattle.memory.proofs.get.Tie as tie
-use Rattle.memory.proofs.get.Reads as reads
-use Rattle.memory.proofs.get.Lts as lts
-
-mul-result : tie.Need-mul-result
-mul-result c = search needs
-
-shared-slice-read-result : tie.Need-shared-slice-read-result
-shared-slice-read-result c = search needs
-
-returns : tie.Need-returns
-returns c = search needs
 
 returns-2 : tie.Need-returns-2
 returns-2 c = sym (List·getD-eq-default (c .before .args .w .now) 0 (c .if1 .left))
 
 pub get-spec : {M : Type 1} → statement M
-get-spec = tie.close (tie.spec mul-result shared-slice-read-result returns returns-2)
+get-spec = tie.close (tie.spec (λ c. search needs) (λ c. search needs) (λ c. search needs) returns-2)

@@ -7,8 +7,6 @@ use borrow.Author.Fill.{fill-more}
 use borrow.Author.Needs.{needs}
 use Rattle.memory.proofs.zero_front.Statement.{statement}
 use Rattle.memory.proofs.zero_front.Tie as tie
-use Rattle.memory.proofs.zero_front.Reads as reads
-use Rattle.memory.proofs.zero_front.Lts as lts
 
 abbrev Inv-loop : tie.InvT-loop
 Inv-loop a₀ n i₀ a i = (i ≤ n) × (length a ≡ length a₀) × (a ≡ replicate i 0 ++ drop i a₀)
@@ -16,28 +14,10 @@ Inv-loop a₀ n i₀ a i = (i ≤ n) × (length a ≡ length a₀) × (a ≡ rep
 abbrev μ-loop : tie.MeasureT-loop
 μ-loop a₀ n i₀ a i = n - i
 
-loop-holds : tie.Need-loop-holds Inv-loop μ-loop
-loop-holds c = search needs
-
-mul-a : tie.Need-mul-a Inv-loop μ-loop
-mul-a c = search needs
-
-slice-write-a : tie.Need-slice-write-a Inv-loop μ-loop
-slice-write-a c = search needs
-
-add-i : tie.Need-add-i Inv-loop μ-loop
-add-i c = search needs
-
-loop-less : tie.Need-loop-less Inv-loop μ-loop
-loop-less c = search needs
-
 loop-again : tie.Need-loop-again Inv-loop μ-loop
 loop-again c =
     let l = c .before .loop in
     (search needs, search needs, ap (λ d. set d (l .i) 0) (l .inv .2) ∙ fill-more (l .i) 0 _ (omega arith))
-
-same-length : tie.Need-same-length Inv-loop μ-loop
-same-length c = search needs
 
 returns : tie.Need-returns Inv-loop μ-loop
 returns c =
@@ -48,14 +28,5 @@ returns c =
 pub zero-front-spec : {M : Type 1} → statement M
 zero-front-spec =
     tie.close
-    (tie.spec
-    Inv-loop
-    μ-loop
-    loop-holds
-    mul-a
-    slice-write-a
-    add-i
-    loop-less
-    loop-again
-    same-length
-    returns)
+    (tie.spec Inv-loop μ-loop (λ c. search needs) (λ c. search needs) (λ c. search needs) (λ c. search needs)
+    (λ c. search needs) loop-again (λ c. search needs) returns)

@@ -3,14 +3,8 @@ use Rattle.name_classes.proofs.child_of.Statement.{statement}
 use borrow.Author.Needs.{needs}
 use Rattle.name_classes.proofs.child_of.Tie as tie
 
-child-requires : tie.Need-child-requires
-child-requires c κs = search needs
-
-element-of-requires : tie.Need-element-of-requires
-element-of-requires c κs = search needs
-
 returns : tie.Need-returns
 returns c = element-child _ _ _ _ _ (c .before .child .ensures) (c .element-of .ensures)
 
 pub child-of-spec : {M : Type 1} → statement M
-child-of-spec = tie.close (tie.spec child-requires element-of-requires returns)
+child-of-spec = tie.close (tie.spec (λ c κs. search needs) (λ c κs. search needs) returns)

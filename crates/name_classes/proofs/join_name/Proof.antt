@@ -3,18 +3,6 @@ use Rattle.name_classes.proofs.join_name.Statement.{statement}
 use borrow.Author.Needs.{needs}
 use Rattle.name_classes.proofs.join_name.Tie as tie
 
-same-name-requires : tie.Need-same-name-requires
-same-name-requires c κs = search needs
-
-wide-requires : tie.Need-wide-requires
-wide-requires c κs = search needs
-
-put-requires : tie.Need-put-requires
-put-requires c κs = search needs
-
-same-length : tie.Need-same-length
-same-length c = search needs
-
 returns : tie.Need-returns
 returns c = join-same _ _ _ _ _ _ _ _ _ _ _ _ (c .before .before .before .before .before .before .same-name .ensures) (c .before .before .before .before .before .if1 .taken) (c .before .before .before .wide .ensures .0) (c .before .before .put .ensures)
 
@@ -24,4 +12,4 @@ returns-2 c = join-other _ _ _ _ _ _ _ _ _ _ (c .before .same-name .ensures) (c 
 pub join-name-spec : {M : Type 1} → statement M
 join-name-spec =
     tie.close
-    (tie.spec same-name-requires wide-requires put-requires same-length returns returns-2)
+    (tie.spec (λ c κs. search needs) (λ c κs. search needs) (λ c κs. search needs) (λ c. search needs) returns returns-2)

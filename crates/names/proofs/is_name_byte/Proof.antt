@@ -4,9 +4,6 @@ use borrow.Author.Needs.{needs}
 use Rattle.names.proofs.is_name_byte.Statement.{statement}
 use Rattle.names.proofs.is_name_byte.Tie as tie
 
-is-letter-requires : tie.Need-is-letter-requires
-is-letter-requires c κs = search needs
-
 returns : tie.Need-returns
 returns c = byte-letter _ (sym (c .before .is-letter .ensures) ∙ c .if1 .taken)
 
@@ -24,4 +21,4 @@ returns-5 c = byte-digit _ (sym (c .before .before .before .before .is-letter .e
 
 pub is-name-byte-spec : {M : Type 1} → statement M
 is-name-byte-spec =
-    tie.close (tie.spec is-letter-requires returns returns-2 returns-3 returns-4 returns-5)
+    tie.close (tie.spec (λ c κs. search needs) returns returns-2 returns-3 returns-4 returns-5)

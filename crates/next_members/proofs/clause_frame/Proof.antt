@@ -9,16 +9,10 @@ unfolding clauseFrame
 returns c =
     simp (clauseFrame, eq-eqb _ _ (c .if1 .taken))
 
-sub-field : tie.Need-sub-field
-sub-field c = search needs
-
-field-requires : tie.Need-field-requires
-field-requires c κs = search needs
-
 returns-2 : tie.Need-returns-2
 unfolding clauseFrame
 returns-2 c =
     simp (clauseFrame, ← c .field .ensures, ne-eqb _ _ (c .before .if1 .left))
 
 pub clause-frame-spec : {M : Type 1} → statement M
-clause-frame-spec = tie.close (tie.spec returns sub-field field-requires returns-2)
+clause-frame-spec = tie.close (tie.spec returns (λ c. search needs) (λ c κs. search needs) returns-2)

@@ -4,28 +4,10 @@ use Rattle.machine.specs.Trying.{nextMember}
 use Rattle.next_members.proofs.next_member.Statement.{statement}
 use Rattle.next_members.proofs.next_member.Tie as tie
 
-up-requires : tie.Need-up-requires
-up-requires c κs = search needs
-
-clause-of-requires : tie.Need-clause-of-requires
-clause-of-requires c κs = search needs
-
-members-requires : tie.Need-members-requires
-members-requires c κs = search needs
-
-up-requires-2 : tie.Need-up-requires-2
-up-requires-2 c κs = search needs
-
-on-member-requires : tie.Need-on-member-requires
-on-member-requires c κs = search needs
-
 returns : tie.Need-returns
 unfolding nextMember
 returns c =
     simp (nextMember, ← c .on-member .ensures, ← c .before .up2 .ensures, lt-ltb _ _ (c .before .before .if1 .taken), ← c .before .before .before .members .ensures .0, ← c .before .before .before .before .clause-of .ensures, ← c .before .before .before .before .before .up .ensures)
-
-next-clause-requires : tie.Need-next-clause-requires
-next-clause-requires c κs = search needs
 
 returns-2 : tie.Need-returns-2
 unfolding nextMember
@@ -35,12 +17,5 @@ returns-2 c =
 pub next-member-spec : {M : Type 1} → statement M
 next-member-spec =
     tie.close
-    (tie.spec
-    up-requires
-    clause-of-requires
-    members-requires
-    up-requires-2
-    on-member-requires
-    returns
-    next-clause-requires
-    returns-2)
+    (tie.spec (λ c κs. search needs) (λ c κs. search needs) (λ c κs. search needs) (λ c κs. search needs) (λ c κs. search needs)
+    returns (λ c κs. search needs) returns-2)

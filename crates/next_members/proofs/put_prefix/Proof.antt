@@ -3,18 +3,6 @@ use Rattle.machine.specs.Trying.{putPrefix}
 use Rattle.next_members.proofs.put_prefix.Statement.{statement}
 use Rattle.next_members.proofs.put_prefix.Tie as tie
 
-clause-frame-requires : tie.Need-clause-frame-requires
-clause-frame-requires c κs = search needs
-
-copy-frame-requires : tie.Need-copy-frame-requires
-copy-frame-requires c κs = search needs
-
-put-fresh-requires : tie.Need-put-fresh-requires
-put-fresh-requires c κs = search needs
-
-same-length : tie.Need-same-length
-same-length c = search needs
-
 returns : tie.Need-returns
 unfolding putPrefix
 returns c =
@@ -23,4 +11,4 @@ returns c =
 pub put-prefix-spec : {M : Type 1} → statement M
 put-prefix-spec =
     tie.close
-    (tie.spec clause-frame-requires copy-frame-requires put-fresh-requires same-length returns)
+    (tie.spec (λ c κs. search needs) (λ c κs. search needs) (λ c κs. search needs) (λ c. search needs) returns)

@@ -4,12 +4,6 @@ use borrow.Author.Tests.{le-leb, lt-leb, eq-eqb, ne-eqb}
 use borrow.Author.Needs.{needs}
 use Rattle.node_lines.proofs.take_clause.Statement.{statement}
 use Rattle.node_lines.proofs.take_clause.Tie as tie
-use Rattle.node_lines.proofs.take_clause.Reads as reads
-use Rattle.node_lines.proofs.take_clause.Lts as lts
-use Rattle.memory.proofs.put.Reads as put-reads
-use Rattle.memory.proofs.wide.Reads as wide-reads
-use Rattle.tables.proofs.mask.Reads as mask-reads
-use Rattle.tables.proofs.members.Reads as members-reads
 
 returns : tie.Need-returns
 unfolding takeClause
@@ -21,40 +15,13 @@ unfolding takeClause
 returns-2 c =
     simp (takeClause, le-leb _ _ (c .if2 .taken), lt-leb _ _ (c .before .before .if1 .left))
 
-members-requires : tie.Need-members-requires
-members-requires c κs = search needs
-
-same-length : tie.Need-same-length
-same-length c = search needs
-
 returns-3 : tie.Need-returns-3
 unfolding takeClause
 returns-3 c =
     simp (takeClause, eq-eqb _ _ (c .if3 .taken), ← c .before .members .ensures .0, lt-leb _ _ (c .before .before .before .if2 .left), lt-leb _ _ (c .before .before .before .before .before .if1 .left))
 
-mask-requires : tie.Need-mask-requires
-mask-requires c κs = search needs
-
-wide-requires : tie.Need-wide-requires
-wide-requires c κs = search needs
-
-add-put : tie.Need-add-put
-add-put c = search needs
-
-put-requires : tie.Need-put-requires
-put-requires c κs = search needs
-
-add-t16 : tie.Need-add-t16
-add-t16 c = search needs
-
-same-length-2 : tie.Need-same-length-2
-same-length-2 c = search needs
-
 returns-4 : tie.Need-returns-4
 returns-4 c = clause-taken _ _ _ _ _ _ _ (c .before .before .before .before .before .before .before .before .before .before .before .before .before .if1 .left) (c .before .before .before .before .before .before .before .before .before .before .before .if2 .left) (c .before .before .before .before .before .before .before .before .before .members .ensures .0) (c .before .before .before .before .before .before .before .before .if3 .left) (c .before .before .before .before .before .before .mask .ensures .0) (c .before .before .before .before .before .if4 .taken) (c .before .before .before .before .wide .ensures .0) (c .before .before .put .ensures)
-
-same-length-3 : tie.Need-same-length-3
-same-length-3 c = search needs
 
 returns-5 : tie.Need-returns-5
 unfolding takeClause
@@ -64,18 +31,6 @@ returns-5 c =
 pub take-clause-spec : {M : Type 1} → statement M
 take-clause-spec =
     tie.close
-    (tie.spec
-    returns
-    returns-2
-    members-requires
-    same-length
-    returns-3
-    mask-requires
-    wide-requires
-    add-put
-    put-requires
-    add-t16
-    same-length-2
-    returns-4
-    same-length-3
-    returns-5)
+    (tie.spec returns returns-2 (λ c κs. search needs) (λ c. search needs) returns-3 (λ c κs. search needs)
+    (λ c κs. search needs) (λ c. search needs) (λ c κs. search needs) (λ c. search needs) (λ c. search needs) returns-4
+    (λ c. search needs) returns-5)

@@ -3,17 +3,11 @@ use borrow.Author.Tests.{le-leb, lt-leb}
 use borrow.Author.Needs.{needs}
 use Rattle.node_lines.proofs.take_goal.Statement.{statement}
 use Rattle.node_lines.proofs.take_goal.Tie as tie
-use Rattle.node_lines.proofs.take_goal.Reads as reads
-use Rattle.node_lines.proofs.take_goal.Lts as lts
-use Rattle.tables.proofs.is_goal.Reads as is-goal-reads
 
 returns : tie.Need-returns
 unfolding takeGoal
 returns c =
     simp (takeGoal, le-leb _ _ (c .if1 .taken))
-
-is-goal-requires : tie.Need-is-goal-requires
-is-goal-requires c κs = search needs
 
 returns-2 : tie.Need-returns-2
 unfolding takeGoal
@@ -26,4 +20,4 @@ returns-3 c =
     simp (takeGoal, c .if2 .left, ← c .before .is-goal .ensures, lt-leb _ _ (c .before .before .if1 .left))
 
 pub take-goal-spec : {M : Type 1} → statement M
-take-goal-spec = tie.close (tie.spec returns is-goal-requires returns-2 returns-3)
+take-goal-spec = tie.close (tie.spec returns (λ c κs. search needs) returns-2 returns-3)

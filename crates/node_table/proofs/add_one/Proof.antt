@@ -3,9 +3,6 @@ use borrow.Author.Tests.{le-leb, lt-leb}
 use borrow.Author.Needs.{needs}
 use Rattle.node_table.proofs.add_one.Statement.{statement}
 use Rattle.node_table.proofs.add_one.Tie as tie
-use Rattle.node_table.proofs.add_one.Reads as reads
-use Rattle.node_table.proofs.add_one.Lts as lts
-use Rattle.node_table.proofs.add_node.Reads as add-node-reads
 
 returns : tie.Need-returns
 unfolding addOne
@@ -17,15 +14,6 @@ unfolding addOne
 returns-2 c =
     simp (addOne, le-leb _ _ (c .if2 .taken), lt-leb _ _ (c .before .before .if1 .left))
 
-add-t10 : tie.Need-add-t10
-add-t10 c = search needs
-
-add-node-requires : tie.Need-add-node-requires
-add-node-requires c κs = search needs
-
-same-length : tie.Need-same-length
-same-length c = search needs
-
 returns-3 : tie.Need-returns-3
 unfolding addOne
 returns-3 c =
@@ -33,4 +21,4 @@ returns-3 c =
 
 pub add-one-spec : {M : Type 1} → statement M
 add-one-spec =
-    tie.close (tie.spec returns returns-2 add-t10 add-node-requires same-length returns-3)
+    tie.close (tie.spec returns returns-2 (λ c. search needs) (λ c κs. search needs) (λ c. search needs) returns-3)

@@ -3,9 +3,6 @@ use borrow.Author.Tests.{le-leb, lt-leb}
 use borrow.Author.Needs.{needs}
 use Rattle.node_table.proofs.add_two.Statement.{statement}
 use Rattle.node_table.proofs.add_two.Tie as tie
-use Rattle.node_table.proofs.add_two.Reads as reads
-use Rattle.node_table.proofs.add_two.Lts as lts
-use Rattle.node_table.proofs.add_node.Reads as add-node-reads
 
 returns : tie.Need-returns
 unfolding addTwo
@@ -22,15 +19,6 @@ unfolding addTwo
 returns-3 c =
     simp (addTwo, le-leb _ _ (c .if3 .taken), lt-leb _ _ (c .before .before .if2 .left), lt-leb _ _ (c .before .before .before .before .if1 .left))
 
-add-t10 : tie.Need-add-t10
-add-t10 c = search needs
-
-add-node-requires : tie.Need-add-node-requires
-add-node-requires c κs = search needs
-
-same-length : tie.Need-same-length
-same-length c = search needs
-
 returns-4 : tie.Need-returns-4
 unfolding addTwo
 returns-4 c =
@@ -39,4 +27,4 @@ returns-4 c =
 pub add-two-spec : {M : Type 1} → statement M
 add-two-spec =
     tie.close
-    (tie.spec returns returns-2 returns-3 add-t10 add-node-requires same-length returns-4)
+    (tie.spec returns returns-2 returns-3 (λ c. search needs) (λ c κs. search needs) (λ c. search needs) returns-4)

@@ -4,31 +4,10 @@ use Rattle.machine.specs.Matching.{passNode}
 use Rattle.occurrences.proofs.pass_node.Statement.{statement}
 use Rattle.occurrences.proofs.pass_node.Tie as tie
 
-bind-value-requires : tie.Need-bind-value-requires
-bind-value-requires c κs = search needs
-
-same-length : tie.Need-same-length
-same-length c = search needs
-
 returns : tie.Need-returns
 unfolding passNode
 returns c =
     simp (passNode, ← c .before .before .bind-value .ensures, eq-eqb _ _ (c .before .before .before .before .if1 .taken))
-
-up-requires : tie.Need-up-requires
-up-requires c κs = search needs
-
-effect-requires : tie.Need-effect-requires
-effect-requires c κs = search needs
-
-on-trail-requires : tie.Need-on-trail-requires
-on-trail-requires c κs = search needs
-
-on-nodes-requires : tie.Need-on-nodes-requires
-on-nodes-requires c κs = search needs
-
-same-length-2 : tie.Need-same-length-2
-same-length-2 c = search needs
 
 returns-2 : tie.Need-returns-2
 unfolding passNode
@@ -38,13 +17,5 @@ returns-2 c =
 pub pass-node-spec : {M : Type 1} → statement M
 pass-node-spec =
     tie.close
-    (tie.spec
-    bind-value-requires
-    same-length
-    returns
-    up-requires
-    effect-requires
-    on-trail-requires
-    on-nodes-requires
-    same-length-2
-    returns-2)
+    (tie.spec (λ c κs. search needs) (λ c. search needs) returns (λ c κs. search needs) (λ c κs. search needs)
+    (λ c κs. search needs) (λ c κs. search needs) (λ c. search needs) returns-2)

@@ -4,37 +4,10 @@ use Rattle.machine.specs.Matching.{visitVariable}
 use Rattle.occurrences.proofs.visit_variable.Statement.{statement}
 use Rattle.occurrences.proofs.visit_variable.Tie as tie
 
-failed-requires : tie.Need-failed-requires
-failed-requires c κs = search needs
-
-same-length : tie.Need-same-length
-same-length c = search needs
-
 returns : tie.Need-returns
 unfolding visitVariable
 returns c =
     simp (visitVariable, ← c .before .before .failed .ensures, eq-eqb _ _ (c .before .before .before .before .if1 .taken))
-
-name-of-requires : tie.Need-name-of-requires
-name-of-requires c κs = search needs
-
-level-of-requires : tie.Need-level-of-requires
-level-of-requires c κs = search needs
-
-name-of-requires-2 : tie.Need-name-of-requires-2
-name-of-requires-2 c κs = search needs
-
-level-of-requires-2 : tie.Need-level-of-requires-2
-level-of-requires-2 c κs = search needs
-
-min-requires : tie.Need-min-requires
-min-requires c κs = search needs
-
-pass-node-requires : tie.Need-pass-node-requires
-pass-node-requires c κs = search needs
-
-same-length-2 : tie.Need-same-length-2
-same-length-2 c = search needs
 
 returns-2 : tie.Need-returns-2
 unfolding visitVariable
@@ -44,15 +17,5 @@ returns-2 c =
 pub visit-variable-spec : {M : Type 1} → statement M
 visit-variable-spec =
     tie.close
-    (tie.spec
-    failed-requires
-    same-length
-    returns
-    name-of-requires
-    level-of-requires
-    name-of-requires-2
-    level-of-requires-2
-    min-requires
-    pass-node-requires
-    same-length-2
-    returns-2)
+    (tie.spec (λ c κs. search needs) (λ c. search needs) returns (λ c κs. search needs) (λ c κs. search needs)
+    (λ c κs. search needs) (λ c κs. search needs) (λ c κs. search needs) (λ c κs. search needs) (λ c. search needs) returns-2)

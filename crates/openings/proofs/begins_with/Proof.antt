@@ -3,12 +3,9 @@ use borrow.Author.Needs.{needs}
 use Rattle.openings.proofs.begins_with.Statement.{statement}
 use Rattle.openings.proofs.begins_with.Tie as tie
 
-same-range-requires : tie.Need-same-range-requires
-same-range-requires c κs = search needs
-
 returns : tie.Need-returns
 unfolding beginsWith
 returns c = (c .same-range .ensures)
 
 pub begins-with-spec : {M : Type 1} → statement M
-begins-with-spec = tie.close (tie.spec same-range-requires returns)
+begins-with-spec = tie.close (tie.spec (λ c κs. search needs) returns)

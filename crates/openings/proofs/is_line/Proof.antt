@@ -3,12 +3,6 @@ use borrow.Author.Needs.{needs}
 use Rattle.openings.proofs.is_line.Statement.{statement}
 use Rattle.openings.proofs.is_line.Tie as tie
 
-monus-requires : tie.Need-monus-requires
-monus-requires c κs = search needs
-
-begins-with-requires : tie.Need-begins-with-requires
-begins-with-requires c κs = search needs
-
 returns : tie.Need-returns
 returns c = line-long _ _ _ _ _ (c .before .before .monus .ensures) _ (c .before .if1 .taken) (c .begins-with .ensures)
 
@@ -16,4 +10,4 @@ returns-2 : tie.Need-returns-2
 returns-2 c = line-other _ _ _ _ _ (c .before .monus .ensures) (c .if1 .left)
 
 pub is-line-spec : {M : Type 1} → statement M
-is-line-spec = tie.close (tie.spec monus-requires begins-with-requires returns returns-2)
+is-line-spec = tie.close (tie.spec (λ c κs. search needs) (λ c κs. search needs) returns returns-2)

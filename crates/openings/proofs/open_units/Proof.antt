@@ -3,21 +3,6 @@ use borrow.Author.Needs.{needs}
 use Rattle.openings.proofs.open_units.Statement.{statement}
 use Rattle.openings.proofs.open_units.Tie as tie
 
-read-number-requires : tie.Need-read-number-requires
-read-number-requires c κs = search needs
-
-enum-known-n : tie.Need-enum-known-n
-enum-known-n c = search needs
-
-open-with-requires : tie.Need-open-with-requires
-open-with-requires c κs = search needs
-
-enum-told : tie.Need-enum-told
-enum-told c = search needs
-
-broken-requires : tie.Need-broken-requires
-broken-requires c κs = search needs
-
 returns : tie.Need-returns
 returns c = λ w. units-read _ _ _ _ _ _ _ _ _ _ _ (c .before .before .before .before .read-number .ensures) (c .before .before .n .given .1) ((c .open-with .ensures) w)
 
@@ -27,11 +12,5 @@ returns-2 c = λ w. units-missing _ _ _ _ _ _ _ _ _ (c .before .before .before .
 pub open-units-spec : {M : Type 1} → statement M
 open-units-spec =
     tie.close
-    (tie.spec
-    read-number-requires
-    enum-known-n
-    open-with-requires
-    enum-told
-    broken-requires
-    returns
-    returns-2)
+    (tie.spec (λ c κs. search needs) (λ c. search needs) (λ c κs. search needs) (λ c. search needs) (λ c κs. search needs)
+    returns returns-2)

@@ -3,26 +3,14 @@ use borrow.Author.Needs.{needs}
 use Rattle.openings.proofs.open_with.Statement.{statement}
 use Rattle.openings.proofs.open_with.Tie as tie
 
-bound-requires : tie.Need-bound-requires
-bound-requires c κs = search needs
-
 returns : tie.Need-returns
 returns c = λ w. open-right _ _ _ _ _ _ _ _ (c .before .before .before .if1 .taken) (c .before .before .if2 .taken) (c .before .if3 .taken) (c .bound .ensures)
-
-broken-requires : tie.Need-broken-requires
-broken-requires c κs = search needs
 
 returns-2 : tie.Need-returns-2
 returns-2 c = λ w. open-many _ _ _ _ _ _ _ _ ((c .broken .ensures) w) (c .before .before .before .if1 .taken) (c .before .before .if2 .taken) (c .before .if3 .left)
 
-broken-requires-2 : tie.Need-broken-requires-2
-broken-requires-2 c κs = search needs
-
 returns-3 : tie.Need-returns-3
 returns-3 c = λ w. open-none _ _ _ _ _ _ _ _ ((c .broken2 .ensures) w) (c .before .before .if1 .taken) (c .before .if2 .left)
-
-broken-requires-3 : tie.Need-broken-requires-3
-broken-requires-3 c κs = search needs
 
 returns-4 : tie.Need-returns-4
 returns-4 c = λ w. open-long _ _ _ _ _ _ _ _ ((c .broken3 .ensures) w) (c .before .if1 .left)
@@ -30,12 +18,5 @@ returns-4 c = λ w. open-long _ _ _ _ _ _ _ _ ((c .broken3 .ensures) w) (c .befo
 pub open-with-spec : {M : Type 1} → statement M
 open-with-spec =
     tie.close
-    (tie.spec
-    bound-requires
-    returns
-    broken-requires
-    returns-2
-    broken-requires-2
-    returns-3
-    broken-requires-3
-    returns-4)
+    (tie.spec (λ c κs. search needs) returns (λ c κs. search needs) returns-2 (λ c κs. search needs) returns-3
+    (λ c κs. search needs) returns-4)

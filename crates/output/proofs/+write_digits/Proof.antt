@@ -36,36 +36,6 @@ write-digits-returns : (t : ℕ) → write-digits-lts.Need-returns (
 ) (write-digits-at t) write-digits.Post
 write-digits-returns t c = digits-none _ _ _ _ _ (c .if1 .taken)
 
-write-digits-digit-requires : (t : ℕ) → write-digits-lts.Need-digit-requires (
-  digit-reads.Asked,
-  digit-reads.Learnt,
-  emit-reads.Asked,
-  emit-reads.Learnt,
-  write-digits-below t,
-  write-digits.Post,
-) (write-digits-at t) write-digits.Post
-write-digits-digit-requires t c κs = search needs
-
-write-digits-emit-requires : (t : ℕ) → write-digits-lts.Need-emit-requires (
-  digit-reads.Asked,
-  digit-reads.Learnt,
-  emit-reads.Asked,
-  emit-reads.Learnt,
-  write-digits-below t,
-  write-digits.Post,
-) (write-digits-at t) write-digits.Post
-write-digits-emit-requires t c κs = search needs
-
-write-digits-same-length : (t : ℕ) → write-digits-lts.Need-same-length (
-  digit-reads.Asked,
-  digit-reads.Learnt,
-  emit-reads.Asked,
-  emit-reads.Learnt,
-  write-digits-below t,
-  write-digits.Post,
-) (write-digits-at t) write-digits.Post
-write-digits-same-length t c = search needs
-
 write-digits-returns-2 : (t : ℕ) → write-digits-lts.Need-returns-2 (
   digit-reads.Asked,
   digit-reads.Learnt,
@@ -75,56 +45,6 @@ write-digits-returns-2 : (t : ℕ) → write-digits-lts.Need-returns-2 (
   write-digits.Post,
 ) (write-digits-at t) write-digits.Post
 write-digits-returns-2 t c = digits-last _ _ _ _ _ _ _ (c .before .before .before .before .before .before .if1 .left) (c .before .before .before .before .before .if2 .taken) (c .before .before .before .digit .ensures) (c .before .before .emit .ensures)
-
-write-digits-sub-write-digits : (t : ℕ) → write-digits-lts.Need-sub-write-digits (
-  digit-reads.Asked,
-  digit-reads.Learnt,
-  emit-reads.Asked,
-  emit-reads.Learnt,
-  write-digits-below t,
-  write-digits.Post,
-) (write-digits-at t) write-digits.Post
-write-digits-sub-write-digits t c = search needs
-
-write-digits-write-digits-requires : (t : ℕ) → write-digits-lts.Need-write-digits-requires (
-  digit-reads.Asked,
-  digit-reads.Learnt,
-  emit-reads.Asked,
-  emit-reads.Learnt,
-  write-digits-below t,
-  write-digits.Post,
-) (write-digits-at t) write-digits.Post
-write-digits-write-digits-requires t c κs = search needs
-
-write-digits-digit-requires-2 : (t : ℕ) → write-digits-lts.Need-digit-requires-2 (
-  digit-reads.Asked,
-  digit-reads.Learnt,
-  emit-reads.Asked,
-  emit-reads.Learnt,
-  write-digits-below t,
-  write-digits.Post,
-) (write-digits-at t) write-digits.Post
-write-digits-digit-requires-2 t c κs = search needs
-
-write-digits-emit-requires-2 : (t : ℕ) → write-digits-lts.Need-emit-requires-2 (
-  digit-reads.Asked,
-  digit-reads.Learnt,
-  emit-reads.Asked,
-  emit-reads.Learnt,
-  write-digits-below t,
-  write-digits.Post,
-) (write-digits-at t) write-digits.Post
-write-digits-emit-requires-2 t c κs = search needs
-
-write-digits-same-length-2 : (t : ℕ) → write-digits-lts.Need-same-length-2 (
-  digit-reads.Asked,
-  digit-reads.Learnt,
-  emit-reads.Asked,
-  emit-reads.Learnt,
-  write-digits-below t,
-  write-digits.Post,
-) (write-digits-at t) write-digits.Post
-write-digits-same-length-2 t c = search needs
 
 write-digits-returns-3 : (t : ℕ) → write-digits-lts.Need-returns-3 (
   digit-reads.Asked,
@@ -145,16 +65,6 @@ pub +write-digits-spec : {M : Type 1} → statement M
   write-digits-below t,
   write-digits.Post,
 )
-    (write-digits-at t)
-    write-digits.Post
-    (write-digits-returns t)
-    (write-digits-digit-requires t)
-    (write-digits-emit-requires t)
-    (write-digits-same-length t)
-    (write-digits-returns-2 t)
-    (write-digits-sub-write-digits t)
-    (write-digits-write-digits-requires t)
-    (write-digits-digit-requires-2 t)
-    (write-digits-emit-requires-2 t)
-    (write-digits-same-length-2 t)
-    (write-digits-returns-3 t)
+    (write-digits-at t) write-digits.Post (write-digits-returns t) (λ c κs. search needs) (λ c κs. search needs)
+    (λ c. search needs) (write-digits-returns-2 t) (λ c. search needs) (λ c κs. search needs) (λ c κs. search needs)
+    (λ c κs. search needs) (λ c. search needs) (write-digits-returns-3 t)

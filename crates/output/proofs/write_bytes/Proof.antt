@@ -13,26 +13,8 @@ Inv-loop bs out₀ limit at i₀ to₀ out i to = (length out ≡ length out₀)
 abbrev μ-loop : tie.MeasureT-loop
 μ-loop bs out₀ limit at i₀ to₀ out i to = length bs - i
 
-loop-holds : tie.Need-loop-holds Inv-loop μ-loop
-loop-holds c = search needs
-
-shared-slice-read-emit : tie.Need-shared-slice-read-emit Inv-loop μ-loop
-shared-slice-read-emit c = search needs
-
-emit-requires : tie.Need-emit-requires Inv-loop μ-loop
-emit-requires c κs = search needs
-
-add-i : tie.Need-add-i Inv-loop μ-loop
-add-i c = search needs
-
-loop-less : tie.Need-loop-less Inv-loop μ-loop
-loop-less c = search needs
-
 loop-again : tie.Need-loop-again Inv-loop μ-loop
 loop-again c = (c .before .before .emit .kept .0 ∙ c .before .before .before .before .before .before .loop .inv .0, c .before .before .before .before .before .before .loop .inv .1 ∙ bytes-on _ _ _ _ _ _ _ (c .before .before .before .before .before .loop-test .taken) (c .before .before .emit .ensures))
-
-same-length : tie.Need-same-length Inv-loop μ-loop
-same-length c = search needs
 
 returns : tie.Need-returns Inv-loop μ-loop
 returns c = sym (c .before .loop .inv .1 ∙ bytes-end _ _ _ _ _ (c .loop-test .left))
@@ -40,14 +22,5 @@ returns c = sym (c .before .loop .inv .1 ∙ bytes-end _ _ _ _ _ (c .loop-test .
 pub write-bytes-spec : {M : Type 1} → statement M
 write-bytes-spec =
     tie.close
-    (tie.spec
-    Inv-loop
-    μ-loop
-    loop-holds
-    shared-slice-read-emit
-    emit-requires
-    add-i
-    loop-less
-    loop-again
-    same-length
-    returns)
+    (tie.spec Inv-loop μ-loop (λ c. search needs) (λ c. search needs) (λ c κs. search needs) (λ c. search needs)
+    (λ c. search needs) loop-again (λ c. search needs) returns)

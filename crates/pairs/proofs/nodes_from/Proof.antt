@@ -4,25 +4,10 @@ use Rattle.machine.specs.Matching.{nodesFrom}
 use Rattle.pairs.proofs.nodes_from.Statement.{statement}
 use Rattle.pairs.proofs.nodes_from.Tie as tie
 
-record-of-requires : tie.Need-record-of-requires
-record-of-requires c κs = search needs
-
-field-requires : tie.Need-field-requires
-field-requires c κs = search needs
-
-child-count-requires : tie.Need-child-count-requires
-child-count-requires c κs = search needs
-
-place-word-requires : tie.Need-place-word-requires
-place-word-requires c κs = search needs
-
 returns : tie.Need-returns
 unfolding nodesFrom
 returns c =
     simp (nodesFrom, ← c .place-word .ensures, lt-ltb _ _ (c .before .if1 .taken), ← c .before .before .child-count .ensures, ← c .before .before .before .field .ensures, ← c .before .before .before .before .record-of .ensures)
-
-field-requires-2 : tie.Need-field-requires-2
-field-requires-2 c κs = search needs
 
 returns-2 : tie.Need-returns-2
 unfolding nodesFrom
@@ -32,11 +17,5 @@ returns-2 c =
 pub nodes-from-spec : {M : Type 1} → statement M
 nodes-from-spec =
     tie.close
-    (tie.spec
-    record-of-requires
-    field-requires
-    child-count-requires
-    place-word-requires
-    returns
-    field-requires-2
-    returns-2)
+    (tie.spec (λ c κs. search needs) (λ c κs. search needs) (λ c κs. search needs) (λ c κs. search needs) returns
+    (λ c κs. search needs) returns-2)

@@ -4,31 +4,11 @@ use borrow.Author.Needs.{needs}
 use Rattle.pens.proofs.write_name_in.Statement.{statement}
 use Rattle.pens.proofs.write_name_in.Tie as tie
 
-element-copy-out-write-name : tie.Need-element-copy-out-write-name
-element-copy-out-write-name c = search needs
-
-pen-in-requires : tie.Need-pen-in-requires
-pen-in-requires c κs = search needs
-
-write-name-requires : tie.Need-write-name-requires
-write-name-requires c κs = search needs
-
-put-pen-requires : tie.Need-put-pen-requires
-put-pen-requires c κs = search needs
-
-same-length : tie.Need-same-length
-same-length c = search needs
-
 returns : tie.Need-returns
 returns c = (λ m. pen-put _ _ _ (c .put-pen .ensures) (λ l g. writeName (c .before .before .before .before .before .before .before .before .before .before .before .before .args .sheet .now) (c .before .before .before .before .before .before .before .before .before .before .before .before .args .t .now) l g (c .before .before .before .before .before .before .before .before .before .before .before .before .args .f)) _ _ _ _ _ (c .before .before .before .before .before .pen-in .ensures) (c .before .before .before .before .write-name .ensures m), bounds-kept _ _ _ (c .put-pen .ensures))
 
 pub write-name-in-spec : {M : Type 1} → statement M
 write-name-in-spec =
     tie.close
-    (tie.spec
-    element-copy-out-write-name
-    pen-in-requires
-    write-name-requires
-    put-pen-requires
-    same-length
+    (tie.spec (λ c. search needs) (λ c κs. search needs) (λ c κs. search needs) (λ c κs. search needs) (λ c. search needs)
     returns)

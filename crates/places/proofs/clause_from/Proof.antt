@@ -15,20 +15,8 @@ abbrev μ-loop : tie.MeasureT-loop
 loop-holds : tie.Need-loop-holds Inv-loop μ-loop
 loop-holds c = clause-start _ _ _
 
-clause-node-requires : tie.Need-clause-node-requires Inv-loop μ-loop
-clause-node-requires c κs = search needs
-
-members-requires : tie.Need-members-requires Inv-loop μ-loop
-members-requires c κs = search needs
-
 returns : tie.Need-returns Inv-loop μ-loop
 returns c = sym ((c .before .before .before .before .loop .inv) ∙ clause-here _ _ _ _ _ _ (c .before .before .before .loop-test .taken) (c .before .before .clause-node .ensures) (c .before .members .ensures .0) (c .if1 .taken))
-
-add-i : tie.Need-add-i Inv-loop μ-loop
-add-i c = search needs
-
-loop-less : tie.Need-loop-less Inv-loop μ-loop
-loop-less c = search needs
 
 loop-again : tie.Need-loop-again Inv-loop μ-loop
 loop-again c = (c .before .before .before .before .loop .inv) ∙ clause-on _ _ _ _ _ _ (c .before .before .before .loop-test .taken) (c .before .before .clause-node .ensures) (c .before .members .ensures .0) (c .if1 .left)
@@ -39,14 +27,5 @@ returns-2 c = sym ((c .before .loop .inv) ∙ clause-none _ _ _ _ (c .loop-test 
 pub clause-from-spec : {M : Type 1} → statement M
 clause-from-spec =
     tie.close
-    (tie.spec
-    Inv-loop
-    μ-loop
-    loop-holds
-    clause-node-requires
-    members-requires
-    returns
-    add-i
-    loop-less
-    loop-again
-    returns-2)
+    (tie.spec Inv-loop μ-loop loop-holds (λ c κs. search needs) (λ c κs. search needs) returns (λ c. search needs)
+    (λ c. search needs) loop-again returns-2)

@@ -4,32 +4,17 @@ use borrow.Author.Needs.{needs}
 use Rattle.prefixes.proofs.prefix_at.Statement.{statement}
 use Rattle.prefixes.proofs.prefix_at.Tie as tie
 
-byte-requires : tie.Need-byte-requires
-byte-requires c κs = search needs
-
 returns : tie.Need-returns
 returns c = term-none _ _ _ _ _ _ _ _ _ _ _ (c .before .byte .ensures) (c .if1 .taken)
 
 add-scan-term : tie.Need-add-scan-term
 add-scan-term c = omega (arith, tab-inside (c .before .before .before .before .before .before .args .text .now) _ _ (c .before .byte .ensures) (c .if1 .left))
 
-scan-term-requires : tie.Need-scan-term-requires
-scan-term-requires c κs = search needs
-
-enum-known-j : tie.Need-enum-known-j
-enum-known-j c = search needs
-
 add-prefix-term : tie.Need-add-prefix-term
 add-prefix-term c = omega (arith, tab-inside (c .before .before .before .before .before .before .before .before .before .before .before .args .text .now) _ _ (c .before .before .before .before .before .before .byte .ensures) (c .before .before .before .before .before .if1 .left))
 
 prefix-term-requires : tie.Need-prefix-term-requires
 prefix-term-requires c κs = (omega (arith, tab-inside (c .before .before .before .before .before .before .before .before .before .before .before .args .text .now) _ _ (c .before .before .before .before .before .before .byte .ensures) (c .before .before .before .before .before .if1 .left)), search needs)
-
-enum-told : tie.Need-enum-told
-enum-told c = search needs
-
-same-length : tie.Need-same-length
-same-length c = search needs
 
 returns-2 : tie.Need-returns-2
 returns-2 c = term-read _ _ _ _ _ _ _ _ _ _ _ (c .before .before .before .before .before .before .before .before .before .byte .ensures) (c .before .before .before .before .before .before .before .before .if1 .left) _ (c .before .before .before .before .before .before .before .scan-term .ensures) _ _ _ (c .before .before .before .before .before .j .given .1) (c .before .before .prefix-term .ensures)
@@ -40,15 +25,5 @@ returns-3 c = term-wrong _ _ _ _ _ _ _ _ _ _ _ (c .before .before .before .befor
 pub prefix-at-spec : {M : Type 1} → statement M
 prefix-at-spec =
     tie.close
-    (tie.spec
-    byte-requires
-    returns
-    add-scan-term
-    scan-term-requires
-    enum-known-j
-    add-prefix-term
-    prefix-term-requires
-    enum-told
-    same-length
-    returns-2
-    returns-3)
+    (tie.spec (λ c κs. search needs) returns add-scan-term (λ c κs. search needs) (λ c. search needs) add-prefix-term
+    prefix-term-requires (λ c. search needs) (λ c. search needs) returns-2 returns-3)

@@ -3,18 +3,6 @@ use borrow.Author.Needs.{needs}
 use Rattle.prefixes.proofs.prefix_term.Statement.{statement}
 use Rattle.prefixes.proofs.prefix_term.Tie as tie
 
-cast-put-slot : tie.Need-cast-put-slot
-cast-put-slot c = search needs
-
-cast-put-slot-2 : tie.Need-cast-put-slot-2
-cast-put-slot-2 c = search needs
-
-put-slot-requires : tie.Need-put-slot-requires
-put-slot-requires c κs = search needs
-
-same-length : tie.Need-same-length
-same-length c = search needs
-
 returns : tie.Need-returns
 returns c = prefix-right _ _ _ _ _ _ _ _ _ (c .before .before .before .before .before .if1 .taken) (c .before .before .before .before .if2 .taken) (c .before .before .put-slot .ensures)
 
@@ -27,11 +15,4 @@ returns-3 c = prefix-long _ _ _ _ _ _ _ _ (c .if1 .left)
 pub prefix-term-spec : {M : Type 1} → statement M
 prefix-term-spec =
     tie.close
-    (tie.spec
-    cast-put-slot
-    cast-put-slot-2
-    put-slot-requires
-    same-length
-    returns
-    returns-2
-    returns-3)
+    (tie.spec (λ c. search needs) (λ c. search needs) (λ c κs. search needs) (λ c. search needs) returns returns-2 returns-3)

@@ -5,21 +5,9 @@ use borrow.Author.Needs.{needs}
 use Rattle.printer.proofs.term_to.Statement.{statement}
 use Rattle.printer.proofs.term_to.Tie as tie
 
-up-requires : tie.Need-up-requires
-up-requires c κs = search needs
-
 write-term-requires : tie.Need-write-term-requires
 unfolding boundsIn
 write-term-requires c κs = c .before .before .before .before .before .before .before .before .before .before .pre
-
-pen-in-requires : tie.Need-pen-in-requires
-pen-in-requires c κs = search needs
-
-same-length : tie.Need-same-length
-same-length c = search needs
-
-same-length-2 : tie.Need-same-length-2
-same-length-2 c = search needs
 
 returns : tie.Need-returns
 returns c = term-ranked _ _ _ _ _ _ _ _ _ _ (c .before .before .before .before .before .before .before .before .before .before .before .before .up .ensures) (state-made (c .before .before .before .before .before .before .before .before .before .before .before .before .before .before .before .before .before .args .p) _ _ _ _ _ _ _ _ _ (pen-taken _ _ _ _ _ (c .pen-in .ensures) (c .before .before .before .before .before .before .write-term .ensures .0)))
@@ -27,4 +15,4 @@ returns c = term-ranked _ _ _ _ _ _ _ _ _ _ (c .before .before .before .before .
 pub term-to-spec : {M : Type 1} → statement M
 term-to-spec =
     tie.close
-    (tie.spec up-requires write-term-requires pen-in-requires same-length same-length-2 returns)
+    (tie.spec (λ c κs. search needs) write-term-requires (λ c κs. search needs) (λ c. search needs) (λ c. search needs) returns)

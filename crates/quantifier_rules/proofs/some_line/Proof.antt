@@ -4,27 +4,9 @@ use borrow.Author.Needs.{needs}
 use Rattle.quantifier_rules.proofs.some_line.Statement.{statement}
 use Rattle.quantifier_rules.proofs.some_line.Tie as tie
 
-slice-aggregate-begins-with : tie.Need-slice-aggregate-begins-with
-slice-aggregate-begins-with c = search needs
-
-begins-with-requires : tie.Need-begins-with-requires
-begins-with-requires c κs = search needs
-
-add-some-term : tie.Need-add-some-term
-add-some-term c = search needs
-
-some-term-requires : tie.Need-some-term-requires
-some-term-requires c κs = search needs
-
-same-length : tie.Need-same-length
-same-length c = search needs
-
 returns : tie.Need-returns
 unfolding ascii
 returns c = some-begun _ _ _ _ _ _ _ _ _ _ _ (c .before .before .before .before .before .begins-with .ensures) (c .before .before .before .before .if1 .taken) (c .before .before .some-term .ensures)
-
-broken-requires : tie.Need-broken-requires
-broken-requires c κs = search needs
 
 returns-2 : tie.Need-returns-2
 unfolding ascii
@@ -33,12 +15,5 @@ returns-2 c = some-wrong _ _ _ _ _ _ _ _ _ _ _ (c .before .before .begins-with .
 pub some-line-spec : {M : Type 1} → statement M
 some-line-spec =
     tie.close
-    (tie.spec
-    slice-aggregate-begins-with
-    begins-with-requires
-    add-some-term
-    some-term-requires
-    same-length
-    returns
-    broken-requires
-    returns-2)
+    (tie.spec (λ c. search needs) (λ c κs. search needs) (λ c. search needs) (λ c κs. search needs) (λ c. search needs) returns
+    (λ c κs. search needs) returns-2)

@@ -9,13 +9,10 @@ unfolding dueWord
 returns c =
     simp (dueWord, eq-eqb _ _ (c .if1 .taken))
 
-argument-word-requires : tie.Need-argument-word-requires
-argument-word-requires c κs = search needs
-
 returns-2 : tie.Need-returns-2
 unfolding dueWord
 returns-2 c =
     simp (dueWord, ← c .argument-word .ensures, ne-eqb _ _ (c .before .if1 .left))
 
 pub due-word-spec : {M : Type 1} → statement M
-due-word-spec = tie.close (tie.spec returns argument-word-requires returns-2)
+due-word-spec = tie.close (tie.spec returns (λ c κs. search needs) returns-2)

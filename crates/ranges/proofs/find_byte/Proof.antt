@@ -13,20 +13,8 @@ Inv-loop text c i at₀ at = findByte (length text - i) text c i ≡ findByte (l
 abbrev μ-loop : tie.MeasureT-loop
 μ-loop text c i at₀ at = length text - at
 
-loop-holds : tie.Need-loop-holds Inv-loop μ-loop
-loop-holds c = search needs
-
-shared-slice-read-if1 : tie.Need-shared-slice-read-if1 Inv-loop μ-loop
-shared-slice-read-if1 c = search needs
-
 returns : tie.Need-returns Inv-loop μ-loop
 returns c = sym ((c .before .before .before .loop .inv) ∙ find-here (c .before .before .before .before .args .text .now) _ _ (c .before .before .loop-test .taken) (c .if1 .taken))
-
-add-at : tie.Need-add-at Inv-loop μ-loop
-add-at c = search needs
-
-loop-less : tie.Need-loop-less Inv-loop μ-loop
-loop-less c = search needs
 
 loop-again : tie.Need-loop-again Inv-loop μ-loop
 loop-again c = (c .before .before .before .loop .inv) ∙ find-on (c .before .before .before .before .args .text .now) _ _ (c .before .before .loop-test .taken) (c .if1 .left)
@@ -37,13 +25,5 @@ returns-2 c = sym ((c .before .loop .inv) ∙ find-stop (c .before .before .args
 pub find-byte-spec : {M : Type 1} → statement M
 find-byte-spec =
     tie.close
-    (tie.spec
-    Inv-loop
-    μ-loop
-    loop-holds
-    shared-slice-read-if1
-    returns
-    add-at
-    loop-less
-    loop-again
+    (tie.spec Inv-loop μ-loop (λ c. search needs) (λ c. search needs) returns (λ c. search needs) (λ c. search needs) loop-again
     returns-2)

@@ -3,12 +3,9 @@ use borrow.Author.Needs.{needs}
 use Rattle.ranges.proofs.line_end.Statement.{statement}
 use Rattle.ranges.proofs.line_end.Tie as tie
 
-find-byte-requires : tie.Need-find-byte-requires
-find-byte-requires c κs = search needs
-
 returns : tie.Need-returns
 unfolding lineEnd
 returns c = search needs
 
 pub line-end-spec : {M : Type 1} → statement M
-line-end-spec = tie.close (tie.spec find-byte-requires returns)
+line-end-spec = tie.close (tie.spec (λ c κs. search needs) returns)

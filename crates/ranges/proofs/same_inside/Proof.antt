@@ -15,24 +15,6 @@ abbrev μ-loop : tie.MeasureT-loop
 loop-holds : tie.Need-loop-holds Inv-loop μ-loop
 loop-holds c = (search needs, range-none _ _ _ _)
 
-add-same : tie.Need-add-same Inv-loop μ-loop
-add-same c = search needs
-
-shared-slice-read-same : tie.Need-shared-slice-read-same Inv-loop μ-loop
-shared-slice-read-same c = search needs
-
-add-same-2 : tie.Need-add-same-2 Inv-loop μ-loop
-add-same-2 c = search needs
-
-shared-slice-read-same-2 : tie.Need-shared-slice-read-same-2 Inv-loop μ-loop
-shared-slice-read-same-2 c = search needs
-
-add-k : tie.Need-add-k Inv-loop μ-loop
-add-k c = search needs
-
-loop-less : tie.Need-loop-less Inv-loop μ-loop
-loop-less c = search needs
-
 loop-again : tie.Need-loop-again Inv-loop μ-loop
 loop-again c = (search needs, range-more _ _ _ _ _ _ (c .before .before .before .loop .inv .1))
 
@@ -42,15 +24,5 @@ returns c = range-all _ _ _ _ _ _ _ (c .before .loop .inv .0) (c .loop-test .lef
 pub same-inside-spec : {M : Type 1} → statement M
 same-inside-spec =
     tie.close
-    (tie.spec
-    Inv-loop
-    μ-loop
-    loop-holds
-    add-same
-    shared-slice-read-same
-    add-same-2
-    shared-slice-read-same-2
-    add-k
-    loop-less
-    loop-again
-    returns)
+    (tie.spec Inv-loop μ-loop loop-holds (λ c. search needs) (λ c. search needs) (λ c. search needs) (λ c. search needs)
+    (λ c. search needs) (λ c. search needs) loop-again returns)

@@ -11,27 +11,6 @@ Inv-loop n a i b j left₀ p₀ q₀ left p q = sameRange n a i b j ≡ sameRang
 abbrev μ-loop : tie.MeasureT-loop
 μ-loop n a i b j left₀ p₀ q₀ left p q = left
 
-loop-holds : tie.Need-loop-holds Inv-loop μ-loop
-loop-holds c = search needs
-
-byte-requires : tie.Need-byte-requires Inv-loop μ-loop
-byte-requires c κs = search needs
-
-byte-requires-2 : tie.Need-byte-requires-2 Inv-loop μ-loop
-byte-requires-2 c κs = search needs
-
-place-after-requires : tie.Need-place-after-requires Inv-loop μ-loop
-place-after-requires c κs = search needs
-
-place-after-requires-2 : tie.Need-place-after-requires-2 Inv-loop μ-loop
-place-after-requires-2 c κs = search needs
-
-sub-left : tie.Need-sub-left Inv-loop μ-loop
-sub-left c = search needs
-
-loop-less : tie.Need-loop-less Inv-loop μ-loop
-loop-less c = search needs
-
 loop-again : tie.Need-loop-again Inv-loop μ-loop
 loop-again c = (c .before .before .before .before .before .before .loop .inv) ∙ range-next _ _ _ _ _ _ _ _ _ (c .before .before .before .before .before .loop-test .taken) (c .before .before .before .before .byte .ensures) (c .before .before .before .byte2 .ensures) (c .before .before .if1 .taken) (c .before .place-after .ensures) (c .place-after2 .ensures)
 
@@ -44,16 +23,5 @@ returns-2 c = sym ((c .before .loop .inv) ∙ range-end _ _ _ _ _ (c .loop-test 
 pub same-total-spec : {M : Type 1} → statement M
 same-total-spec =
     tie.close
-    (tie.spec
-    Inv-loop
-    μ-loop
-    loop-holds
-    byte-requires
-    byte-requires-2
-    place-after-requires
-    place-after-requires-2
-    sub-left
-    loop-less
-    loop-again
-    returns
-    returns-2)
+    (tie.spec Inv-loop μ-loop (λ c. search needs) (λ c κs. search needs) (λ c κs. search needs) (λ c κs. search needs)
+    (λ c κs. search needs) (λ c. search needs) (λ c. search needs) loop-again returns returns-2)

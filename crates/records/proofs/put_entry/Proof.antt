@@ -3,24 +3,6 @@ use Rattle.records.proofs.Laws.{and-put}
 use borrow.Author.Needs.{needs}
 use Rattle.records.proofs.put_entry.Statement.{statement}
 use Rattle.records.proofs.put_entry.Tie as tie
-use Rattle.records.proofs.put_entry.Reads as reads
-use Rattle.records.proofs.put_entry.Lts as lts
-use Rattle.cells.proofs.put_field.Reads as put-field-reads
-
-put-field-requires : tie.Need-put-field-requires
-put-field-requires c κs = search needs
-
-put-field-requires-2 : tie.Need-put-field-requires-2
-put-field-requires-2 c κs = search needs
-
-put-field-requires-3 : tie.Need-put-field-requires-3
-put-field-requires-3 c κs = search needs
-
-put-field-requires-4 : tie.Need-put-field-requires-4
-put-field-requires-4 c κs = search needs
-
-same-length : tie.Need-same-length
-same-length c = search needs
 
 returns : tie.Need-returns
 unfolding putEntry
@@ -29,10 +11,5 @@ returns c = and-put _ _ _ (and-put _ _ _ (and-put _ _ _ (c .before .before .befo
 pub put-entry-spec : {M : Type 1} → statement M
 put-entry-spec =
     tie.close
-    (tie.spec
-    put-field-requires
-    put-field-requires-2
-    put-field-requires-3
-    put-field-requires-4
-    same-length
+    (tie.spec (λ c κs. search needs) (λ c κs. search needs) (λ c κs. search needs) (λ c κs. search needs) (λ c. search needs)
     returns)

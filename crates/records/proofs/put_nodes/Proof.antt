@@ -3,21 +3,6 @@ use Rattle.records.proofs.Laws.{and-put}
 use borrow.Author.Needs.{needs}
 use Rattle.records.proofs.put_nodes.Statement.{statement}
 use Rattle.records.proofs.put_nodes.Tie as tie
-use Rattle.records.proofs.put_nodes.Reads as reads
-use Rattle.records.proofs.put_nodes.Lts as lts
-use Rattle.cells.proofs.put_field.Reads as put-field-reads
-
-put-field-requires : tie.Need-put-field-requires
-put-field-requires c κs = search needs
-
-put-field-requires-2 : tie.Need-put-field-requires-2
-put-field-requires-2 c κs = search needs
-
-put-field-requires-3 : tie.Need-put-field-requires-3
-put-field-requires-3 c κs = search needs
-
-same-length : tie.Need-same-length
-same-length c = search needs
 
 returns : tie.Need-returns
 unfolding putNodes
@@ -26,4 +11,4 @@ returns c = and-put _ _ _ (and-put _ _ _ (c .before .before .before .before .bef
 pub put-nodes-spec : {M : Type 1} → statement M
 put-nodes-spec =
     tie.close
-    (tie.spec put-field-requires put-field-requires-2 put-field-requires-3 same-length returns)
+    (tie.spec (λ c κs. search needs) (λ c κs. search needs) (λ c κs. search needs) (λ c. search needs) returns)

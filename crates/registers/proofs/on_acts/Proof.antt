@@ -2,8 +2,6 @@ use Rattle.machine.specs.Changes.{onActs}
 use mathlib.Core.Path.{refl}
 use Rattle.registers.proofs.on_acts.Statement.{statement}
 use Rattle.registers.proofs.on_acts.Tie as tie
-use Rattle.registers.proofs.on_acts.Reads as reads
-use Rattle.registers.proofs.on_acts.Lts as lts
 
 returns : tie.Need-returns
 unfolding onActs

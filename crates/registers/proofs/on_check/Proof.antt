@@ -2,8 +2,6 @@ use Rattle.machine.specs.Changes.{onCheck}
 use mathlib.Core.Path.{refl}
 use Rattle.registers.proofs.on_check.Statement.{statement}
 use Rattle.registers.proofs.on_check.Tie as tie
-use Rattle.registers.proofs.on_check.Reads as reads
-use Rattle.registers.proofs.on_check.Lts as lts
 
 returns : tie.Need-returns
 unfolding onCheck

@@ -2,8 +2,6 @@ use Rattle.machine.specs.Changes.{onChoice}
 use mathlib.Core.Path.{refl}
 use Rattle.registers.proofs.on_choice.Statement.{statement}
 use Rattle.registers.proofs.on_choice.Tie as tie
-use Rattle.registers.proofs.on_choice.Reads as reads
-use Rattle.registers.proofs.on_choice.Lts as lts
 
 returns : tie.Need-returns
 unfolding onChoice

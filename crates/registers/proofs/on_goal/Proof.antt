@@ -2,8 +2,6 @@ use Rattle.machine.specs.Changes.{onGoal}
 use mathlib.Core.Path.{refl}
 use Rattle.registers.proofs.on_goal.Statement.{statement}
 use Rattle.registers.proofs.on_goal.Tie as tie
-use Rattle.registers.proofs.on_goal.Reads as reads
-use Rattle.registers.proofs.on_goal.Lts as lts
 
 returns : tie.Need-returns
 unfolding onGoal

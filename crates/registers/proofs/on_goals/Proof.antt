@@ -2,8 +2,6 @@ use Rattle.machine.specs.Changes.{onGoals}
 use mathlib.Core.Path.{refl}
 use Rattle.registers.proofs.on_goals.Statement.{statement}
 use Rattle.registers.proofs.on_goals.Tie as tie
-use Rattle.registers.proofs.on_goals.Reads as reads
-use Rattle.registers.proofs.on_goals.Lts as lts
 
 returns : tie.Need-returns
 unfolding onGoals

@@ -2,8 +2,6 @@ use Rattle.machine.specs.Changes.{onMember}
 use mathlib.Core.Path.{refl}
 use Rattle.registers.proofs.on_member.Statement.{statement}
 use Rattle.registers.proofs.on_member.Tie as tie
-use Rattle.registers.proofs.on_member.Reads as reads
-use Rattle.registers.proofs.on_member.Lts as lts
 
 returns : tie.Need-returns
 unfolding onMember

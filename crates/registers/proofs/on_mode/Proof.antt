@@ -2,8 +2,6 @@ use Rattle.machine.specs.Changes.{onMode}
 use mathlib.Core.Path.{refl}
 use Rattle.registers.proofs.on_mode.Statement.{statement}
 use Rattle.registers.proofs.on_mode.Tie as tie
-use Rattle.registers.proofs.on_mode.Reads as reads
-use Rattle.registers.proofs.on_mode.Lts as lts
 
 returns : tie.Need-returns
 unfolding onMode

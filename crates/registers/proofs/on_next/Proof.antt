@@ -2,8 +2,6 @@ use Rattle.machine.specs.Changes.{onNext}
 use mathlib.Core.Path.{refl}
 use Rattle.registers.proofs.on_next.Statement.{statement}
 use Rattle.registers.proofs.on_next.Tie as tie
-use Rattle.registers.proofs.on_next.Reads as reads
-use Rattle.registers.proofs.on_next.Lts as lts
 
 returns : tie.Need-returns
 unfolding onNext

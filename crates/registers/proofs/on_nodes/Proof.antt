@@ -2,8 +2,6 @@ use Rattle.machine.specs.Changes.{onNodes}
 use mathlib.Core.Path.{refl}
 use Rattle.registers.proofs.on_nodes.Statement.{statement}
 use Rattle.registers.proofs.on_nodes.Tie as tie
-use Rattle.registers.proofs.on_nodes.Reads as reads
-use Rattle.registers.proofs.on_nodes.Lts as lts
 
 returns : tie.Need-returns
 unfolding onNodes

@@ -2,8 +2,6 @@ use Rattle.machine.specs.Changes.{onPairs}
 use mathlib.Core.Path.{refl}
 use Rattle.registers.proofs.on_pairs.Statement.{statement}
 use Rattle.registers.proofs.on_pairs.Tie as tie
-use Rattle.registers.proofs.on_pairs.Reads as reads
-use Rattle.registers.proofs.on_pairs.Lts as lts
 
 returns : tie.Need-returns
 unfolding onPairs

@@ -2,8 +2,6 @@ use Rattle.machine.specs.Changes.{onPath}
 use mathlib.Core.Path.{refl}
 use Rattle.registers.proofs.on_path.Statement.{statement}
 use Rattle.registers.proofs.on_path.Tie as tie
-use Rattle.registers.proofs.on_path.Reads as reads
-use Rattle.registers.proofs.on_path.Lts as lts
 
 returns : tie.Need-returns
 unfolding onPath

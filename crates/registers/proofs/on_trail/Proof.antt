@@ -2,8 +2,6 @@ use Rattle.machine.specs.Changes.{onTrail}
 use mathlib.Core.Path.{refl}
 use Rattle.registers.proofs.on_trail.Statement.{statement}
 use Rattle.registers.proofs.on_trail.Tie as tie
-use Rattle.registers.proofs.on_trail.Reads as reads
-use Rattle.registers.proofs.on_trail.Lts as lts
 
 returns : tie.Need-returns
 unfolding onTrail

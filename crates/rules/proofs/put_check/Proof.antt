@@ -4,21 +4,9 @@ use borrow.Author.Needs.{needs}
 use Rattle.rules.proofs.put_check.Statement.{statement}
 use Rattle.rules.proofs.put_check.Tie as tie
 
-put-requires : tie.Need-put-requires
-put-requires c κs = search needs
-
-put-requires-2 : tie.Need-put-requires-2
-put-requires-2 c κs = search needs
-
-put-requires-3 : tie.Need-put-requires-3
-put-requires-3 c κs = search needs
-
-same-length : tie.Need-same-length
-same-length c = search needs
-
 returns : tie.Need-returns
 returns c = (refl, and-put _ _ _ _ _ (and-put _ _ _ _ _ (first-put _ _ _ (c .before .before .before .before .before .before .before .before .before .before .put .ensures)) (c .before .before .before .before .before .before .put2 .ensures)) (c .before .before .put3 .ensures))
 
 pub put-check-spec : {M : Type 1} → statement M
 put-check-spec =
-    tie.close (tie.spec put-requires put-requires-2 put-requires-3 same-length returns)
+    tie.close (tie.spec (λ c κs. search needs) (λ c κs. search needs) (λ c κs. search needs) (λ c. search needs) returns)

@@ -6,17 +6,11 @@ use Rattle.rulings.proofs.end_verdict.Tie as tie
 returns : tie.Need-returns
 returns c = end-valid _ _ _ _ (c .before .before .if1 .taken) (c .if2 .taken)
 
-add-result : tie.Need-add-result
-add-result c = search needs
-
 returns-2 : tie.Need-returns-2
 returns-2 c = end-due _ _ _ _ (c .before .before .if1 .taken) (c .if2 .left)
-
-add-result-2 : tie.Need-add-result-2
-add-result-2 c = search needs
 
 returns-3 : tie.Need-returns-3
 returns-3 c = end-bytes _ _ _ _ (c .if1 .left)
 
 pub end-verdict-spec : {M : Type 1} → statement M
-end-verdict-spec = tie.close (tie.spec returns add-result returns-2 add-result-2 returns-3)
+end-verdict-spec = tie.close (tie.spec returns (λ c. search needs) returns-2 (λ c. search needs) returns-3)

@@ -6,11 +6,8 @@ use Rattle.rulings.proofs.order_line.Tie as tie
 returns : tie.Need-returns
 returns c = λ w. order-broken _ _ _ _ _ (c .if1 .taken)
 
-count-line-requires : tie.Need-count-line-requires
-count-line-requires c κs = search needs
-
 returns-2 : tie.Need-returns-2
 returns-2 c = λ w. order-counted _ _ _ _ _ _ (c .before .if1 .left) ((c .count-line .ensures) w)
 
 pub order-line-spec : {M : Type 1} → statement M
-order-line-spec = tie.close (tie.spec returns count-line-requires returns-2)
+order-line-spec = tie.close (tie.spec returns (λ c κs. search needs) returns-2)

@@ -3,32 +3,14 @@ use borrow.Author.Needs.{needs}
 use Rattle.rulings.proofs.stage_line.Statement.{statement}
 use Rattle.rulings.proofs.stage_line.Tie as tie
 
-open-line-requires : tie.Need-open-line-requires
-open-line-requires c κs = search needs
-
 returns : tie.Need-returns
 returns c = open-due _ _ _ _ _ _ _ _ _ _ _ _ (c .before .if1 .taken) ((c .open-line .ensures) _)
-
-bind-line-requires : tie.Need-bind-line-requires
-bind-line-requires c κs = search needs
-
-same-length : tie.Need-same-length
-same-length c = search needs
 
 returns-2 : tie.Need-returns-2
 returns-2 c = bind-due _ _ _ _ _ _ _ _ _ _ _ _ (c .before .before .before .before .before .if1 .left) (c .before .before .before .before .if2 .taken) (c .before .before .bind-line .ensures)
 
-sequent-line-requires : tie.Need-sequent-line-requires
-sequent-line-requires c κs = search needs
-
-same-length-2 : tie.Need-same-length-2
-same-length-2 c = search needs
-
 returns-3 : tie.Need-returns-3
 returns-3 c = sequent-due _ _ _ _ _ _ _ _ _ _ _ _ (c .before .before .before .before .before .before .if1 .left) (c .before .before .before .before .before .if2 .left) (c .before .before .before .before .if3 .taken) (c .before .before .sequent-line .ensures)
-
-broken-requires : tie.Need-broken-requires
-broken-requires c κs = search needs
 
 returns-4 : tie.Need-returns-4
 returns-4 c = none-due _ _ _ _ _ _ _ _ _ _ _ _ (c .before .before .before .if1 .left) (c .before .before .if2 .left) (c .before .if3 .left) ((c .broken .ensures) _)
@@ -36,14 +18,5 @@ returns-4 c = none-due _ _ _ _ _ _ _ _ _ _ _ _ (c .before .before .before .if1 .
 pub stage-line-spec : {M : Type 1} → statement M
 stage-line-spec =
     tie.close
-    (tie.spec
-    open-line-requires
-    returns
-    bind-line-requires
-    same-length
-    returns-2
-    sequent-line-requires
-    same-length-2
-    returns-3
-    broken-requires
-    returns-4)
+    (tie.spec (λ c κs. search needs) returns (λ c κs. search needs) (λ c. search needs) returns-2 (λ c κs. search needs)
+    (λ c. search needs) returns-3 (λ c κs. search needs) returns-4)

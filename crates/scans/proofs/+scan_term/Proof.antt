@@ -62,54 +62,6 @@ scan-term-returns : (t : ℕ) → scan-term-lts.Need-returns (
 ) (scan-term-at t) scan-term.Post scan-term-Inv-loop scan-term-μ-loop
 scan-term-returns t c = sym (term-rank _ _ _ _ _ _ (c .if1 .taken))
 
-scan-term-byte-requires : (t : ℕ) → scan-term-lts.Need-byte-requires (
-  byte-reads.Asked,
-  byte-reads.Learnt,
-  is-mark-reads.Asked,
-  is-mark-reads.Learnt,
-  scan-symbol-reads.Asked,
-  scan-symbol-reads.Learnt,
-  name-end-reads.Asked,
-  name-end-reads.Learnt,
-  symbol-from-reads.Asked,
-  symbol-from-reads.Learnt,
-  is-applied-reads.Asked,
-  is-applied-reads.Learnt,
-  arity-reads.Asked,
-  arity-reads.Learnt,
-  scan-term-below t,
-  scan-term.Post,
-  higher-of-reads.Asked,
-  higher-of-reads.Learnt,
-  scan-close-reads.Asked,
-  scan-close-reads.Learnt,
-) (scan-term-at t) scan-term.Post scan-term-Inv-loop scan-term-μ-loop
-scan-term-byte-requires t c κs = search needs
-
-scan-term-is-mark-requires : (t : ℕ) → scan-term-lts.Need-is-mark-requires (
-  byte-reads.Asked,
-  byte-reads.Learnt,
-  is-mark-reads.Asked,
-  is-mark-reads.Learnt,
-  scan-symbol-reads.Asked,
-  scan-symbol-reads.Learnt,
-  name-end-reads.Asked,
-  name-end-reads.Learnt,
-  symbol-from-reads.Asked,
-  symbol-from-reads.Learnt,
-  is-applied-reads.Asked,
-  is-applied-reads.Learnt,
-  arity-reads.Asked,
-  arity-reads.Learnt,
-  scan-term-below t,
-  scan-term.Post,
-  higher-of-reads.Asked,
-  higher-of-reads.Learnt,
-  scan-close-reads.Asked,
-  scan-close-reads.Learnt,
-) (scan-term-at t) scan-term.Post scan-term-Inv-loop scan-term-μ-loop
-scan-term-is-mark-requires t c κs = search needs
-
 scan-term-add-scan-symbol : (t : ℕ) → scan-term-lts.Need-add-scan-symbol (
   byte-reads.Asked,
   byte-reads.Learnt,
@@ -133,30 +85,6 @@ scan-term-add-scan-symbol : (t : ℕ) → scan-term-lts.Need-add-scan-symbol (
   scan-close-reads.Learnt,
 ) (scan-term-at t) scan-term.Post scan-term-Inv-loop scan-term-μ-loop
 scan-term-add-scan-symbol t c = omega (arith, mark-inside (c .before .before .before .before .before .before .before .args .text .now) _ _ _ (c .before .before .byte .ensures) (c .before .is-mark .ensures) (c .if2 .taken))
-
-scan-term-scan-symbol-requires : (t : ℕ) → scan-term-lts.Need-scan-symbol-requires (
-  byte-reads.Asked,
-  byte-reads.Learnt,
-  is-mark-reads.Asked,
-  is-mark-reads.Learnt,
-  scan-symbol-reads.Asked,
-  scan-symbol-reads.Learnt,
-  name-end-reads.Asked,
-  name-end-reads.Learnt,
-  symbol-from-reads.Asked,
-  symbol-from-reads.Learnt,
-  is-applied-reads.Asked,
-  is-applied-reads.Learnt,
-  arity-reads.Asked,
-  arity-reads.Learnt,
-  scan-term-below t,
-  scan-term.Post,
-  higher-of-reads.Asked,
-  higher-of-reads.Learnt,
-  scan-close-reads.Asked,
-  scan-close-reads.Learnt,
-) (scan-term-at t) scan-term.Post scan-term-Inv-loop scan-term-μ-loop
-scan-term-scan-symbol-requires t c κs = search needs
 
 scan-term-returns-2 : (t : ℕ) → scan-term-lts.Need-returns-2 (
   byte-reads.Asked,
@@ -182,102 +110,6 @@ scan-term-returns-2 : (t : ℕ) → scan-term-lts.Need-returns-2 (
 ) (scan-term-at t) scan-term.Post scan-term-Inv-loop scan-term-μ-loop
 scan-term-returns-2 t c = term-mark _ _ _ _ _ _ _ _ _ (c .before .before .before .before .if1 .left) (c .before .before .before .byte .ensures) (c .before .before .is-mark .ensures) (c .before .if2 .taken) (c .scan-symbol .ensures)
 
-scan-term-name-end-requires : (t : ℕ) → scan-term-lts.Need-name-end-requires (
-  byte-reads.Asked,
-  byte-reads.Learnt,
-  is-mark-reads.Asked,
-  is-mark-reads.Learnt,
-  scan-symbol-reads.Asked,
-  scan-symbol-reads.Learnt,
-  name-end-reads.Asked,
-  name-end-reads.Learnt,
-  symbol-from-reads.Asked,
-  symbol-from-reads.Learnt,
-  is-applied-reads.Asked,
-  is-applied-reads.Learnt,
-  arity-reads.Asked,
-  arity-reads.Learnt,
-  scan-term-below t,
-  scan-term.Post,
-  higher-of-reads.Asked,
-  higher-of-reads.Learnt,
-  scan-close-reads.Asked,
-  scan-close-reads.Learnt,
-) (scan-term-at t) scan-term.Post scan-term-Inv-loop scan-term-μ-loop
-scan-term-name-end-requires t c κs = search needs
-
-scan-term-symbol-from-requires : (t : ℕ) → scan-term-lts.Need-symbol-from-requires (
-  byte-reads.Asked,
-  byte-reads.Learnt,
-  is-mark-reads.Asked,
-  is-mark-reads.Learnt,
-  scan-symbol-reads.Asked,
-  scan-symbol-reads.Learnt,
-  name-end-reads.Asked,
-  name-end-reads.Learnt,
-  symbol-from-reads.Asked,
-  symbol-from-reads.Learnt,
-  is-applied-reads.Asked,
-  is-applied-reads.Learnt,
-  arity-reads.Asked,
-  arity-reads.Learnt,
-  scan-term-below t,
-  scan-term.Post,
-  higher-of-reads.Asked,
-  higher-of-reads.Learnt,
-  scan-close-reads.Asked,
-  scan-close-reads.Learnt,
-) (scan-term-at t) scan-term.Post scan-term-Inv-loop scan-term-μ-loop
-scan-term-symbol-from-requires t c κs = search needs
-
-scan-term-is-applied-requires : (t : ℕ) → scan-term-lts.Need-is-applied-requires (
-  byte-reads.Asked,
-  byte-reads.Learnt,
-  is-mark-reads.Asked,
-  is-mark-reads.Learnt,
-  scan-symbol-reads.Asked,
-  scan-symbol-reads.Learnt,
-  name-end-reads.Asked,
-  name-end-reads.Learnt,
-  symbol-from-reads.Asked,
-  symbol-from-reads.Learnt,
-  is-applied-reads.Asked,
-  is-applied-reads.Learnt,
-  arity-reads.Asked,
-  arity-reads.Learnt,
-  scan-term-below t,
-  scan-term.Post,
-  higher-of-reads.Asked,
-  higher-of-reads.Learnt,
-  scan-close-reads.Asked,
-  scan-close-reads.Learnt,
-) (scan-term-at t) scan-term.Post scan-term-Inv-loop scan-term-μ-loop
-scan-term-is-applied-requires t c κs = search needs
-
-scan-term-arity-requires : (t : ℕ) → scan-term-lts.Need-arity-requires (
-  byte-reads.Asked,
-  byte-reads.Learnt,
-  is-mark-reads.Asked,
-  is-mark-reads.Learnt,
-  scan-symbol-reads.Asked,
-  scan-symbol-reads.Learnt,
-  name-end-reads.Asked,
-  name-end-reads.Learnt,
-  symbol-from-reads.Asked,
-  symbol-from-reads.Learnt,
-  is-applied-reads.Asked,
-  is-applied-reads.Learnt,
-  arity-reads.Asked,
-  arity-reads.Learnt,
-  scan-term-below t,
-  scan-term.Post,
-  higher-of-reads.Asked,
-  higher-of-reads.Learnt,
-  scan-close-reads.Asked,
-  scan-close-reads.Learnt,
-) (scan-term-at t) scan-term.Post scan-term-Inv-loop scan-term-μ-loop
-scan-term-arity-requires t c κs = search needs
-
 scan-term-returns-3 : (t : ℕ) → scan-term-lts.Need-returns-3 (
   byte-reads.Asked,
   byte-reads.Learnt,
@@ -301,78 +133,6 @@ scan-term-returns-3 : (t : ℕ) → scan-term-lts.Need-returns-3 (
   scan-close-reads.Learnt,
 ) (scan-term-at t) scan-term.Post scan-term-Inv-loop scan-term-μ-loop
 scan-term-returns-3 t c = term-constant _ _ _ _ _ _ _ _ _ _ _ _ (c .before .before .before .before .before .before .before .before .before .if1 .left) (c .before .before .before .before .before .before .before .before .byte .ensures) (c .before .before .before .before .before .before .before .is-mark .ensures) (c .before .before .before .before .before .before .if2 .left) (c .before .before .before .before .before .name-end .ensures) (c .before .before .before .before .symbol-from .ensures) (c .before .before .before .is-applied .ensures) (c .before .before .if3 .taken) (c .before .arity .ensures) (c .if4 .taken)
-
-scan-term-loop-holds : (t : ℕ) → scan-term-lts.Need-loop-holds (
-  byte-reads.Asked,
-  byte-reads.Learnt,
-  is-mark-reads.Asked,
-  is-mark-reads.Learnt,
-  scan-symbol-reads.Asked,
-  scan-symbol-reads.Learnt,
-  name-end-reads.Asked,
-  name-end-reads.Learnt,
-  symbol-from-reads.Asked,
-  symbol-from-reads.Learnt,
-  is-applied-reads.Asked,
-  is-applied-reads.Learnt,
-  arity-reads.Asked,
-  arity-reads.Learnt,
-  scan-term-below t,
-  scan-term.Post,
-  higher-of-reads.Asked,
-  higher-of-reads.Learnt,
-  scan-close-reads.Asked,
-  scan-close-reads.Learnt,
-) (scan-term-at t) scan-term.Post scan-term-Inv-loop scan-term-μ-loop
-scan-term-loop-holds t c = search needs
-
-scan-term-byte-requires-2 : (t : ℕ) → scan-term-lts.Need-byte-requires-2 (
-  byte-reads.Asked,
-  byte-reads.Learnt,
-  is-mark-reads.Asked,
-  is-mark-reads.Learnt,
-  scan-symbol-reads.Asked,
-  scan-symbol-reads.Learnt,
-  name-end-reads.Asked,
-  name-end-reads.Learnt,
-  symbol-from-reads.Asked,
-  symbol-from-reads.Learnt,
-  is-applied-reads.Asked,
-  is-applied-reads.Learnt,
-  arity-reads.Asked,
-  arity-reads.Learnt,
-  scan-term-below t,
-  scan-term.Post,
-  higher-of-reads.Asked,
-  higher-of-reads.Learnt,
-  scan-close-reads.Asked,
-  scan-close-reads.Learnt,
-) (scan-term-at t) scan-term.Post scan-term-Inv-loop scan-term-μ-loop
-scan-term-byte-requires-2 t c κs = search needs
-
-scan-term-sub-scan-term : (t : ℕ) → scan-term-lts.Need-sub-scan-term (
-  byte-reads.Asked,
-  byte-reads.Learnt,
-  is-mark-reads.Asked,
-  is-mark-reads.Learnt,
-  scan-symbol-reads.Asked,
-  scan-symbol-reads.Learnt,
-  name-end-reads.Asked,
-  name-end-reads.Learnt,
-  symbol-from-reads.Asked,
-  symbol-from-reads.Learnt,
-  is-applied-reads.Asked,
-  is-applied-reads.Learnt,
-  arity-reads.Asked,
-  arity-reads.Learnt,
-  scan-term-below t,
-  scan-term.Post,
-  higher-of-reads.Asked,
-  higher-of-reads.Learnt,
-  scan-close-reads.Asked,
-  scan-close-reads.Learnt,
-) (scan-term-at t) scan-term.Post scan-term-Inv-loop scan-term-μ-loop
-scan-term-sub-scan-term t c = search needs
 
 scan-term-add-scan-term : (t : ℕ) → scan-term-lts.Need-add-scan-term (
   byte-reads.Asked,
@@ -398,78 +158,6 @@ scan-term-add-scan-term : (t : ℕ) → scan-term-lts.Need-add-scan-term (
 ) (scan-term-at t) scan-term.Post scan-term-Inv-loop scan-term-μ-loop
 scan-term-add-scan-term t c = omega (arith, inside (c .before .before .before .before .before .before .before .before .before .before .before .before .before .before .before .before .before .args .text .now) _ _ _ (c .before .byte2 .ensures) (c .if5 .taken) (c .before .before .before .loop .inv .0))
 
-scan-term-scan-term-requires : (t : ℕ) → scan-term-lts.Need-scan-term-requires (
-  byte-reads.Asked,
-  byte-reads.Learnt,
-  is-mark-reads.Asked,
-  is-mark-reads.Learnt,
-  scan-symbol-reads.Asked,
-  scan-symbol-reads.Learnt,
-  name-end-reads.Asked,
-  name-end-reads.Learnt,
-  symbol-from-reads.Asked,
-  symbol-from-reads.Learnt,
-  is-applied-reads.Asked,
-  is-applied-reads.Learnt,
-  arity-reads.Asked,
-  arity-reads.Learnt,
-  scan-term-below t,
-  scan-term.Post,
-  higher-of-reads.Asked,
-  higher-of-reads.Learnt,
-  scan-close-reads.Asked,
-  scan-close-reads.Learnt,
-) (scan-term-at t) scan-term.Post scan-term-Inv-loop scan-term-μ-loop
-scan-term-scan-term-requires t c κs = search needs
-
-scan-term-enum-known-e : (t : ℕ) → scan-term-lts.Need-enum-known-e (
-  byte-reads.Asked,
-  byte-reads.Learnt,
-  is-mark-reads.Asked,
-  is-mark-reads.Learnt,
-  scan-symbol-reads.Asked,
-  scan-symbol-reads.Learnt,
-  name-end-reads.Asked,
-  name-end-reads.Learnt,
-  symbol-from-reads.Asked,
-  symbol-from-reads.Learnt,
-  is-applied-reads.Asked,
-  is-applied-reads.Learnt,
-  arity-reads.Asked,
-  arity-reads.Learnt,
-  scan-term-below t,
-  scan-term.Post,
-  higher-of-reads.Asked,
-  higher-of-reads.Learnt,
-  scan-close-reads.Asked,
-  scan-close-reads.Learnt,
-) (scan-term-at t) scan-term.Post scan-term-Inv-loop scan-term-μ-loop
-scan-term-enum-known-e t c = search needs
-
-scan-term-enum-told : (t : ℕ) → scan-term-lts.Need-enum-told (
-  byte-reads.Asked,
-  byte-reads.Learnt,
-  is-mark-reads.Asked,
-  is-mark-reads.Learnt,
-  scan-symbol-reads.Asked,
-  scan-symbol-reads.Learnt,
-  name-end-reads.Asked,
-  name-end-reads.Learnt,
-  symbol-from-reads.Asked,
-  symbol-from-reads.Learnt,
-  is-applied-reads.Asked,
-  is-applied-reads.Learnt,
-  arity-reads.Asked,
-  arity-reads.Learnt,
-  scan-term-below t,
-  scan-term.Post,
-  higher-of-reads.Asked,
-  higher-of-reads.Learnt,
-  scan-close-reads.Asked,
-  scan-close-reads.Learnt,
-) (scan-term-at t) scan-term.Post scan-term-Inv-loop scan-term-μ-loop
-scan-term-enum-told t c = search needs
-
 scan-term-returns-4 : (t : ℕ) → scan-term-lts.Need-returns-4 (
   byte-reads.Asked,
   byte-reads.Learnt,
@@ -493,78 +181,6 @@ scan-term-returns-4 : (t : ℕ) → scan-term-lts.Need-returns-4 (
   scan-close-reads.Learnt,
 ) (scan-term-at t) scan-term.Post scan-term-Inv-loop scan-term-μ-loop
 scan-term-returns-4 t c = sym (term-applied _ _ _ _ _ _ _ _ _ _ _ _ (c .before .before .before .before .before .before .before .before .before .before .before .before .before .before .before .before .if1 .left) (c .before .before .before .before .before .before .before .before .before .before .before .before .before .before .before .byte .ensures) (c .before .before .before .before .before .before .before .before .before .before .before .before .before .before .is-mark .ensures) (c .before .before .before .before .before .before .before .before .before .before .before .before .before .if2 .left) (c .before .before .before .before .before .before .before .before .before .before .before .before .name-end .ensures) (c .before .before .before .before .before .before .before .before .before .before .before .symbol-from .ensures) (c .before .before .before .before .before .before .before .before .before .before .is-applied .ensures) (c .before .before .before .before .before .before .before .before .before .if3 .taken) (c .before .before .before .before .before .before .before .before .arity .ensures) (c .before .before .before .before .before .before .before .if4 .left) ∙ (c .before .before .before .before .before .before .loop .inv .1) ∙ more-none _ _ _ _ _ _ _ _ (c .before .before .before .before .before .loop-test .taken) (c .before .before .before .before .byte2 .ensures) (c .before .before .before .if5 .taken) (c .before .before .scan-term .ensures) (c .enum-told .given .1))
-
-scan-term-higher-of-requires : (t : ℕ) → scan-term-lts.Need-higher-of-requires (
-  byte-reads.Asked,
-  byte-reads.Learnt,
-  is-mark-reads.Asked,
-  is-mark-reads.Learnt,
-  scan-symbol-reads.Asked,
-  scan-symbol-reads.Learnt,
-  name-end-reads.Asked,
-  name-end-reads.Learnt,
-  symbol-from-reads.Asked,
-  symbol-from-reads.Learnt,
-  is-applied-reads.Asked,
-  is-applied-reads.Learnt,
-  arity-reads.Asked,
-  arity-reads.Learnt,
-  scan-term-below t,
-  scan-term.Post,
-  higher-of-reads.Asked,
-  higher-of-reads.Learnt,
-  scan-close-reads.Asked,
-  scan-close-reads.Learnt,
-) (scan-term-at t) scan-term.Post scan-term-Inv-loop scan-term-μ-loop
-scan-term-higher-of-requires t c κs = search needs
-
-scan-term-sub-left : (t : ℕ) → scan-term-lts.Need-sub-left (
-  byte-reads.Asked,
-  byte-reads.Learnt,
-  is-mark-reads.Asked,
-  is-mark-reads.Learnt,
-  scan-symbol-reads.Asked,
-  scan-symbol-reads.Learnt,
-  name-end-reads.Asked,
-  name-end-reads.Learnt,
-  symbol-from-reads.Asked,
-  symbol-from-reads.Learnt,
-  is-applied-reads.Asked,
-  is-applied-reads.Learnt,
-  arity-reads.Asked,
-  arity-reads.Learnt,
-  scan-term-below t,
-  scan-term.Post,
-  higher-of-reads.Asked,
-  higher-of-reads.Learnt,
-  scan-close-reads.Asked,
-  scan-close-reads.Learnt,
-) (scan-term-at t) scan-term.Post scan-term-Inv-loop scan-term-μ-loop
-scan-term-sub-left t c = search needs
-
-scan-term-loop-less : (t : ℕ) → scan-term-lts.Need-loop-less (
-  byte-reads.Asked,
-  byte-reads.Learnt,
-  is-mark-reads.Asked,
-  is-mark-reads.Learnt,
-  scan-symbol-reads.Asked,
-  scan-symbol-reads.Learnt,
-  name-end-reads.Asked,
-  name-end-reads.Learnt,
-  symbol-from-reads.Asked,
-  symbol-from-reads.Learnt,
-  is-applied-reads.Asked,
-  is-applied-reads.Learnt,
-  arity-reads.Asked,
-  arity-reads.Learnt,
-  scan-term-below t,
-  scan-term.Post,
-  higher-of-reads.Asked,
-  higher-of-reads.Learnt,
-  scan-close-reads.Asked,
-  scan-close-reads.Learnt,
-) (scan-term-at t) scan-term.Post scan-term-Inv-loop scan-term-μ-loop
-scan-term-loop-less t c = search needs
 
 scan-term-loop-again : (t : ℕ) → scan-term-lts.Need-loop-again (
   byte-reads.Asked,
@@ -613,30 +229,6 @@ scan-term-returns-5 : (t : ℕ) → scan-term-lts.Need-returns-5 (
   scan-close-reads.Learnt,
 ) (scan-term-at t) scan-term.Post scan-term-Inv-loop scan-term-μ-loop
 scan-term-returns-5 t c = sym (term-applied _ _ _ _ _ _ _ _ _ _ _ _ (c .before .before .before .before .before .before .before .before .before .before .before .before .before .if1 .left) (c .before .before .before .before .before .before .before .before .before .before .before .before .byte .ensures) (c .before .before .before .before .before .before .before .before .before .before .before .is-mark .ensures) (c .before .before .before .before .before .before .before .before .before .before .if2 .left) (c .before .before .before .before .before .before .before .before .before .name-end .ensures) (c .before .before .before .before .before .before .before .before .symbol-from .ensures) (c .before .before .before .before .before .before .before .is-applied .ensures) (c .before .before .before .before .before .before .if3 .taken) (c .before .before .before .before .before .arity .ensures) (c .before .before .before .before .if4 .left) ∙ (c .before .before .before .loop .inv .1) ∙ more-other _ _ _ _ _ _ _ (c .before .before .loop-test .taken) (c .before .byte2 .ensures) (c .if5 .left))
-
-scan-term-scan-close-requires : (t : ℕ) → scan-term-lts.Need-scan-close-requires (
-  byte-reads.Asked,
-  byte-reads.Learnt,
-  is-mark-reads.Asked,
-  is-mark-reads.Learnt,
-  scan-symbol-reads.Asked,
-  scan-symbol-reads.Learnt,
-  name-end-reads.Asked,
-  name-end-reads.Learnt,
-  symbol-from-reads.Asked,
-  symbol-from-reads.Learnt,
-  is-applied-reads.Asked,
-  is-applied-reads.Learnt,
-  arity-reads.Asked,
-  arity-reads.Learnt,
-  scan-term-below t,
-  scan-term.Post,
-  higher-of-reads.Asked,
-  higher-of-reads.Learnt,
-  scan-close-reads.Asked,
-  scan-close-reads.Learnt,
-) (scan-term-at t) scan-term.Post scan-term-Inv-loop scan-term-μ-loop
-scan-term-scan-close-requires t c κs = search needs
 
 scan-term-returns-6 : (t : ℕ) → scan-term-lts.Need-returns-6 (
   byte-reads.Asked,
@@ -709,34 +301,9 @@ pub +scan-term-spec : {M : Type 1} → statement M
   scan-close-reads.Asked,
   scan-close-reads.Learnt,
 )
-    (scan-term-at t)
-    scan-term.Post
-    scan-term-Inv-loop
-    scan-term-μ-loop
-    (scan-term-returns t)
-    (scan-term-byte-requires t)
-    (scan-term-is-mark-requires t)
-    (scan-term-add-scan-symbol t)
-    (scan-term-scan-symbol-requires t)
-    (scan-term-returns-2 t)
-    (scan-term-name-end-requires t)
-    (scan-term-symbol-from-requires t)
-    (scan-term-is-applied-requires t)
-    (scan-term-arity-requires t)
-    (scan-term-returns-3 t)
-    (scan-term-loop-holds t)
-    (scan-term-byte-requires-2 t)
-    (scan-term-sub-scan-term t)
-    (scan-term-add-scan-term t)
-    (scan-term-scan-term-requires t)
-    (scan-term-enum-known-e t)
-    (scan-term-enum-told t)
-    (scan-term-returns-4 t)
-    (scan-term-higher-of-requires t)
-    (scan-term-sub-left t)
-    (scan-term-loop-less t)
-    (scan-term-loop-again t)
-    (scan-term-returns-5 t)
-    (scan-term-scan-close-requires t)
-    (scan-term-returns-6 t)
-    (scan-term-returns-7 t)
+    (scan-term-at t) scan-term.Post scan-term-Inv-loop scan-term-μ-loop (scan-term-returns t) (λ c κs. search needs)
+    (λ c κs. search needs) (scan-term-add-scan-symbol t) (λ c κs. search needs) (scan-term-returns-2 t) (λ c κs. search needs)
+    (λ c κs. search needs) (λ c κs. search needs) (λ c κs. search needs) (scan-term-returns-3 t) (λ c. search needs)
+    (λ c κs. search needs) (λ c. search needs) (scan-term-add-scan-term t) (λ c κs. search needs) (λ c. search needs)
+    (λ c. search needs) (scan-term-returns-4 t) (λ c κs. search needs) (λ c. search needs) (λ c. search needs)
+    (scan-term-loop-again t) (scan-term-returns-5 t) (λ c κs. search needs) (scan-term-returns-6 t) (scan-term-returns-7 t)

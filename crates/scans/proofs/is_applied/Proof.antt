@@ -3,9 +3,6 @@ use borrow.Author.Tests.{le-ltb, lt-ltb}
 use Rattle.scans.proofs.is_applied.Statement.{statement}
 use Rattle.scans.proofs.is_applied.Tie as tie
 
-is-function-requires : tie.Need-is-function-requires
-is-function-requires c κs = search needs
-
 returns : tie.Need-returns
 returns c = simp ((c .is-function .ensures), lt-ltb _ _ (c .before .if1 .taken))
 
@@ -13,4 +10,4 @@ returns-2 : tie.Need-returns-2
 returns-2 c = simp (le-ltb _ _ (c .if1 .left))
 
 pub is-applied-spec : {M : Type 1} → statement M
-is-applied-spec = tie.close (tie.spec is-function-requires returns returns-2)
+is-applied-spec = tie.close (tie.spec (λ c κs. search needs) returns returns-2)

@@ -3,15 +3,6 @@ use borrow.Author.Needs.{needs}
 use Rattle.scans.proofs.scan_level.Statement.{statement}
 use Rattle.scans.proofs.scan_level.Tie as tie
 
-read-number-requires : tie.Need-read-number-requires
-read-number-requires c κs = search needs
-
-enum-known-k : tie.Need-enum-known-k
-enum-known-k c = search needs
-
-enum-told : tie.Need-enum-told
-enum-told c = search needs
-
 returns : tie.Need-returns
 returns c = level-some _ _ _ _ _ (c .before .before .before .read-number .ensures) (c .before .k .given .1)
 
@@ -20,4 +11,4 @@ returns-2 c = level-none _ _ _ (c .before .before .read-number .ensures) (c .enu
 
 pub scan-level-spec : {M : Type 1} → statement M
 scan-level-spec =
-    tie.close (tie.spec read-number-requires enum-known-k enum-told returns returns-2)
+    tie.close (tie.spec (λ c κs. search needs) (λ c. search needs) (λ c. search needs) returns returns-2)

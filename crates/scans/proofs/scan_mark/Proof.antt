@@ -5,14 +5,8 @@ use native.Mathlib.Omega.{arith}
 use Rattle.scans.proofs.scan_mark.Statement.{statement}
 use Rattle.scans.proofs.scan_mark.Tie as tie
 
-byte-requires : tie.Need-byte-requires
-byte-requires c κs = search needs
-
 add-scan-level : tie.Need-add-scan-level
 add-scan-level c = omega (arith, inside (c .before .before .before .args .text .now) _ _ 64 (c .before .byte .ensures) (c .if1 .taken) (omega arith))
-
-scan-level-requires : tie.Need-scan-level-requires
-scan-level-requires c κs = search needs
 
 returns : tie.Need-returns
 returns c = mark-here _ _ _ _ (c .before .before .byte .ensures) (c .before .if1 .taken) (c .scan-level .ensures)
@@ -22,4 +16,4 @@ returns-2 c = mark-none _ _ _ (c .before .byte .ensures) (c .if1 .left)
 
 pub scan-mark-spec : {M : Type 1} → statement M
 scan-mark-spec =
-    tie.close (tie.spec byte-requires add-scan-level scan-level-requires returns returns-2)
+    tie.close (tie.spec (λ c κs. search needs) add-scan-level (λ c κs. search needs) returns returns-2)

@@ -3,18 +3,6 @@ use borrow.Author.Needs.{needs}
 use Rattle.scans.proofs.scan_symbol.Statement.{statement}
 use Rattle.scans.proofs.scan_symbol.Tie as tie
 
-read-number-requires : tie.Need-read-number-requires
-read-number-requires c κs = search needs
-
-enum-known-e : tie.Need-enum-known-e
-enum-known-e c = search needs
-
-scan-mark-requires : tie.Need-scan-mark-requires
-scan-mark-requires c κs = search needs
-
-enum-told : tie.Need-enum-told
-enum-told c = search needs
-
 returns : tie.Need-returns
 returns c = symbol-some _ _ _ _ _ _ (c .before .before .before .before .read-number .ensures) (c .before .before .e .given .1) (c .scan-mark .ensures)
 
@@ -24,4 +12,4 @@ returns-2 c = symbol-none _ _ _ (c .before .before .read-number .ensures) (c .en
 pub scan-symbol-spec : {M : Type 1} → statement M
 scan-symbol-spec =
     tie.close
-    (tie.spec read-number-requires enum-known-e scan-mark-requires enum-told returns returns-2)
+    (tie.spec (λ c κs. search needs) (λ c. search needs) (λ c κs. search needs) (λ c. search needs) returns returns-2)

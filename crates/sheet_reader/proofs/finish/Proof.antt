@@ -4,9 +4,6 @@ use Rattle.reader.specs.Reader.{finished}
 use Rattle.sheet_reader.proofs.finish.Statement.{statement}
 use Rattle.sheet_reader.proofs.finish.Tie as tie
 
-refused-requires : tie.Need-refused-requires
-refused-requires c κs = search needs
-
 returns : tie.Need-returns
 unfolding finished
 returns c = simp (lt-ltb _ _ (c .before .if1 .taken), c .refused .ensures)
@@ -16,4 +13,4 @@ unfolding finished
 returns-2 c = simp (le-ltb _ _ (c .if1 .left))
 
 pub finish-spec : {M : Type 1} → statement M
-finish-spec = tie.close (tie.spec refused-requires returns returns-2)
+finish-spec = tie.close (tie.spec (λ c κs. search needs) returns returns-2)

@@ -19,15 +19,6 @@ ends c = reading-line (c .before .before .before .loop .inv) (c .before .line-en
 loop-holds : tie.Need-loop-holds Inv-loop μ-loop
 loop-holds c = reading-begins _ _ (c .before .before .pre .1)
 
-line-end-requires : tie.Need-line-end-requires Inv-loop μ-loop
-line-end-requires c κs = search needs
-
-refused-requires : tie.Need-refused-requires Inv-loop μ-loop
-refused-requires c κs = search needs
-
-same-length : tie.Need-same-length Inv-loop μ-loop
-same-length c = search needs
-
 returns : tie.Need-returns Inv-loop μ-loop
 returns c =
     reading-open _ _ _ _ _ _ _
@@ -40,18 +31,6 @@ returns c =
 read-at-requires : tie.Need-read-at-requires Inv-loop μ-loop
 read-at-requires c κs = let w = ends (c .before) in (c .before .before .before .before .before .before .before .pre .0, w .from, search needs)
 
-enum-known-taken : tie.Need-enum-known-taken Inv-loop μ-loop
-enum-known-taken c = search needs
-
-enum-known-taken-2 : tie.Need-enum-known-taken-2 Inv-loop μ-loop
-enum-known-taken-2 c = search needs
-
-refused-requires-2 : tie.Need-refused-requires-2 Inv-loop μ-loop
-refused-requires-2 c κs = search needs
-
-same-length-2 : tie.Need-same-length-2 Inv-loop μ-loop
-same-length-2 c = search needs
-
 returns-2 : tie.Need-returns-2 Inv-loop μ-loop
 returns-2 c =
     reading-stops _ _ _ _ _ _ _ _ _
@@ -63,20 +42,11 @@ returns-2 c =
     (c .before .before .taken2 .given .1)
     (c .refused2 .ensures)
 
-enum-known-taken-3 : tie.Need-enum-known-taken-3 Inv-loop μ-loop
-enum-known-taken-3 c = search needs
-
 add-finish : tie.Need-add-finish Inv-loop μ-loop
 add-finish c = let w = ends (c .before .before .before .before .before .before .before) in omega (arith, c .before .before .before .before .before .before .before .before .before .before .before .before .before .pre .0)
 
 add-finish-2 : tie.Need-add-finish-2 Inv-loop μ-loop
 add-finish-2 c = let w = ends (c .before .before .before .before .before .before .before) in omega (arith, c .before .before .before .before .before .before .before .before .before .before .before .before .before .pre .0)
-
-finish-requires : tie.Need-finish-requires Inv-loop μ-loop
-finish-requires c κs = search needs
-
-same-length-3 : tie.Need-same-length-3 Inv-loop μ-loop
-same-length-3 c = search needs
 
 returns-3 : tie.Need-returns-3 Inv-loop μ-loop
 returns-3 c =
@@ -108,42 +78,13 @@ loop-again c =
     (c .before .before .before .before .before .read-at .ensures) _
     (c .before .taken .given .1)
 
-refused-requires-3 : tie.Need-refused-requires-3 Inv-loop μ-loop
-refused-requires-3 c κs = search needs
-
-same-length-4 : tie.Need-same-length-4 Inv-loop μ-loop
-same-length-4 c = search needs
-
 returns-4 : tie.Need-returns-4 Inv-loop μ-loop
 returns-4 c = reading-none _ _ _ _ _ _ _ (c .before .before .loop .inv) (c .before .loop-test .left) (c .refused3 .ensures)
 
 pub read-sheet-spec : {M : Type 1} → statement M
 read-sheet-spec =
     tie.close
-    (tie.spec
-    Inv-loop
-    μ-loop
-    loop-holds
-    line-end-requires
-    refused-requires
-    same-length
-    returns
-    read-at-requires
-    enum-known-taken
-    enum-known-taken-2
-    refused-requires-2
-    same-length-2
-    returns-2
-    enum-known-taken-3
-    add-finish
-    add-finish-2
-    finish-requires
-    same-length-3
-    returns-3
-    add-at
-    add-line
-    loop-less
-    loop-again
-    refused-requires-3
-    same-length-4
-    returns-4)
+    (tie.spec Inv-loop μ-loop loop-holds (λ c κs. search needs) (λ c κs. search needs) (λ c. search needs) returns
+    read-at-requires (λ c. search needs) (λ c. search needs) (λ c κs. search needs) (λ c. search needs) returns-2
+    (λ c. search needs) add-finish add-finish-2 (λ c κs. search needs) (λ c. search needs) returns-3 add-at add-line loop-less
+    loop-again (λ c κs. search needs) (λ c. search needs) returns-4)

@@ -4,9 +4,6 @@ use native.Mathlib.Omega.{arith}
 use Rattle.short_texts.proofs.text_limit.Statement.{statement}
 use Rattle.short_texts.proofs.text_limit.Tie as tie
 
-cast-result : tie.Need-cast-result
-cast-result c = search needs
-
 returns : tie.Need-returns
 unfolding textLimit
 returns c = omega arith
@@ -16,4 +13,4 @@ unfolding textLimit
 returns-2 c = omega arith
 
 pub text-limit-spec : {M : Type 1} → statement M
-text-limit-spec = tie.close (tie.spec cast-result returns returns-2)
+text-limit-spec = tie.close (tie.spec (λ c. search needs) returns returns-2)

@@ -4,19 +4,10 @@ use borrow.Author.Needs.{needs}
 use Rattle.short_texts.proofs.write_spent.Statement.{statement}
 use Rattle.short_texts.proofs.write_spent.Tie as tie
 
-slice-aggregate-write-short : tie.Need-slice-aggregate-write-short
-slice-aggregate-write-short c = search needs
-
-write-short-requires : tie.Need-write-short-requires
-write-short-requires c κs = search needs
-
-same-length : tie.Need-same-length
-same-length c = search needs
-
 returns : tie.Need-returns
 unfolding writeSpent ascii
 returns c = c .before .before .write-short .ensures
 
 pub write-spent-spec : {M : Type 1} → statement M
 write-spent-spec =
-    tie.close (tie.spec slice-aggregate-write-short write-short-requires same-length returns)
+    tie.close (tie.spec (λ c. search needs) (λ c κs. search needs) (λ c. search needs) returns)

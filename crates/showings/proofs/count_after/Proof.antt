@@ -3,12 +3,6 @@ use borrow.Author.Needs.{needs}
 use Rattle.showings.proofs.count_after.Statement.{statement}
 use Rattle.showings.proofs.count_after.Tie as tie
 
-number-after-requires : tie.Need-number-after-requires
-number-after-requires c κs = search needs
-
-add-result : tie.Need-add-result
-add-result c = search needs
-
 returns : tie.Need-returns
 returns c = count-new _ _ _ _ (c .before .number-after .ensures .0) (c .if1 .taken)
 
@@ -17,4 +11,4 @@ returns-2 c = count-old _ _ _ _ (c .before .number-after .ensures .0) (c .if1 .l
 
 pub count-after-spec : {M : Type 1} → statement M
 count-after-spec =
-    tie.close (tie.spec number-after-requires add-result returns returns-2)
+    tie.close (tie.spec (λ c κs. search needs) (λ c. search needs) returns returns-2)

@@ -3,20 +3,8 @@ use borrow.Author.Needs.{needs}
 use Rattle.showings.proofs.show_at.Statement.{statement}
 use Rattle.showings.proofs.show_at.Tie as tie
 
-is-symbol-requires : tie.Need-is-symbol-requires
-is-symbol-requires c κs = search needs
-
-byte-requires : tie.Need-byte-requires
-byte-requires c κs = search needs
-
-show-made-requires : tie.Need-show-made-requires
-show-made-requires c κs = search needs
-
 returns : tie.Need-returns
 returns c = at-made _ _ _ _ _ _ _ (c .before .before .before .before .is-symbol .ensures) (c .before .before .before .if1 .taken) (c .before .before .byte .ensures) (c .before .if2 .taken) (c .show-made .ensures)
-
-show-leftover-requires : tie.Need-show-leftover-requires
-show-leftover-requires c κs = search needs
 
 returns-2 : tie.Need-returns-2
 returns-2 c = at-leftover _ _ _ _ _ _ _ (c .before .before .before .before .is-symbol .ensures) (c .before .before .before .if1 .taken) (c .before .before .byte .ensures) (c .before .if2 .left) (c .show-leftover .ensures)
@@ -27,11 +15,5 @@ returns-3 c = at-none _ _ _ _ _ (c .before .is-symbol .ensures) (c .if1 .left)
 pub show-at-spec : {M : Type 1} → statement M
 show-at-spec =
     tie.close
-    (tie.spec
-    is-symbol-requires
-    byte-requires
-    show-made-requires
-    returns
-    show-leftover-requires
-    returns-2
+    (tie.spec (λ c κs. search needs) (λ c κs. search needs) (λ c κs. search needs) returns (λ c κs. search needs) returns-2
     returns-3)

@@ -12,26 +12,8 @@ Inv-loop text i e m l at₀ made₀ leftover₀ at made leftover = showFrom (e -
 abbrev μ-loop : tie.MeasureT-loop
 μ-loop text i e m l at₀ made₀ leftover₀ at made leftover = e - at
 
-loop-holds : tie.Need-loop-holds Inv-loop μ-loop
-loop-holds c = search needs
-
-show-at-requires : tie.Need-show-at-requires Inv-loop μ-loop
-show-at-requires c κs = search needs
-
-enum-known-p : tie.Need-enum-known-p Inv-loop μ-loop
-enum-known-p c = search needs
-
-enum-told : tie.Need-enum-told Inv-loop μ-loop
-enum-told c = search needs
-
 returns : tie.Need-returns Inv-loop μ-loop
 returns c = sym ((c .before .before .before .before .loop .inv) ∙ show-wrong _ _ _ _ _ _ (c .before .before .before .loop-test .taken) (c .before .before .show-at .ensures) (c .enum-told .given .1))
-
-add-at : tie.Need-add-at Inv-loop μ-loop
-add-at c = search needs
-
-loop-less : tie.Need-loop-less Inv-loop μ-loop
-loop-less c = search needs
 
 loop-again : tie.Need-loop-again Inv-loop μ-loop
 loop-again c = (c .before .before .before .before .before .loop .inv) ∙ show-on _ _ _ _ _ _ _ _ (c .before .before .before .before .loop-test .taken) (c .before .before .before .show-at .ensures) (c .before .p .given .1)
@@ -42,15 +24,5 @@ returns-2 c = sym ((c .before .loop .inv) ∙ show-end _ _ _ _ _ (c .loop-test .
 pub show-from-spec : {M : Type 1} → statement M
 show-from-spec =
     tie.close
-    (tie.spec
-    Inv-loop
-    μ-loop
-    loop-holds
-    show-at-requires
-    enum-known-p
-    enum-told
-    returns
-    add-at
-    loop-less
-    loop-again
-    returns-2)
+    (tie.spec Inv-loop μ-loop (λ c. search needs) (λ c κs. search needs) (λ c. search needs) (λ c. search needs) returns
+    (λ c. search needs) (λ c. search needs) loop-again returns-2)

@@ -3,12 +3,6 @@ use borrow.Author.Needs.{needs}
 use Rattle.showings.proofs.show_made.Statement.{statement}
 use Rattle.showings.proofs.show_made.Tie as tie
 
-in-order-requires : tie.Need-in-order-requires
-in-order-requires c κs = search needs
-
-count-after-requires : tie.Need-count-after-requires
-count-after-requires c κs = search needs
-
 returns : tie.Need-returns
 returns c = made-right _ _ _ _ _ _ (c .before .before .in-order .ensures) (c .before .if1 .taken) (c .count-after .ensures)
 
@@ -16,4 +10,4 @@ returns-2 : tie.Need-returns-2
 returns-2 c = made-wrong _ _ _ _ _ (c .before .in-order .ensures) (c .if1 .left)
 
 pub show-made-spec : {M : Type 1} → statement M
-show-made-spec = tie.close (tie.spec in-order-requires count-after-requires returns returns-2)
+show-made-spec = tie.close (tie.spec (λ c κs. search needs) (λ c κs. search needs) returns returns-2)

@@ -3,11 +3,8 @@ use borrow.Author.Needs.{needs}
 use Rattle.stages.proofs.broken.Statement.{statement}
 use Rattle.stages.proofs.broken.Tie as tie
 
-on-stage-requires : tie.Need-on-stage-requires
-on-stage-requires c κs = search needs
-
 returns : tie.Need-returns
 returns c = line-wrong _ _ (c .on-stage .ensures)
 
 pub broken-spec : {M : Type 1} → statement M
-broken-spec = tie.close (tie.spec on-stage-requires returns)
+broken-spec = tie.close (tie.spec (λ c κs. search needs) returns)

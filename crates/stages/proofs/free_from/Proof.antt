@@ -12,23 +12,8 @@ Inv-loop mask v at₀ at = freeFrom (8 - v) mask v ≡ freeFrom (8 - at) mask at
 abbrev μ-loop : tie.MeasureT-loop
 μ-loop mask v at₀ at = 8 - at
 
-loop-holds : tie.Need-loop-holds Inv-loop μ-loop
-loop-holds c = search needs
-
-cast-bit-of : tie.Need-cast-bit-of Inv-loop μ-loop
-cast-bit-of c = search needs
-
-bit-of-requires : tie.Need-bit-of-requires Inv-loop μ-loop
-bit-of-requires c κs = search needs
-
 returns : tie.Need-returns Inv-loop μ-loop
 returns c = sym ((c .before .before .before .loop .inv) ∙ free-here _ _ _ (c .before .before .loop-test .taken) (c .before .bit-of .ensures) (c .if1 .taken))
-
-add-at : tie.Need-add-at Inv-loop μ-loop
-add-at c = search needs
-
-loop-less : tie.Need-loop-less Inv-loop μ-loop
-loop-less c = search needs
 
 loop-again : tie.Need-loop-again Inv-loop μ-loop
 loop-again c = (c .before .before .before .loop .inv) ∙ free-on _ _ _ (c .before .before .loop-test .taken) (c .before .bit-of .ensures) (c .if1 .left)
@@ -39,14 +24,5 @@ returns-2 c = sym ((c .before .loop .inv) ∙ free-none _ _ (c .loop-test .left)
 pub free-from-spec : {M : Type 1} → statement M
 free-from-spec =
     tie.close
-    (tie.spec
-    Inv-loop
-    μ-loop
-    loop-holds
-    cast-bit-of
-    bit-of-requires
-    returns
-    add-at
-    loop-less
-    loop-again
-    returns-2)
+    (tie.spec Inv-loop μ-loop (λ c. search needs) (λ c. search needs) (λ c κs. search needs) returns (λ c. search needs)
+    (λ c. search needs) loop-again returns-2)

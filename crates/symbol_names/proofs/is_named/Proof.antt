@@ -3,21 +3,6 @@ use borrow.Author.Needs.{needs}
 use Rattle.symbol_names.proofs.is_named.Statement.{statement}
 use Rattle.symbol_names.proofs.is_named.Tie as tie
 
-name-size-requires : tie.Need-name-size-requires
-name-size-requires c κs = search needs
-
-monus-requires : tie.Need-monus-requires
-monus-requires c κs = search needs
-
-name-start-requires : tie.Need-name-start-requires
-name-start-requires c κs = search needs
-
-wide-requires : tie.Need-wide-requires
-wide-requires c κs = search needs
-
-same-range-requires : tie.Need-same-range-requires
-same-range-requires c κs = search needs
-
 returns : tie.Need-returns
 returns c = named-same _ _ _ _ _ _ _ _ _ _ _ (c .before .before .before .before .before .name-size .ensures .0) (c .before .before .before .before .monus .ensures) (c .before .before .before .if1 .taken) (c .before .before .name-start .ensures) (c .before .wide .ensures .0) (c .same-range .ensures)
 
@@ -27,11 +12,5 @@ returns-2 c = named-other _ _ _ _ _ _ _ _ (c .before .before .name-size .ensures
 pub is-named-spec : {M : Type 1} → statement M
 is-named-spec =
     tie.close
-    (tie.spec
-    name-size-requires
-    monus-requires
-    name-start-requires
-    wide-requires
-    same-range-requires
-    returns
-    returns-2)
+    (tie.spec (λ c κs. search needs) (λ c κs. search needs) (λ c κs. search needs) (λ c κs. search needs) (λ c κs. search needs)
+    returns returns-2)

@@ -3,21 +3,6 @@ use borrow.Author.Needs.{needs}
 use Rattle.symbol_names.proofs.name_size.Statement.{statement}
 use Rattle.symbol_names.proofs.name_size.Tie as tie
 
-name-length-requires : tie.Need-name-length-requires
-name-length-requires c κs = search needs
-
-wide-requires : tie.Need-wide-requires
-wide-requires c κs = search needs
-
-name-start-requires : tie.Need-name-start-requires
-name-start-requires c κs = search needs
-
-wide-requires-2 : tie.Need-wide-requires-2
-wide-requires-2 c κs = search needs
-
-monus-requires : tie.Need-monus-requires
-monus-requires c κs = search needs
-
 returns : tie.Need-returns
 unfolding nameSize
 returns c = search needs
@@ -29,11 +14,5 @@ returns-2 c = search needs
 pub name-size-spec : {M : Type 1} → statement M
 name-size-spec =
     tie.close
-    (tie.spec
-    name-length-requires
-    wide-requires
-    name-start-requires
-    wide-requires-2
-    monus-requires
-    returns
-    returns-2)
+    (tie.spec (λ c κs. search needs) (λ c κs. search needs) (λ c κs. search needs) (λ c κs. search needs) (λ c κs. search needs)
+    returns returns-2)

@@ -15,17 +15,8 @@ abbrev μ-loop : tie.MeasureT-loop
 loop-holds : tie.Need-loop-holds Inv-loop μ-loop
 loop-holds c = (search needs, symbol-start _ _ _ _ _ _)
 
-is-named-requires : tie.Need-is-named-requires Inv-loop μ-loop
-is-named-requires c κs = search needs
-
 returns : tie.Need-returns Inv-loop μ-loop
 returns c = sym ((c .before .before .before .loop .inv .1) ∙ symbol-here _ _ _ _ _ _ _ _ (c .before .before .loop-test .taken) (c .before .is-named .ensures) (c .if1 .taken))
-
-add-k : tie.Need-add-k Inv-loop μ-loop
-add-k c = search needs
-
-loop-less : tie.Need-loop-less Inv-loop μ-loop
-loop-less c = search needs
 
 loop-again : tie.Need-loop-again Inv-loop μ-loop
 loop-again c = (search needs, (c .before .before .before .loop .inv .1) ∙ symbol-on _ _ _ _ _ _ _ _ (c .before .before .loop-test .taken) (c .before .is-named .ensures) (c .if1 .left))
@@ -36,13 +27,5 @@ returns-2 c = sym ((c .before .loop .inv .1) ∙ symbol-stop _ _ _ _ _ _ _ (c .l
 pub symbol-from-spec : {M : Type 1} → statement M
 symbol-from-spec =
     tie.close
-    (tie.spec
-    Inv-loop
-    μ-loop
-    loop-holds
-    is-named-requires
-    returns
-    add-k
-    loop-less
-    loop-again
+    (tie.spec Inv-loop μ-loop loop-holds (λ c κs. search needs) returns (λ c. search needs) (λ c. search needs) loop-again
     returns-2)

@@ -5,9 +5,6 @@ use Prim.Native.Nat.{_-_, _≤_}
 use borrow.Author.Needs.{needs}
 use Rattle.symbols.proofs.find_name.Statement.{statement}
 use Rattle.symbols.proofs.find_name.Tie as tie
-use Rattle.symbols.proofs.find_name.Reads as reads
-use Rattle.symbols.proofs.find_name.Lts as lts
-use Rattle.symbols.proofs.name_is.Reads as name-is-reads
 
 abbrev Inv-loop : tie.InvT-loop
 Inv-loop sheet t count name i₀ i = (i ≤ count) × (findName sheet t count name ≡ findFrom (count - i) sheet t i name)
@@ -18,17 +15,8 @@ abbrev μ-loop : tie.MeasureT-loop
 loop-holds : tie.Need-loop-holds Inv-loop μ-loop
 loop-holds c = (search needs, find-first _ _ _ _)
 
-name-is-requires : tie.Need-name-is-requires Inv-loop μ-loop
-name-is-requires c κs = search needs
-
 returns : tie.Need-returns Inv-loop μ-loop
 returns c = sym (c .before .before .before .loop .inv .1 ∙ find-here _ _ _ _ _ _ (c .before .before .loop-test .taken) (c .before .name-is .ensures) (c .if1 .taken))
-
-add-i : tie.Need-add-i Inv-loop μ-loop
-add-i c = search needs
-
-loop-less : tie.Need-loop-less Inv-loop μ-loop
-loop-less c = search needs
 
 loop-again : tie.Need-loop-again Inv-loop μ-loop
 loop-again c = (search needs, c .before .before .before .loop .inv .1 ∙ find-on _ _ _ _ _ _ (c .before .before .loop-test .taken) (c .before .name-is .ensures) (c .if1 .left))
@@ -39,13 +27,5 @@ returns-2 c = sym (c .before .loop .inv .1 ∙ find-end _ _ _ _ _ (c .loop-test 
 pub find-name-spec : {M : Type 1} → statement M
 find-name-spec =
     tie.close
-    (tie.spec
-    Inv-loop
-    μ-loop
-    loop-holds
-    name-is-requires
-    returns
-    add-i
-    loop-less
-    loop-again
+    (tie.spec Inv-loop μ-loop loop-holds (λ c κs. search needs) returns (λ c. search needs) (λ c. search needs) loop-again
     returns-2)

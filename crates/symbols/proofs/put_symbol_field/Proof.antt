@@ -1,25 +1,6 @@
 use borrow.Author.Needs.{needs}
 use Rattle.symbols.proofs.put_symbol_field.Statement.{statement}
 use Rattle.symbols.proofs.put_symbol_field.Tie as tie
-use Rattle.symbols.proofs.put_symbol_field.Reads as reads
-use Rattle.symbols.proofs.put_symbol_field.Lts as lts
-use Rattle.memory.proofs.put.Reads as put-reads
-use Rattle.memory.proofs.wide.Reads as wide-reads
-
-wide-requires : tie.Need-wide-requires
-wide-requires c κs = search needs
-
-mul-put : tie.Need-mul-put
-mul-put c = search needs
-
-add-put : tie.Need-add-put
-add-put c = search needs
-
-put-requires : tie.Need-put-requires
-put-requires c κs = search needs
-
-same-length : tie.Need-same-length
-same-length c = search needs
 
 returns : tie.Need-returns
 returns c =
@@ -27,4 +8,4 @@ returns c =
 
 pub put-symbol-field-spec : {M : Type 1} → statement M
 put-symbol-field-spec =
-    tie.close (tie.spec wide-requires mul-put add-put put-requires same-length returns)
+    tie.close (tie.spec (λ c κs. search needs) (λ c. search needs) (λ c. search needs) (λ c κs. search needs) (λ c. search needs) returns)

@@ -6,9 +6,6 @@ use Prim.Native.Nat.{_+_, _-_, _≤_}
 use borrow.Author.Needs.{needs}
 use Rattle.symbols.proofs.same_at.Statement.{statement}
 use Rattle.symbols.proofs.same_at.Tie as tie
-use Rattle.symbols.proofs.same_at.Reads as reads
-use Rattle.symbols.proofs.same_at.Lts as lts
-use Rattle.memory.proofs.byte.Reads as byte-reads
 
 abbrev Inv-loop : tie.InvT-loop
 Inv-loop sheet at name i₀ i = (i ≤ length name) × (sameAt sheet at name ≡ sameAt sheet (at + i) (drop i name))
@@ -19,23 +16,8 @@ abbrev μ-loop : tie.MeasureT-loop
 loop-holds : tie.Need-loop-holds Inv-loop μ-loop
 loop-holds c = (search needs, same-none _ _ _)
 
-add-byte : tie.Need-add-byte Inv-loop μ-loop
-add-byte c = search needs
-
-byte-requires : tie.Need-byte-requires Inv-loop μ-loop
-byte-requires c κs = search needs
-
-shared-slice-read-if1 : tie.Need-shared-slice-read-if1 Inv-loop μ-loop
-shared-slice-read-if1 c = search needs
-
 returns : tie.Need-returns Inv-loop μ-loop
 returns c = sym (c .before .before .before .before .loop .inv .1 ∙ same-off _ _ _ _ _ (c .before .before .before .loop-test .taken) (c .before .before .byte .ensures) (c .if1 .taken))
-
-add-i : tie.Need-add-i Inv-loop μ-loop
-add-i c = search needs
-
-loop-less : tie.Need-loop-less Inv-loop μ-loop
-loop-less c = search needs
 
 loop-again : tie.Need-loop-again Inv-loop μ-loop
 loop-again c = (search needs, c .before .before .before .before .loop .inv .1 ∙ same-on _ _ _ _ _ (c .before .before .before .loop-test .taken) (c .before .before .byte .ensures) (c .if1 .left))
@@ -46,15 +28,5 @@ returns-2 c = sym (c .before .loop .inv .1 ∙ same-end _ _ _ _ (c .loop-test .l
 pub same-at-spec : {M : Type 1} → statement M
 same-at-spec =
     tie.close
-    (tie.spec
-    Inv-loop
-    μ-loop
-    loop-holds
-    add-byte
-    byte-requires
-    shared-slice-read-if1
-    returns
-    add-i
-    loop-less
-    loop-again
-    returns-2)
+    (tie.spec Inv-loop μ-loop loop-holds (λ c. search needs) (λ c κs. search needs) (λ c. search needs) returns
+    (λ c. search needs) (λ c. search needs) loop-again returns-2)

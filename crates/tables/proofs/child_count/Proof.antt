@@ -2,12 +2,6 @@ use Rattle.tables.specs.Layout.{childCount}
 use borrow.Author.Needs.{needs}
 use Rattle.tables.proofs.child_count.Statement.{statement}
 use Rattle.tables.proofs.child_count.Tie as tie
-use Rattle.tables.proofs.child_count.Reads as reads
-use Rattle.tables.proofs.child_count.Lts as lts
-use Rattle.tables.proofs.node_field.Reads as node-field-reads
-
-node-field-requires : tie.Need-node-field-requires
-node-field-requires c κs = search needs
 
 returns : tie.Need-returns
 unfolding childCount
@@ -15,4 +9,4 @@ returns c =
     simp (childCount, ← c .node-field .ensures)
 
 pub child-count-spec : {M : Type 1} → statement M
-child-count-spec = tie.close (tie.spec node-field-requires returns)
+child-count-spec = tie.close (tie.spec (λ c κs. search needs) returns)

@@ -1,9 +1,6 @@
 use borrow.Author.Needs.{needs}
 use Rattle.tables.proofs.is_goal.Statement.{statement}
 use Rattle.tables.proofs.is_goal.Tie as tie
-use Rattle.tables.proofs.is_goal.Reads as reads
-use Rattle.tables.proofs.is_goal.Lts as lts
-use Rattle.tables.proofs.goal_bit.Reads as goal-bit-reads
 
 -- src/lib.rt:79:5
 goal-bit-requires : tie.Need-goal-bit-requires

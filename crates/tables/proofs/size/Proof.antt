@@ -2,12 +2,6 @@ use Rattle.tables.specs.Layout.{sizeOf}
 use borrow.Author.Needs.{needs}
 use Rattle.tables.proofs.size.Statement.{statement}
 use Rattle.tables.proofs.size.Tie as tie
-use Rattle.tables.proofs.size.Reads as reads
-use Rattle.tables.proofs.size.Lts as lts
-use Rattle.tables.proofs.info.Reads as info-reads
-
-info-requires : tie.Need-info-requires
-info-requires c κs = search needs
 
 returns : tie.Need-returns
 unfolding sizeOf
@@ -15,4 +9,4 @@ returns c =
     (simp (sizeOf, ← c .info .ensures), search needs)
 
 pub size-spec : {M : Type 1} → statement M
-size-spec = tie.close (tie.spec info-requires returns)
+size-spec = tie.close (tie.spec (λ c κs. search needs) returns)

@@ -4,9 +4,6 @@ use borrow.Author.Needs.{needs}
 use Rattle.telling.proofs.report.Statement.{statement}
 use Rattle.telling.proofs.report.Tie as tie
 
-refused-requires : tie.Need-refused-requires
-refused-requires c κs = search needs
-
 returns : tie.Need-returns
 unfolding reported
 returns c = simp (reported, ← c .refused .ensures, lt-ltb _ _ (c .before .if1 .taken))
@@ -16,4 +13,4 @@ unfolding reported
 returns-2 c = simp (reported, le-ltb _ _ (c .if1 .left))
 
 pub report-spec : {M : Type 1} → statement M
-report-spec = tie.close (tie.spec refused-requires returns returns-2)
+report-spec = tie.close (tie.spec (λ c κs. search needs) returns returns-2)

@@ -4,14 +4,8 @@ use mathlib.Core.Path.{sym}
 use Rattle.tokens.proofs.is_name_byte.Statement.{statement}
 use Rattle.tokens.proofs.is_name_byte.Tie as tie
 
-is-letter-requires : tie.Need-is-letter-requires
-is-letter-requires c κs = search needs
-
 returns : tie.Need-returns
 returns c = sym (name-letter _ _ (c .before .is-letter .ensures) (c .if1 .taken))
-
-is-digit-requires : tie.Need-is-digit-requires
-is-digit-requires c κs = search needs
 
 returns-2 : tie.Need-returns-2
 returns-2 c = sym (name-digit _ _ (c .before .is-digit .ensures) (c .if2 .taken))
@@ -24,4 +18,4 @@ returns-4 c = sym (name-none _ _ _ (c .before .before .before .before .is-letter
 
 pub is-name-byte-spec : {M : Type 1} → statement M
 is-name-byte-spec =
-    tie.close (tie.spec is-letter-requires returns is-digit-requires returns-2 returns-3 returns-4)
+    tie.close (tie.spec (λ c κs. search needs) returns (λ c κs. search needs) returns-2 returns-3 returns-4)

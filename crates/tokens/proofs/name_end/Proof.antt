@@ -16,18 +16,6 @@ abbrev μ-loop : tie.MeasureT-loop
 loop-holds : tie.Need-loop-holds Inv-loop μ-loop
 loop-holds c = end-start _ _
 
-shared-slice-read-is-name-byte : tie.Need-shared-slice-read-is-name-byte Inv-loop μ-loop
-shared-slice-read-is-name-byte c = search needs
-
-is-name-byte-requires : tie.Need-is-name-byte-requires Inv-loop μ-loop
-is-name-byte-requires c κs = search needs
-
-add-at : tie.Need-add-at Inv-loop μ-loop
-add-at c = search needs
-
-loop-less : tie.Need-loop-less Inv-loop μ-loop
-loop-less c = search needs
-
 loop-again : tie.Need-loop-again Inv-loop μ-loop
 loop-again c = (c .before .before .before .before .loop .inv) ∙ end-on (c .before .before .before .before .before .before .args .text .now) _ _ (c .before .before .before .loop-test .taken) (c .before .is-name-byte .ensures) (c .if1 .taken)
 
@@ -40,14 +28,5 @@ returns-2 c = sym ((c .before .loop .inv) ∙ end-stop (c .before .before .befor
 pub name-end-spec : {M : Type 1} → statement M
 name-end-spec =
     tie.close
-    (tie.spec
-    Inv-loop
-    μ-loop
-    loop-holds
-    shared-slice-read-is-name-byte
-    is-name-byte-requires
-    add-at
-    loop-less
-    loop-again
-    returns
-    returns-2)
+    (tie.spec Inv-loop μ-loop loop-holds (λ c. search needs) (λ c κs. search needs) (λ c. search needs) (λ c. search needs)
+    loop-again returns returns-2)

@@ -3,12 +3,6 @@ use borrow.Author.Needs.{needs}
 use Rattle.tokens.proofs.number_zero.Statement.{statement}
 use Rattle.tokens.proofs.number_zero.Tie as tie
 
-byte-requires : tie.Need-byte-requires
-byte-requires c κs = search needs
-
-is-digit-requires : tie.Need-is-digit-requires
-is-digit-requires c κs = search needs
-
 returns : tie.Need-returns
 unfolding numberZero
 returns c = simp (numberZero, ← (c .before .before .byte .ensures), ← (c .before .is-digit .ensures), (c .if1 .taken))
@@ -18,4 +12,4 @@ unfolding numberZero
 returns-2 c = simp (numberZero, ← (c .before .before .byte .ensures), ← (c .before .is-digit .ensures), (c .if1 .left))
 
 pub number-zero-spec : {M : Type 1} → statement M
-number-zero-spec = tie.close (tie.spec byte-requires is-digit-requires returns returns-2)
+number-zero-spec = tie.close (tie.spec (λ c κs. search needs) (λ c κs. search needs) returns returns-2)

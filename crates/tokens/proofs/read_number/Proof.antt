@@ -6,17 +6,8 @@ use native.Mathlib.Omega.{arith}
 use Rattle.tokens.proofs.read_number.Statement.{statement}
 use Rattle.tokens.proofs.read_number.Tie as tie
 
-byte-requires : tie.Need-byte-requires
-byte-requires c κs = search needs
-
-is-digit-requires : tie.Need-is-digit-requires
-is-digit-requires c κs = search needs
-
 add-number-zero : tie.Need-add-number-zero
 add-number-zero c = omega (arith, digit-inside (c .before .before .before .before .before .args .text .now) _ _ _ (c .before .before .before .byte .ensures) (c .before .before .is-digit .ensures) (c .before .if1 .taken))
-
-number-zero-requires : tie.Need-number-zero-requires
-number-zero-requires c κs = search needs
 
 returns : tie.Need-returns
 unfolding readNumber
@@ -27,12 +18,6 @@ add-number-from c = omega (arith, digit-inside (c .before .before .before .befor
 
 sub-number-from : tie.Need-sub-number-from
 sub-number-from c = digit-least _ _ (c .before .before .is-digit .ensures) (c .before .if1 .taken)
-
-cast-number-from : tie.Need-cast-number-from
-cast-number-from c = search needs
-
-number-from-requires : tie.Need-number-from-requires
-number-from-requires c κs = search needs
 
 returns-2 : tie.Need-returns-2
 unfolding readNumber
@@ -45,15 +30,5 @@ returns-3 c = simp (readNumber, ← (c .before .before .byte .ensures), ← (c .
 pub read-number-spec : {M : Type 1} → statement M
 read-number-spec =
     tie.close
-    (tie.spec
-    byte-requires
-    is-digit-requires
-    add-number-zero
-    number-zero-requires
-    returns
-    add-number-from
-    sub-number-from
-    cast-number-from
-    number-from-requires
-    returns-2
-    returns-3)
+    (tie.spec (λ c κs. search needs) (λ c κs. search needs) add-number-zero (λ c κs. search needs) returns add-number-from
+    sub-number-from (λ c. search needs) (λ c κs. search needs) returns-2 returns-3)

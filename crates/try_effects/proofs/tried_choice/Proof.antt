@@ -2,12 +2,6 @@ use borrow.Author.Needs.{needs}
 use Rattle.try_effects.proofs.tried_choice.Statement.{statement}
 use Rattle.try_effects.proofs.tried_choice.Tie as tie
 
-members-left-requires : tie.Need-members-left-requires
-members-left-requires c κs = search needs
-
-up-requires : tie.Need-up-requires
-up-requires c κs = search needs
-
 returns : tie.Need-returns
 returns c =
     simp (← c .up .ensures, c .before .if1 .taken, ← c .before .before .members-left .ensures)
@@ -17,4 +11,4 @@ returns-2 c =
     simp (c .if1 .left, ← c .before .members-left .ensures)
 
 pub tried-choice-spec : {M : Type 1} → statement M
-tried-choice-spec = tie.close (tie.spec members-left-requires up-requires returns returns-2)
+tried-choice-spec = tie.close (tie.spec (λ c κs. search needs) (λ c κs. search needs) returns returns-2)

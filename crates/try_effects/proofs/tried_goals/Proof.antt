@@ -3,12 +3,6 @@ use borrow.Author.Needs.{needs}
 use Rattle.try_effects.proofs.tried_goals.Statement.{statement}
 use Rattle.try_effects.proofs.tried_goals.Tie as tie
 
-kind-requires : tie.Need-kind-requires
-kind-requires c κs = search needs
-
-up-requires : tie.Need-up-requires
-up-requires c κs = search needs
-
 returns : tie.Need-returns
 returns c =
     simp (← c .up .ensures, eq-eqb _ _ (c .before .if1 .taken), ← c .before .before .kind .ensures)
@@ -18,4 +12,4 @@ returns-2 c =
     simp (ne-eqb _ _ (c .if1 .left), ← c .before .kind .ensures)
 
 pub tried-goals-spec : {M : Type 1} → statement M
-tried-goals-spec = tie.close (tie.spec kind-requires up-requires returns returns-2)
+tried-goals-spec = tie.close (tie.spec (λ c κs. search needs) (λ c κs. search needs) returns returns-2)

@@ -19,62 +19,23 @@ Inv-members n t c w₀ r₀ left₀ w r left = (length w ≡ length w₀) × (ru
 abbrev μ-members : tie.MeasureT-members
 μ-members n t c w₀ r₀ left₀ w r left = left
 
-members-holds : tie.Need-members-holds Inv-loop μ-loop Inv-members μ-members
-members-holds c = search needs
-
-same-length : tie.Need-same-length Inv-loop μ-loop Inv-members μ-members
-same-length c = search needs
-
 returns : tie.Need-returns Inv-loop μ-loop Inv-members μ-members
 returns c = sym (c .before .before .before .members .inv .1 ∙ run-done _ _ _ _ _ (c .if1 .taken))
-
-act-requires : tie.Need-act-requires Inv-loop μ-loop Inv-members μ-members
-act-requires c κs = search needs
-
-sub-left : tie.Need-sub-left Inv-loop μ-loop Inv-members μ-members
-sub-left c = search needs
-
-loop-holds : tie.Need-loop-holds Inv-loop μ-loop Inv-members μ-members
-loop-holds c = search needs
-
-members-less : tie.Need-members-less Inv-loop μ-loop Inv-members μ-members
-members-less c = search needs
 
 members-again : tie.Need-members-again Inv-loop μ-loop Inv-members μ-members
 members-again c = (search needs, c .before .before .before .before .before .before .before .before .before .before .members .inv .1 ∙ run-on _ _ _ _ _ _ _ (c .before .before .before .before .before .before .before .before .before .members-test .taken) (c .before .before .before .before .before .before .before .if1 .left) (c .before .before .before .before .before .act .ensures) ∙ c .before .before .loop .inv .2)
 
-same-length-2 : tie.Need-same-length-2 Inv-loop μ-loop Inv-members μ-members
-same-length-2 c = search needs
-
 returns-2 : tie.Need-returns-2 Inv-loop μ-loop Inv-members μ-members
 returns-2 c = sym (c .before .before .before .before .before .before .before .before .before .before .before .before .members .inv .1 ∙ run-on _ _ _ _ _ _ _ (c .before .before .before .before .before .before .before .before .before .before .before .members-test .taken) (c .before .before .before .before .before .before .before .before .before .if1 .left) (c .before .before .before .before .before .before .before .act .ensures) ∙ c .before .before .before .before .loop .inv .2 ∙ run-done _ _ _ _ _ (c .if3 .taken))
-
-same-length-3 : tie.Need-same-length-3 Inv-loop μ-loop Inv-members μ-members
-same-length-3 c = search needs
 
 returns-3 : tie.Need-returns-3 Inv-loop μ-loop Inv-members μ-members
 returns-3 c = sym (c .before .before .before .before .before .before .before .before .before .before .before .before .before .members .inv .1 ∙ run-on _ _ _ _ _ _ _ (c .before .before .before .before .before .before .before .before .before .before .before .before .members-test .taken) (c .before .before .before .before .before .before .before .before .before .before .if1 .left) (c .before .before .before .before .before .before .before .before .act .ensures) ∙ c .before .before .before .before .before .loop .inv .2 ∙ run-spent _ _ _ _ _ (c .if4 .taken))
 
-act-requires-2 : tie.Need-act-requires-2 Inv-loop μ-loop Inv-members μ-members
-act-requires-2 c κs = search needs
-
-sub-left-2 : tie.Need-sub-left-2 Inv-loop μ-loop Inv-members μ-members
-sub-left-2 c = search needs
-
-members-less-2 : tie.Need-members-less-2 Inv-loop μ-loop Inv-members μ-members
-members-less-2 c = search needs
-
 members-again-2 : tie.Need-members-again-2 Inv-loop μ-loop Inv-members μ-members
 members-again-2 c = (c .before .before .before .before .act2 .kept .1 .1 .0 ∙ c .before .before .before .before .before .before .before .before .before .before .before .loop .inv .0 ∙ c .before .before .before .before .before .before .before .before .before .before .before .before .before .before .act .kept .1 .1 .0 ∙ c .before .before .before .before .before .before .before .before .before .before .before .before .before .before .before .before .before .before .before .members .inv .0, c .before .before .before .before .before .before .before .before .before .before .before .before .before .before .before .before .before .before .before .members .inv .1 ∙ run-on _ _ _ _ _ _ _ (c .before .before .before .before .before .before .before .before .before .before .before .before .before .before .before .before .before .before .members-test .taken) (c .before .before .before .before .before .before .before .before .before .before .before .before .before .before .before .before .if1 .left) (c .before .before .before .before .before .before .before .before .before .before .before .before .before .before .act .ensures) ∙ c .before .before .before .before .before .before .before .before .before .before .before .loop .inv .2 ∙ run-act _ _ _ _ _ _ _ (c .before .before .before .before .before .before .if4 .left) (c .before .before .before .before .before .before .before .if3 .left) (c .before .before .before .before .act2 .ensures))
 
-loop-less : tie.Need-loop-less Inv-loop μ-loop Inv-members μ-members
-loop-less c = search needs
-
 loop-again : tie.Need-loop-again Inv-loop μ-loop Inv-members μ-members
 loop-again c = (search needs, search needs, c .before .before .before .before .before .before .before .before .before .before .before .loop .inv .2 ∙ run-act _ _ _ _ _ _ _ (c .before .before .before .before .before .before .if4 .left) (c .before .before .before .before .before .before .before .if3 .left) (c .before .before .before .before .act2 .ensures))
-
-same-length-4 : tie.Need-same-length-4 Inv-loop μ-loop Inv-members μ-members
-same-length-4 c = search needs
 
 returns-4 : tie.Need-returns-4 Inv-loop μ-loop Inv-members μ-members
 returns-4 c = sym (c .before .members .inv .1 ∙ run-end _ _ _ _ _ (c .members-test .left))
@@ -82,28 +43,7 @@ returns-4 c = sym (c .before .members .inv .1 ∙ run-end _ _ _ _ _ (c .members-
 pub run-spec : {M : Type 1} → statement M
 run-spec =
     tie.close
-    (tie.spec
-    Inv-loop
-    μ-loop
-    Inv-members
-    μ-members
-    members-holds
-    same-length
-    returns
-    act-requires
-    sub-left
-    loop-holds
-    members-less
-    members-again
-    same-length-2
-    returns-2
-    same-length-3
-    returns-3
-    act-requires-2
-    sub-left-2
-    members-less-2
-    members-again-2
-    loop-less
-    loop-again
-    same-length-4
-    returns-4)
+    (tie.spec Inv-loop μ-loop Inv-members μ-members (λ c. search needs) (λ c. search needs) returns (λ c κs. search needs)
+    (λ c. search needs) (λ c. search needs) (λ c. search needs) members-again (λ c. search needs) returns-2 (λ c. search needs)
+    returns-3 (λ c κs. search needs) (λ c. search needs) (λ c. search needs) members-again-2 (λ c. search needs) loop-again
+    (λ c. search needs) returns-4)

@@ -3,16 +3,10 @@ use Rattle.machine.specs.Machine.{startMemory}
 use Rattle.walk.proofs.start_memory.Statement.{statement}
 use Rattle.walk.proofs.start_memory.Tie as tie
 
-put-variables-requires : tie.Need-put-variables-requires
-put-variables-requires c κs = search needs
-
-same-length : tie.Need-same-length
-same-length c = search needs
-
 returns : tie.Need-returns
 unfolding startMemory
 returns c =
     simp (startMemory, ← c .before .before .put-variables .ensures)
 
 pub start-memory-spec : {M : Type 1} → statement M
-start-memory-spec = tie.close (tie.spec put-variables-requires same-length returns)
+start-memory-spec = tie.close (tie.spec (λ c κs. search needs) (λ c. search needs) returns)

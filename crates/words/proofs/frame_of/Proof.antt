@@ -2,8 +2,6 @@ use mathlib.Core.Path.{refl}
 use Rattle.machine.specs.Words.{frameOf}
 use Rattle.words.proofs.frame_of.Statement.{statement}
 use Rattle.words.proofs.frame_of.Tie as tie
-use Rattle.words.proofs.frame_of.Reads as reads
-use Rattle.words.proofs.frame_of.Lts as lts
 
 returns : tie.Need-returns
 unfolding frameOf

@@ -4,11 +4,6 @@ use Rattle.machine.specs.Words.{lookWord}
 use mathlib.Core.Path.{_≡_, sym, _∙_}
 use Rattle.words.proofs.look_word.Statement.{statement}
 use Rattle.words.proofs.look_word.Tie as tie
-use Rattle.words.proofs.look_word.Reads as reads
-use Rattle.words.proofs.look_word.Lts as lts
-use Rattle.cells.proofs.cell_of.Reads as cell-of-reads
-use Rattle.words.proofs.name_of.Reads as name-of-reads
-use Rattle.words.proofs.tag_of.Reads as tag-of-reads
 
 abbrev Inv-loop : tie.InvT-loop
 Inv-loop n w a bindings₀ at₀ bindings at = lookWord n w a ≡ lookWord bindings w at
@@ -16,29 +11,11 @@ Inv-loop n w a bindings₀ at₀ bindings at = lookWord n w a ≡ lookWord bindi
 abbrev μ-loop : tie.MeasureT-loop
 μ-loop n w a bindings₀ at₀ bindings at = bindings
 
-loop-holds : tie.Need-loop-holds Inv-loop μ-loop
-loop-holds c = search needs
-
-tag-of-requires : tie.Need-tag-of-requires Inv-loop μ-loop
-tag-of-requires c κs = search needs
-
 returns : tie.Need-returns Inv-loop μ-loop
 returns c = sym (c .before .before .before .loop .inv ∙ look-other _ _ _ _ (c .before .tag-of .ensures) (c .if1 .taken))
 
-name-of-requires : tie.Need-name-of-requires Inv-loop μ-loop
-name-of-requires c κs = search needs
-
-cell-of-requires : tie.Need-cell-of-requires Inv-loop μ-loop
-cell-of-requires c κs = search needs
-
 returns-2 : tie.Need-returns-2 Inv-loop μ-loop
 returns-2 c = sym (c .before .before .before .before .before .before .loop .inv ∙ look-free _ _ _ _ _ _ (c .before .before .before .before .tag-of .ensures) (c .before .before .before .if1 .left) (c .before .before .name-of .ensures) (c .before .cell-of .ensures) (c .if2 .taken))
-
-sub-bindings : tie.Need-sub-bindings Inv-loop μ-loop
-sub-bindings c = search needs
-
-loop-less : tie.Need-loop-less Inv-loop μ-loop
-loop-less c = search needs
 
 loop-again : tie.Need-loop-again Inv-loop μ-loop
 loop-again c = c .before .before .before .before .before .before .loop .inv ∙ look-on _ _ _ _ _ _ (c .before .before .before .before .before .loop-test .taken) (c .before .before .before .before .tag-of .ensures) (c .before .before .before .if1 .left) (c .before .before .name-of .ensures) (c .before .cell-of .ensures) (c .if2 .left)
@@ -49,16 +26,5 @@ returns-3 c = sym (c .before .loop .inv ∙ look-end _ _ _ (c .loop-test .left))
 pub look-word-spec : {M : Type 1} → statement M
 look-word-spec =
     tie.close
-    (tie.spec
-    Inv-loop
-    μ-loop
-    loop-holds
-    tag-of-requires
-    returns
-    name-of-requires
-    cell-of-requires
-    returns-2
-    sub-bindings
-    loop-less
-    loop-again
-    returns-3)
+    (tie.spec Inv-loop μ-loop (λ c. search needs) (λ c κs. search needs) returns (λ c κs. search needs) (λ c κs. search needs)
+    returns-2 (λ c. search needs) (λ c. search needs) loop-again returns-3)

@@ -2,22 +2,6 @@ use Rattle.machine.specs.Words.{variableWord}
 use borrow.Author.Needs.{needs}
 use Rattle.words.proofs.variable_word.Statement.{statement}
 use Rattle.words.proofs.variable_word.Tie as tie
-use Rattle.words.proofs.variable_word.Reads as reads
-use Rattle.words.proofs.variable_word.Lts as lts
-use Rattle.words.proofs.narrow.Reads as narrow-reads
-use Rattle.memory.proofs.wide.Reads as wide-reads
-
-wide-requires : tie.Need-wide-requires
-wide-requires c κs = search needs
-
-mul-narrow : tie.Need-mul-narrow
-mul-narrow c = search needs
-
-add-narrow : tie.Need-add-narrow
-add-narrow c = search needs
-
-narrow-requires : tie.Need-narrow-requires
-narrow-requires c κs = search needs
 
 returns : tie.Need-returns
 unfolding variableWord
@@ -26,4 +10,4 @@ returns c =
 
 pub variable-word-spec : {M : Type 1} → statement M
 variable-word-spec =
-    tie.close (tie.spec wide-requires mul-narrow add-narrow narrow-requires returns)
+    tie.close (tie.spec (λ c κs. search needs) (λ c. search needs) (λ c. search needs) (λ c κs. search needs) returns)
