@@ -2,7 +2,7 @@
 """Computes the definition `engineRun` on every stored case and compares with the known answer.
 
 The definitions are what a reader must believe, so they are run on outside vectors too: each case becomes an equation that the
-prover must accept by computation, in a copy of the repository (the crates below `runs` as rt ci proved them)."""
+prover must accept by computation, in a copy of the repository (the crates below `engine_spec` as rt ci proved them)."""
 import glob
 import os
 import shutil
@@ -15,9 +15,9 @@ HEADER = """-- The stored cases, computed.
 use Prim.Native.Nat.{ℕ}
 use mathlib.Core.Path.{_≡_, refl}
 use mathlib.Core.List.{List, [], _∷_}
-use Rattle.sheets.specs.Bytes.{ascii}
-use Rattle.runs.specs.EngineRun.{Result, turnedBack, answered}
-use Rattle.runs.proofs.Computing.{computeRun}
+use Rattle.sheet_format.specs.Bytes.{ascii}
+use Rattle.engine_spec.specs.EngineRun.{Result, turnedBack, answered}
+use Rattle.engine_spec.proofs.Computing.{computeRun}
 
 abbrev printed : Result → List ℕ
 printed (answered a) = a .text
@@ -51,12 +51,12 @@ def main():
     with tempfile.TemporaryDirectory() as work:
         copy = os.path.join(work, "main")
         shutil.copytree(ROOT, copy, ignore=shutil.ignore_patterns(".git", "tests"), symlinks=True)
-        proofs = os.path.join(copy, "crates", "runs", "proofs")
+        proofs = os.path.join(copy, "crates", "engine_spec", "proofs")
         with open(os.path.join(proofs, "Stored.antt"), "w") as f:
             f.write("\n".join(parts))
         with open(os.path.join(proofs, "Lib.antt"), "a") as f:
             f.write("pub mod Stored\n")
-        run = subprocess.run(["rt", "dev", "runs"], cwd=copy, capture_output=True, text=True)
+        run = subprocess.run(["rt", "dev", "engine_spec"], cwd=copy, capture_output=True, text=True)
     if run.returncode != 0:
         print(run.stdout + run.stderr)
         sys.exit("the definition engineRun differs from a stored case")

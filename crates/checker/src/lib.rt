@@ -2,17 +2,17 @@
 use memory::zero_front;
 use outcomes::Refusal;
 use outcomes::Verdict;
-use reader::Read;
+use sheet_reader::sheet_lines::Read;
 ghost use mathlib.Core.Path.{_≡_};
 ghost use Prim.Native.Nat.{_≤_};
 ghost use lib.ListN.{length, replicate};
-ghost use Rattle.sheets.specs.Limits.{maxSheetBytes, tableNumbers, maxTextBytes};
-ghost use Rattle.sheets.specs.Buffers.{demanded};
-ghost use Rattle.sheets.specs.Sheets.{readSheet};
-ghost use Rattle.judgements.specs.CheckText.{countLf, checkSheet};
-ghost use Rattle.judgements.specs.Promises.{handedBack, CheckContract};
-ghost use Rattle.judgements.specs.Handed.{handed};
-ghost use Rattle.judgements.specs.Checking.{earlyNumber, refusedCheck, verdictAt};
+ghost use Rattle.sheet_format.specs.Limits.{maxSheetBytes, tableNumbers, maxTextBytes};
+ghost use Rattle.sheet_format.specs.Buffers.{demanded};
+ghost use Rattle.sheet_format.specs.Sheets.{readSheet};
+ghost use Rattle.checker_spec.specs.CheckText.{countLf, checkSheet};
+ghost use Rattle.checker_spec.specs.Promises.{handedBack, CheckContract};
+ghost use Rattle.checker_spec.specs.Handed.{handed};
+ghost use Rattle.checker_spec.specs.Checking.{earlyNumber, refusedCheck, verdictAt};
 
 // How many LF bytes the text has. The work buffer has 64 numbers for each.
 fn count_lf(text: &[u8]) -> usize
@@ -70,7 +70,7 @@ fn judge_sheet(sheet: &[u8], text: &[u8], t: &mut [u32], w: &mut [u32]) -> Verdi
     let read = sheet_reader::read_sheet(sheet, t);
     match read {
         Read::Done(k, goal) => {
-            let line = rulings::judge_text(sheet, t, k.symbols, k.clauses, goal, text, w);
+            let line = text_checker::judge_text(sheet, t, k.symbols, k.clauses, goal, text, w);
             verdict_at(line)
         }
         Read::Refused(f) => refused(f.number, f.line),

@@ -4,7 +4,7 @@ use mathlib.Core.Path.{_≡_}
 use mathlib.Core.List.{List}
 use lib.ListN.{length, take}
 use Rattle.memory.proofs.Parts.{part-fits}
-use Rattle.sheets.specs.Buffers.{demanded}
+use Rattle.sheet_format.specs.Buffers.{demanded}
 
 -- The part of the work buffer that is lent is long enough.
 pub part-demanded : (budget m : ℕ) (l : List ℕ) → m ≡ budget → demanded budget ≤ length l → demanded budget ≤ length (take (64 * m) l)

@@ -1,19 +1,22 @@
 // The engine: a sheet is read, searched within a budget and answered, in buffers that the caller lends (document 01).
-use gates::early;
+mod report;
+mod size_checks;
+
 use memory::wide;
 use memory::zero_front;
 use outcomes::Run;
-use reader::Read;
-use telling::tell;
+use report::tell;
+use sheet_reader::sheet_lines::Read;
+use size_checks::early;
 ghost use mathlib.Core.Path.{_≡_};
 ghost use Prim.Native.Nat.{_≤_};
 ghost use lib.ListN.{length, replicate};
-ghost use Rattle.sheets.specs.Limits.{maxSheetBytes, tableNumbers, maxBudget};
-ghost use Rattle.sheets.specs.Buffers.{demanded};
+ghost use Rattle.sheet_format.specs.Limits.{maxSheetBytes, tableNumbers, maxBudget};
+ghost use Rattle.sheet_format.specs.Buffers.{demanded};
 ghost use Rattle.machine.specs.Machine.{runMachine};
-ghost use Rattle.runs.specs.Promises.{RunContract};
-ghost use Rattle.runs.specs.Handed.{handed};
-ghost use Rattle.runs.specs.Answering.{ended, tell, Answering};
+ghost use Rattle.engine_spec.specs.Promises.{RunContract};
+ghost use Rattle.engine_spec.specs.Handed.{handed};
+ghost use Rattle.engine_spec.specs.Answering.{ended, tell, Answering};
 
 // The search for the goal that stands in the table, and its answer.
 fn search(
@@ -27,7 +30,7 @@ fn search(
 ) -> Run
     ensures { λ e. ⌜ ended (now (answer .exit)) e ≡ tell (now (sheet .entry)) (now (t .entry)) goal budget (runMachine budget (now (t .entry)) clauses goal (now (w .entry))) (now (answer .entry)) ⌝ }
 {
-    let r = walk::run_machine(budget, t, clauses, goal, w);
+    let r = machine_loop::run_machine(budget, t, clauses, goal, w);
     tell(sheet, t, goal, budget, w, r, answer)
 }
 

@@ -7,9 +7,9 @@ use mathlib.Core.Bool.{Bool, true, false}
 use mathlib.Core.List.{List}
 use lib.ListN.{length, set, replicate}
 use borrow.Author.Tests.{eq-eqb, ne-eqb, lt-ltb, le-ltb}
-use Rattle.tables.specs.Layout.{childCount, labelOf}
-use Rattle.spellings.specs.Classes.{nodeElement, isName, elementNode, elementChild, rooted, rootOf, separate}
-use Rattle.spellings.specs.Instances.{Compared, compared, joined, joinName, sameChildren, sameNodes, sameRoots, sameElements, sameAtoms}
+use Rattle.node_table.specs.Layout.{childCount, labelOf}
+use Rattle.scanning.specs.Classes.{nodeElement, isName, elementNode, elementChild, rooted, rootOf, separate}
+use Rattle.scanning.specs.Instances.{Compared, compared, joined, joinName, sameChildren, sameNodes, sameRoots, sameElements, sameAtoms}
 
 -- children
 

@@ -1,14 +1,18 @@
 // Comparing instances of sheet terms without unfolding them.
+pub mod frames;
+mod instance_ranges;
+mod name_classes;
+
 use memory::put;
 use memory::wide;
 use name_classes::child_of;
 use name_classes::join_name;
 use name_classes::root_of;
-use tables::child_count;
-use tables::label;
+use node_table::child_count;
+use node_table::label;
 ghost use mathlib.Core.Path.{_≡_};
 ghost use Prim.Native.Nat.{_+_, _-_, _<_};
-ghost use Rattle.spellings.specs.Instances.{compared, sameElements, sameAtoms};
+ghost use Rattle.scanning.specs.Instances.{compared, sameElements, sameAtoms};
 
 // Whether the elements i and j have the same term; c has the classes. The rank is above the depth of the term. Each call goes down to an
 // argument, whose term is smaller, so no application is met twice on the way: at most 2,048 calls are open at a time.

@@ -12,8 +12,8 @@ use Rattle.unification.specs.Promises.{Formed}
 use Rattle.search.specs.Configurations.{Branch, Configuration, take, try, match, done}
 use Rattle.search.specs.Steps as level1
 use Rattle.search.proofs.Invariant.{EnvironmentBelow, Invariant}
-use Rattle.tables.specs.Layout.{kindOf}
-use Rattle.tables.proofs.Decoding.{GoalKind, atom-kind, true-kind, and-kind, or-kind, implies-kind, exists-kind, forall-kind, goal-kind}
+use Rattle.node_table.specs.Layout.{kindOf}
+use Rattle.node_table.proofs.Decoding.{GoalKind, atom-kind, true-kind, and-kind, or-kind, implies-kind, exists-kind, forall-kind, goal-kind}
 use Rattle.machine.specs.declared.Registers.{Registers}
 use Rattle.machine.specs.Records.{Made, made}
 use Rattle.machine.specs.Changes.{onActs}

@@ -13,8 +13,8 @@ use Rattle.sequents.specs.Derivations.{sheetProgram}
 use Rattle.unification.specs.Store.{Leaf, var}
 use Rattle.search.specs.Configurations.{Branch}
 use Rattle.search.specs.Search.{startEnvironment}
-use Rattle.tables.specs.Decoding.{goalAt, clauseAtNode, clausesFrom}
-use Rattle.tables.specs.WellMade.{IsGoal, IsClause}
+use Rattle.node_table.specs.Decoding.{goalAt, clauseAtNode, clausesFrom}
+use Rattle.node_table.specs.WellMade.{IsGoal, IsClause}
 use Rattle.machine.specs.Records.{field}
 use Rattle.machine.specs.Words.{slotOf, leafOf, environmentAt, variableWord}
 use Rattle.machine.specs.Reading.{lineAt, pathFrom}

@@ -15,8 +15,8 @@ use Rattle.unification.specs.Matching.{Pair, pairs, check, fail, pushTerms, onN
 use Rattle.unification.specs.Promises.{Below}
 use Rattle.search.specs.Configurations.{Branch, Configuration, match}
 use Rattle.search.specs.Steps.{settle}
-use Rattle.tables.specs.Layout.{childCount}
-use Rattle.tables.specs.Decoding.{argumentsAt}
+use Rattle.node_table.specs.Layout.{childCount}
+use Rattle.node_table.specs.Decoding.{argumentsAt}
 use Rattle.machine.specs.declared.Registers.{Registers}
 use Rattle.machine.specs.Records.{field, cellOf, levelOf, putCell, putLevel, made, putNodes}
 use Rattle.machine.specs.Changes.{onTrail, onNodes}

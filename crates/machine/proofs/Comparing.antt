@@ -14,8 +14,8 @@ use Rattle.unification.specs.Store.{Leaf, var, con, Store}
 use Rattle.unification.specs.Matching.{Pair, pairs, check, fail, pushPairs, comparing, compareTerms}
 use Rattle.search.specs.Configurations.{Branch, Configuration, match}
 use Rattle.search.specs.Steps.{settle}
-use Rattle.tables.specs.Layout.{childCount, labelOf}
-use Rattle.tables.specs.Decoding.{argumentsAt}
+use Rattle.node_table.specs.Layout.{childCount, labelOf}
+use Rattle.node_table.specs.Decoding.{argumentsAt}
 use Rattle.machine.specs.declared.Registers.{Registers}
 use Rattle.machine.specs.Records.{field, made, putPairs}
 use Rattle.machine.specs.Changes.{onCheck}

@@ -15,8 +15,8 @@ use Rattle.unification.specs.Store.{Leaf, Store}
 use Rattle.unification.specs.Matching.{Pair, pairs, check, fail}
 use Rattle.search.specs.Configurations.{Branch, Atom, Configuration, take, try, match, done}
 use Rattle.search.specs.Search.{startStore}
-use Rattle.tables.specs.Layout.{labelOf, clauseNode}
-use Rattle.tables.specs.Decoding.{argumentsAt, clauseAtNode}
+use Rattle.node_table.specs.Layout.{labelOf, clauseNode}
+use Rattle.node_table.specs.Decoding.{argumentsAt, clauseAtNode}
 use Rattle.machine.specs.declared.Registers.{Registers}
 use Rattle.machine.specs.Records.{field}
 use Rattle.machine.specs.Words.{environmentAt}

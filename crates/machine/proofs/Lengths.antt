@@ -5,7 +5,7 @@ use mathlib.Core.Path.{_≡_, refl, ap, _∙_}
 use mathlib.Core.List.{List, [], _∷_}
 use lib.Dec.{eqb, ltb, leb}
 use lib.ListN.{length}
-use Rattle.tables.specs.Layout.{kindOf, labelOf}
+use Rattle.node_table.specs.Layout.{kindOf, labelOf}
 use Rattle.machine.specs.declared.Registers.{Registers}
 use Rattle.machine.specs.declared.Found.{Found}
 use Rattle.machine.specs.Records.{field, put, levelOf, putCell, putLevel, Made, made, putEntry, putGoal, putAssumption, putPath, putUse, putPairs, putNodes}

@@ -13,10 +13,10 @@ use Rattle.terms.specs.Lists.{elem}
 use Rattle.terms.proofs.Lists.{length-map}
 use Rattle.formulas.specs.Formulas.{Goal, Clause, both, each, freeTs, freeG, freeC, freeB}
 use Rattle.formulas.specs.Members.{Member, standsFree, quantify, members}
-use Rattle.tables.specs.Layout.{kindOf, labelOf, childOf, maskOf, bitOf, membersOf}
-use Rattle.tables.specs.Decoding.{argumentsAt, goalAt, clauseAtNode}
-use Rattle.tables.specs.WellMade.{ClauseNode}
-use Rattle.tables.proofs.Decoding.{ClauseKind, fact-kind, both-kind, rule-kind, each-kind, clause-kind, clause-fact, clause-both, clause-rule, clause-each}
+use Rattle.node_table.specs.Layout.{kindOf, labelOf, childOf, maskOf, bitOf, membersOf}
+use Rattle.node_table.specs.Decoding.{argumentsAt, goalAt, clauseAtNode}
+use Rattle.node_table.specs.WellMade.{ClauseNode}
+use Rattle.node_table.proofs.Decoding.{ClauseKind, fact-kind, both-kind, rule-kind, each-kind, clause-kind, clause-fact, clause-both, clause-rule, clause-each}
 use Rattle.machine.specs.declared.Found.{Found}
 use Rattle.machine.specs.Words.{narrow, up}
 use Rattle.machine.specs.Members.{found, addName, findMember, headOf}

@@ -10,8 +10,8 @@ use borrow.Author.Tests.{lt-ltb, le-ltb}
 use Rattle.terms.specs.Terms.{Term, substitute, substitutes}
 use Rattle.unification.specs.Store.{Leaf}
 use Rattle.unification.specs.Matching.{Pair, pushTerms, pushPairs}
-use Rattle.tables.specs.Layout.{childCount, childOf}
-use Rattle.tables.specs.Decoding.{childrenBy, termAt}
+use Rattle.node_table.specs.Layout.{childCount, childOf}
+use Rattle.node_table.specs.Decoding.{childrenBy, termAt}
 use Rattle.machine.specs.Records.{field}
 use Rattle.machine.specs.Words.{wordOf, environmentAt}
 use Rattle.machine.specs.Matching.{placeWord, pairsFrom, nodesFrom, argumentWord}

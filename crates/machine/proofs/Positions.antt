@@ -13,8 +13,8 @@ use Rattle.sequents.specs.Sequents.{Environment, Program, hypothesis, Entry, en
 use Rattle.sequents.specs.Derivations.{sheetProgram}
 use Rattle.unification.specs.Store.{Leaf}
 use Rattle.search.specs.Search.{startEnvironment}
-use Rattle.tables.specs.Layout.{clauseNode, membersOf}
-use Rattle.tables.specs.Decoding.{clauseAtNode, clausesFrom}
+use Rattle.node_table.specs.Layout.{clauseNode, membersOf}
+use Rattle.node_table.specs.Decoding.{clauseAtNode, clausesFrom}
 use Rattle.machine.specs.declared.Registers.{Registers}
 use Rattle.machine.specs.Records.{field}
 use Rattle.machine.specs.Changes.{onMember}

@@ -3,8 +3,8 @@ use Prim.Native.Nat.{ℕ}
 use mathlib.Core.Path.{_≡_, ap, subst}
 use mathlib.Core.List.{List}
 use Rattle.search.specs.Search.{search, after}
-use Rattle.sheets.specs.Sheets.{Sheet}
-use Rattle.tables.specs.Decoding.{decodeSheet}
+use Rattle.sheet_format.specs.Sheets.{Sheet}
+use Rattle.node_table.specs.Decoding.{decodeSheet}
 use Rattle.machine.specs.Machine.{runMachine}
 use Rattle.machine.specs.Simulation.{Tells, Stands}
 use Rattle.machine.specs.Promises.{StandsFor, MachineTells, MachineFollows}

@@ -13,7 +13,7 @@ use Rattle.search.specs.Search.{Verdict, Outcome, ends, proved, search, ComesTo
 use Rattle.search.proofs.Units.{allUnits}
 use Rattle.search.proofs.After.{proved-all}
 use Rattle.search.proofs.Invariant.{Invariant, step-keeps, start-invariant}
-use Rattle.tables.specs.Decoding.{clausesFrom, goalAt}
+use Rattle.node_table.specs.Decoding.{clausesFrom, goalAt}
 use Rattle.machine.specs.Records.{Made}
 use Rattle.machine.specs.Machine.{startMemory, startRegisters, runMachine}
 use Rattle.machine.proofs.Tables.{Table}

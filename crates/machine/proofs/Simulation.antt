@@ -17,7 +17,7 @@ use Rattle.search.specs.Configurations.{Branch, Configuration, take, try, match
 use Rattle.search.specs.Steps.{step}
 use Rattle.search.specs.Search.{status, start, advance, after, proved, noProof, Outcome, ends, spent, searchFrom, search}
 use Rattle.search.proofs.Invariant.{Invariant, step-keeps, start-invariant, after-invariant}
-use Rattle.tables.specs.Decoding.{clausesFrom, goalAt}
+use Rattle.node_table.specs.Decoding.{clausesFrom, goalAt}
 use Rattle.machine.specs.declared.Registers.{Registers}
 use Rattle.machine.specs.Records.{Made, made}
 use Rattle.machine.specs.Changes.{onActs}

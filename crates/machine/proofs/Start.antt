@@ -9,7 +9,7 @@ use lib.ListN.{length}
 use borrow.Author.Tests.{eqb-true, eqb-false}
 use Rattle.sequents.specs.Derivations.{instanceOf}
 use Rattle.search.specs.Search.{startStore, startGoal, start}
-use Rattle.tables.specs.Decoding.{clausesFrom, goalAt}
+use Rattle.node_table.specs.Decoding.{clausesFrom, goalAt}
 use Rattle.machine.specs.Records.{cellOf, levelOf, putCell, made}
 use Rattle.machine.specs.Frames.{putVariable, putVariables}
 use Rattle.machine.specs.Machine.{startMemory, startRegisters}

@@ -4,10 +4,10 @@ use native.Mathlib.Omega.{arith}
 use mathlib.Core.Path.{_≡_, sym, ap, _∙_}
 use mathlib.Core.List.{List}
 use Rattle.terms.specs.Terms.{leaf, app}
-use Rattle.tables.specs.Layout.{kindOf, childCount, labelOf, childOf, arityOf}
-use Rattle.tables.specs.Decoding.{termAt, argumentsAt}
-use Rattle.tables.specs.WellMade.{IsTerm, Arguments, WellMade}
-use Rattle.tables.proofs.Decoding.{Nodes, nodes-of, term-variable, term-application}
+use Rattle.node_table.specs.Layout.{kindOf, childCount, labelOf, childOf, arityOf}
+use Rattle.node_table.specs.Decoding.{termAt, argumentsAt}
+use Rattle.node_table.specs.WellMade.{IsTerm, Arguments, WellMade}
+use Rattle.node_table.proofs.Decoding.{Nodes, nodes-of, term-variable, term-application}
 
 pub record Table : Type 0 where
   pub numbers : List ℕ

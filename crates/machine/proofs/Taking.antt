@@ -13,10 +13,10 @@ use Rattle.unification.specs.Store.{Leaf, var, con, Store, fresh, past, freshLe
 use Rattle.unification.specs.Promises.{Formed}
 use Rattle.search.specs.Configurations.{Branch, branch, Configuration, take}
 use Rattle.search.specs.Steps as level1
-use Rattle.tables.specs.Layout.{kindOf, labelOf, childOf}
-use Rattle.tables.specs.Decoding.{goalAt, clauseAtNode}
-use Rattle.tables.specs.WellMade.{IsGoal, GoalNode}
-use Rattle.tables.proofs.Decoding.{goal-true, goal-and, goal-or, goal-implies, goal-exists, goal-forall}
+use Rattle.node_table.specs.Layout.{kindOf, labelOf, childOf}
+use Rattle.node_table.specs.Decoding.{goalAt, clauseAtNode}
+use Rattle.node_table.specs.WellMade.{IsGoal, GoalNode}
+use Rattle.node_table.proofs.Decoding.{goal-true, goal-and, goal-or, goal-implies, goal-exists, goal-forall}
 use Rattle.machine.specs.declared.Registers.{Registers}
 use Rattle.machine.specs.Records.{field, put, made, putGoal, putAssumption, putPath}
 use Rattle.machine.specs.Changes.{onMode, onNext, onTrail, onChoice, onGoals, onPath, onGoal, onMember}

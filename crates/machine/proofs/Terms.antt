@@ -10,8 +10,8 @@ use Rattle.terms.specs.Terms.{Term, leaf, app, nil, Terms, substitute, substitu
 use Rattle.unification.specs.Store.{Leaf, var, con}
 use Rattle.unification.proofs.Stores.{below-more}
 use Rattle.search.proofs.Invariant.{EnvironmentBelow}
-use Rattle.tables.specs.Layout.{kindOf, labelOf}
-use Rattle.tables.specs.Decoding.{termAt, argumentsAt}
+use Rattle.node_table.specs.Layout.{kindOf, labelOf}
+use Rattle.node_table.specs.Decoding.{termAt, argumentsAt}
 use Rattle.machine.specs.Records.{field}
 use Rattle.machine.specs.Words.{closureWord, slotOf, wordOf, leafOf, environmentAt, termOf}
 use Rattle.machine.proofs.Words.{variable-small, closure-small, tag-is, name-is, node-is, frame-is}

@@ -14,9 +14,9 @@ use Rattle.unification.specs.Promises.{Formed}
 use Rattle.search.specs.Configurations.{Branch, branch, Atom, Configuration, try}
 use Rattle.search.specs.Steps as level1
 use Rattle.search.proofs.Invariant.{EnvironmentBelow}
-use Rattle.tables.specs.Layout.{kindOf, labelOf}
-use Rattle.tables.specs.Decoding.{argumentsAt}
-use Rattle.tables.proofs.Decoding.{goal-atom}
+use Rattle.node_table.specs.Layout.{kindOf, labelOf}
+use Rattle.node_table.specs.Decoding.{argumentsAt}
+use Rattle.node_table.proofs.Decoding.{goal-atom}
 use Rattle.machine.specs.declared.Registers.{Registers}
 use Rattle.machine.specs.declared.Found.{Found}
 use Rattle.machine.specs.Records.{made}

@@ -18,8 +18,8 @@ use Rattle.search.specs.Configurations.{Branch, branch, Atom, Configuration, tr
 use Rattle.search.specs.Steps.{settle}
 use Rattle.search.specs.Steps as level1
 use Rattle.search.proofs.Invariant.{EnvironmentBelow, prefix-below}
-use Rattle.tables.specs.Layout.{kindOf, labelOf, childOf, membersOf}
-use Rattle.tables.specs.Decoding.{argumentsAt, goalAt}
+use Rattle.node_table.specs.Layout.{kindOf, labelOf, childOf, membersOf}
+use Rattle.node_table.specs.Decoding.{argumentsAt, goalAt}
 use Rattle.machine.specs.declared.Registers.{Registers}
 use Rattle.machine.specs.declared.Found.{Found}
 use Rattle.machine.specs.Records.{field, Made, made, putGoal, putPath, putUse, putChoice, putChosen, putPosition, putPairs}

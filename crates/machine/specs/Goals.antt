@@ -3,7 +3,7 @@ use Prim.Native.Nat.{ℕ, _+_, _-_}
 use mathlib.Core.Bool.{Bool, true, cond}
 use mathlib.Core.List.{List}
 use lib.Dec.{eqb, ltb}
-use Rattle.tables.specs.Layout.{kindOf, labelOf, childOf}
+use Rattle.node_table.specs.Layout.{kindOf, labelOf, childOf}
 use Rattle.machine.specs.declared.Registers.{Registers}
 use Rattle.machine.specs.Records.{field, put, Made, made, putGoal, putAssumption, putPath}
 use Rattle.machine.specs.Changes.{onMode, onNext, onChoice, onGoals, onPath, onGoal, onMember}

@@ -5,7 +5,7 @@ use Prim.Native.Nat.{ℕ, _+_, _-_, _*_, _/_, _%_, min}
 use mathlib.Core.Bool.{cond}
 use mathlib.Core.List.{List}
 use lib.Dec.{eqb, ltb, leb}
-use Rattle.tables.specs.Layout.{childCount, labelOf, childOf}
+use Rattle.node_table.specs.Layout.{childCount, labelOf, childOf}
 use Rattle.machine.specs.declared.Registers.{Registers}
 use Rattle.machine.specs.Records.{field, levelOf, Made, made, putPairs, putNodes}
 use Rattle.machine.specs.Changes.{onTrail, onPairs, onCheck, onNodes}

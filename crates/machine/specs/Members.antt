@@ -3,7 +3,7 @@ use Prim.Native.Nat.{ℕ, zero, suc, _+_, _-_, _*_, _/_, _%_}
 use mathlib.Core.Bool.{Bool, true, false, cond}
 use mathlib.Core.List.{List}
 use lib.Dec.{eqb, ltb}
-use Rattle.tables.specs.Layout.{kindOf, labelOf, childOf, maskOf, bitOf, membersOf}
+use Rattle.node_table.specs.Layout.{kindOf, labelOf, childOf, maskOf, bitOf, membersOf}
 use Rattle.machine.specs.Words.{narrow, up}
 use Rattle.machine.specs.declared.Found.{Found}
 

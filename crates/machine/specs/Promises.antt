@@ -5,10 +5,10 @@ use mathlib.Core.Path.{_≡_}
 use mathlib.Core.List.{List}
 use lib.ListN.{length}
 use Rattle.search.specs.Search.{search, after}
-use Rattle.sheets.specs.Limits.{maxBudget, numbersPerUnit}
-use Rattle.sheets.specs.Sheets.{Sheet}
-use Rattle.tables.specs.Decoding.{decodeSheet}
-use Rattle.tables.specs.WellMade.{WellMade}
+use Rattle.sheet_format.specs.Limits.{maxBudget, numbersPerUnit}
+use Rattle.sheet_format.specs.Sheets.{Sheet}
+use Rattle.node_table.specs.Decoding.{decodeSheet}
+use Rattle.node_table.specs.WellMade.{WellMade}
 use Rattle.machine.specs.Machine.{runMachine}
 use Rattle.machine.specs.Simulation.{Tells, Stands}
 

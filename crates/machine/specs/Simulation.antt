@@ -8,8 +8,8 @@ use Rattle.unification.specs.Store.{Leaf, Store}
 use Rattle.unification.specs.Matching.{pairs, check, fail}
 use Rattle.search.specs.Configurations.{Configuration, take, try, match, done}
 use Rattle.search.specs.Search.{proved, noProof, Outcome, ends, spent, search, after}
-use Rattle.tables.specs.Decoding.{clausesFrom, goalAt}
-use Rattle.tables.specs.WellMade.{WellMade}
+use Rattle.node_table.specs.Decoding.{clausesFrom, goalAt}
+use Rattle.node_table.specs.WellMade.{WellMade}
 use Rattle.machine.specs.declared.Registers.{Registers}
 use Rattle.machine.specs.Records.{Made}
 use Rattle.machine.specs.Machine.{run, runMachine}

@@ -3,7 +3,7 @@ use Prim.Native.Nat.{ℕ, _+_, _-_}
 use mathlib.Core.Bool.{cond}
 use mathlib.Core.List.{List}
 use lib.Dec.{eqb, ltb}
-use Rattle.tables.specs.Layout.{kindOf, labelOf, childOf, membersOf, clauseNode}
+use Rattle.node_table.specs.Layout.{kindOf, labelOf, childOf, membersOf, clauseNode}
 use Rattle.machine.specs.declared.Registers.{Registers}
 use Rattle.machine.specs.declared.Found.{Found}
 use Rattle.machine.specs.Records.{field, Made, made, putGoal, putPath, putUse, putPairs}

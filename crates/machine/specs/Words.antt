@@ -6,8 +6,8 @@ use mathlib.Core.List.{List}
 use lib.Dec.{eqb, ltb}
 use Rattle.terms.specs.Terms.{Term, leaf, app, nil, substitute}
 use Rattle.unification.specs.Store.{Leaf, var, con}
-use Rattle.tables.specs.Layout.{kindOf, labelOf}
-use Rattle.tables.specs.Decoding.{termAt}
+use Rattle.node_table.specs.Layout.{kindOf, labelOf}
+use Rattle.node_table.specs.Decoding.{termAt}
 use Rattle.machine.specs.Records.{field, cellOf}
 
 -- A number kept in 32 bits, and the number after it.

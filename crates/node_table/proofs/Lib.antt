@@ -1,2 +1,5 @@
--- Laws of the table's making.
-pub mod Laws
+-- Laws of the table's definitions.
+pub mod Same
+pub mod Decoding
+pub mod Nodes
+pub mod Bits

@@ -1,107 +1,142 @@
-// A node into the table, unless it is one too many (refusal 7), a child is not there (8), or it is neither term, goal nor clause (9).
-use making::Counts;
-use making::NodeRecord;
-use making::Taken;
-use memory::put;
+// The lent table of 8,192 numbers: symbols, nodes and clauses, read field by field. A read past the end gives 0.
+use memory::get;
 use memory::wide;
-use tables::kind;
 ghost use mathlib.Core.Path.{_≡_};
-ghost use Prim.Native.Nat.{_<_};
-ghost use lib.ListN.{set};
-ghost use Rattle.sheets.specs.Limits.{maxNodes};
-ghost use Rattle.tables.specs.Layout.{nodeAt};
-ghost use Rattle.making.specs.Making.{made, nodeWritten, addNode, addTwo, addOne};
+ghost use Prim.Native.Nat.{_+_, _*_, _<_, _≤_};
+ghost use lib.Dec.{eqb};
+ghost use lib.ListN.{getD};
+ghost use Rattle.node_table.specs.Layout.{symbolAt, nodeAt, kindOf, childCount, labelOf, childOf, infoOf, maskOf, bitOf, goalBit, membersOf, sizeOf, nameStart, nameLength, isFunctionBit, arityOf, clauseNode};
 
-pub const MAX_NODES: u32 = 1024;
-
-fn put_node_field(t: &mut [u32], n: u32, f: usize, x: u32)
-    requires { ⌜ f < 7 ⌝ }
-    ensures { λ _. ⌜ now (t .exit) ≡ set (now (t .entry)) (nodeAt n f) x ⌝ }
+// Field f of node n.
+fn node_field(t: &[u32], n: u32, f: usize) -> u32
+    requires { ⌜ f < 8589934592 ⌝ }
+    ensures { λ r. ⌜ r ≡ getD (now (t .entry)) (nodeAt n f) 0 ⌝ }
 {
     let w = wide(n);
-    put(t, 768 + (7 * w + f), x);
+    get(t, 768 + (7 * w + f))
 }
 
-fn write_node(t: &mut [u32], n: u32, r: NodeRecord)
-    ensures { λ _. ⌜ now (t .exit) ≡ nodeWritten (now (t .entry)) n r ⌝ }
+// Field f of symbol i.
+fn symbol_field(t: &[u32], i: u32, f: usize) -> u32
+    requires { ⌜ f < 8589934592 ⌝ }
+    ensures { λ r. ⌜ r ≡ getD (now (t .entry)) (symbolAt i f) 0 ⌝ }
 {
-    put_node_field(t, n, 0, r.head);
-    put_node_field(t, n, 1, r.label);
-    put_node_field(t, n, 2, r.first);
-    put_node_field(t, n, 3, r.second);
-    put_node_field(t, n, 4, r.third);
-    put_node_field(t, n, 5, r.fourth);
-    put_node_field(t, n, 6, r.info);
+    let w = wide(i);
+    get(t, 3 * w + f)
 }
 
-// The next node, if it is a term, a goal or a clause.
-pub fn add_node(t: &mut [u32], k: Counts, r: NodeRecord) -> Taken
-    requires { ⌜ k .nodes < maxNodes ⌝ }
-    ensures { λ a. ⌜ made (now (t .exit)) a ≡ addNode (now (t .entry)) k r ⌝ }
+// 0 V, 1 F applied, 2 P applied, 3 Y, 4 &, 5 |, 6 >, 7 E, 8 U.
+pub fn kind(t: &[u32], n: u32) -> u32
+    ensures { λ r. ⌜ r ≡ kindOf (now (t .entry)) n ⌝ }
 {
-    if r.info / 256 == 0 {
-        return Taken::Stop(9);
-    }
-    let n = k.nodes;
-    write_node(t, n, r);
-    Taken::Next(Counts {
-        symbols: k.symbols,
-        nodes: n + 1,
-        clauses: k.clauses,
-    })
+    node_field(t, n, 0) % 16
 }
 
-// A node of that kind with two children.
-pub fn add_two(t: &mut [u32], k: Counts, kind: u32, a: u32, b: u32, info: u32) -> Taken
-    requires { ⌜ kind < 16 ⌝ }
-    ensures { λ r. ⌜ made (now (t .exit)) r ≡ addTwo (now (t .entry)) k kind a b info ⌝ }
+pub fn child_count(t: &[u32], n: u32) -> u32
+    ensures { λ r. ⌜ r ≡ childCount (now (t .entry)) n ⌝ }
 {
-    if MAX_NODES <= k.nodes {
-        return Taken::Stop(7);
-    }
-    if k.nodes <= a {
-        return Taken::Stop(8);
-    }
-    if k.nodes <= b {
-        return Taken::Stop(8);
-    }
-    add_node(
-        t,
-        k,
-        NodeRecord {
-            head: kind + 32,
-            label: 0,
-            first: a,
-            second: b,
-            third: 0,
-            fourth: 0,
-            info,
-        },
-    )
+    node_field(t, n, 0) / 16
 }
 
-// A node of that kind with a variable and one child.
-pub fn add_one(t: &mut [u32], k: Counts, kind: u32, v: u32, a: u32, info: u32) -> Taken
-    requires { ⌜ kind < 16 ⌝ }
-    ensures { λ r. ⌜ made (now (t .exit)) r ≡ addOne (now (t .entry)) k kind v a info ⌝ }
+// The symbol of an application or an atom, the variable of V, E and U.
+pub fn label(t: &[u32], n: u32) -> u32
+    ensures { λ r. ⌜ r ≡ labelOf (now (t .entry)) n ⌝ }
 {
-    if MAX_NODES <= k.nodes {
-        return Taken::Stop(7);
+    node_field(t, n, 1)
+}
+
+pub fn child(t: &[u32], n: u32, j: u32) -> u32
+    ensures { λ r. ⌜ r ≡ childOf (now (t .entry)) n j ⌝ }
+{
+    let w = wide(j);
+    node_field(t, n, 2 + w)
+}
+
+// What the node is: mask, goal bit, members and size in one number.
+pub fn info(t: &[u32], n: u32) -> u32
+    ensures { λ r. ⌜ r ≡ infoOf (now (t .entry)) n ⌝ }
+{
+    node_field(t, n, 6)
+}
+
+// The free variables: variable v is bit v.
+pub fn mask(t: &[u32], n: u32) -> u32
+    ensures { λ r. ⌜ (r ≡ maskOf (now (t .entry)) n) × (r < 256) ⌝ }
+{
+    info(t, n) % 256
+}
+
+// 1 if it is a goal.
+pub fn goal_bit(t: &[u32], n: u32) -> u32
+    ensures { λ r. ⌜ (r ≡ goalBit (now (t .entry)) n) × (r ≤ 1) ⌝ }
+{
+    info(t, n) / 256 % 2
+}
+
+pub fn is_goal(t: &[u32], n: u32) -> bool
+    ensures { λ r. ⌜ r ≡ eqb (goalBit (now (t .entry)) n) 1 ⌝ }
+{
+    goal_bit(t, n) == 1
+}
+
+// How many members the clause has; 0 if it is none.
+pub fn members(t: &[u32], n: u32) -> u32
+    ensures { λ r. ⌜ (r ≡ membersOf (now (t .entry)) n) × (r < 128) ⌝ }
+{
+    info(t, n) / 512 % 128
+}
+
+// How many variables and symbols the term has; 0 if it is none.
+pub fn size(t: &[u32], n: u32) -> u32
+    ensures { λ r. ⌜ (r ≡ sizeOf (now (t .entry)) n) × (r < 65536) ⌝ }
+{
+    info(t, n) / 65536
+}
+
+pub fn name_start(t: &[u32], i: u32) -> u32
+    ensures { λ r. ⌜ r ≡ nameStart (now (t .entry)) i ⌝ }
+{
+    symbol_field(t, i, 0)
+}
+
+pub fn name_length(t: &[u32], i: u32) -> u32
+    ensures { λ r. ⌜ r ≡ nameLength (now (t .entry)) i ⌝ }
+{
+    symbol_field(t, i, 1)
+}
+
+pub fn is_function(t: &[u32], i: u32) -> bool
+    ensures { λ r. ⌜ r ≡ eqb (isFunctionBit (now (t .entry)) i) 1 ⌝ }
+{
+    let bit = symbol_field(t, i, 2) % 2;
+    bit == 1
+}
+
+pub fn arity(t: &[u32], i: u32) -> u32
+    ensures { λ r. ⌜ r ≡ arityOf (now (t .entry)) i ⌝ }
+{
+    symbol_field(t, i, 2) / 2
+}
+
+pub fn clause_node(t: &[u32], i: u32) -> u32
+    ensures { λ r. ⌜ r ≡ clauseNode (now (t .entry)) i ⌝ }
+{
+    let w = wide(i);
+    get(t, 7936 + w)
+}
+
+// Bit v of a mask.
+pub fn bit_of(m: u32, v: u32) -> u32
+    ensures { λ r. ⌜ r ≡ bitOf m v ⌝ }
+{
+    let mut rest = m;
+    let mut left = v;
+    while 0 < left {
+        if rest == 0 {
+            return 0;
+        }
+        rest = rest / 2;
+        left -= 1;
     }
-    if k.nodes <= a {
-        return Taken::Stop(8);
-    }
-    add_node(
-        t,
-        k,
-        NodeRecord {
-            head: kind + 16,
-            label: v,
-            first: a,
-            second: 0,
-            third: 0,
-            fourth: 0,
-            info,
-        },
-    )
+    rest % 2
 }

@@ -8,19 +8,19 @@ use native.Mathlib.Omega.{arith}
 use lib.Dec.{ltb}
 use lib.ListN.{length, take}
 use borrow.Author.Tests.{ltb-true, le-ltb}
-use Rattle.sheets.specs.Limits.{maxSheetBytes, tableNumbers, maxTextBytes}
-use Rattle.sheets.specs.Buffers.{demanded}
-use Rattle.sheets.specs.Sheets.{Refusal, refusal}
-use Rattle.texts.specs.Judging.{valid, judge}
-use Rattle.texts.specs.Promises.{CheckerExact}
-use Rattle.texts.proofs.Promises.{checkerExact}
-use Rattle.runs.specs.EngineRun.{Told, toldProved, toldNo, toldSpent, Answer, Result, answered, turnedBack as refusedRun, engineRun, answerAfter}
-use Rattle.runs.specs.Promises.{HandedBack, outcomeNumber, handedBack, RunContract, RunSound}
-use Rattle.runs.proofs.Answered.{answered-answers}
-use Rattle.runs.proofs.Buffers.{take-front}
-use Rattle.runs.proofs.Promises.{runSound}
-use Rattle.judgements.specs.CheckText.{Checked, judged, turnedBack, countLf, checkSheet, turnBackIf, checkText}
-use Rattle.judgements.specs.Promises.{HandedBack as CheckedBack, handedBack as checkedBack}
+use Rattle.sheet_format.specs.Limits.{maxSheetBytes, tableNumbers, maxTextBytes}
+use Rattle.sheet_format.specs.Buffers.{demanded}
+use Rattle.sheet_format.specs.Sheets.{Refusal, refusal}
+use Rattle.answer_texts.specs.Judging.{valid, judge}
+use Rattle.answer_texts.specs.Promises.{CheckerExact}
+use Rattle.answer_texts.proofs.Promises.{checkerExact}
+use Rattle.engine_spec.specs.EngineRun.{Told, toldProved, toldNo, toldSpent, Answer, Result, answered, turnedBack as refusedRun, engineRun, answerAfter}
+use Rattle.engine_spec.specs.Promises.{HandedBack, outcomeNumber, handedBack, RunContract, RunSound}
+use Rattle.engine_spec.proofs.Answered.{answered-answers}
+use Rattle.engine_spec.proofs.Buffers.{take-front}
+use Rattle.engine_spec.proofs.Promises.{runSound}
+use Rattle.checker_spec.specs.CheckText.{Checked, judged, turnedBack, countLf, checkSheet, turnBackIf, checkText}
+use Rattle.checker_spec.specs.Promises.{HandedBack as CheckedBack, handedBack as checkedBack}
 use Rattle.promises.specs.Accepted.{AcceptsWritten, RunChecks}
 
 -- whatever the buffers of the checker

@@ -1,8 +1,8 @@
 -- T9: the marked cases of document 01, computed. One theorem over one table, on bytes in and bytes out.
 use mathlib.Core.Path.{refl}
-use Rattle.texts.proofs.Computing.{computeJudgement}
-use Rattle.runs.proofs.Computing.{computeRun}
-use Rattle.judgements.specs.CheckText.{countLf, checkSheet, turnBackIf, checkText}
+use Rattle.answer_texts.proofs.Computing.{computeJudgement}
+use Rattle.engine_spec.proofs.Computing.{computeRun}
+use Rattle.checker_spec.specs.CheckText.{countLf, checkSheet, turnBackIf, checkText}
 use Rattle.promises.specs.Marked.{marked, MarkedCases, AcceptsResult, AcceptsAnswer}
 
 pub markedCases : MarkedCases

@@ -4,14 +4,14 @@ use mathlib.Core.Path.{_≡_}
 use mathlib.Core.List.{List}
 use mathlib.Core.Logic.{_⊎_}
 use lib.ListN.{length, take}
-use Rattle.sheets.specs.Limits.{tableNumbers}
-use Rattle.sheets.specs.Buffers.{demanded}
-use Rattle.sheets.specs.Sheets.{Refusal}
-use Rattle.texts.specs.Judging.{valid}
-use Rattle.runs.specs.EngineRun.{toldProved, Answer, answered, engineRun}
-use Rattle.runs.specs.Promises.{HandedBack, RunContract}
-use Rattle.judgements.specs.CheckText.{judged, turnedBack, countLf, checkText}
-use Rattle.judgements.specs.Promises.{HandedBack as CheckedBack, CheckContract}
+use Rattle.sheet_format.specs.Limits.{tableNumbers}
+use Rattle.sheet_format.specs.Buffers.{demanded}
+use Rattle.sheet_format.specs.Sheets.{Refusal}
+use Rattle.answer_texts.specs.Judging.{valid}
+use Rattle.engine_spec.specs.EngineRun.{toldProved, Answer, answered, engineRun}
+use Rattle.engine_spec.specs.Promises.{HandedBack, RunContract}
+use Rattle.checker_spec.specs.CheckText.{judged, turnedBack, countLf, checkText}
+use Rattle.checker_spec.specs.Promises.{HandedBack as CheckedBack, CheckContract}
 
 -- T5: it "accepts every derivation written": what the engine told as proved is valid, with any buffers that the checker does not
 -- turn back. Only refusals 2 and 5 can arise, each where its buffer is too short.

@@ -4,12 +4,12 @@ use Prim.Native.String.{String}
 use mathlib.Core.Path.{_≡_}
 use mathlib.Core.List.{List, [], _∷_}
 use Rattle.terms.specs.Lists.{All}
-use Rattle.sheets.specs.Limits.{tableNumbers}
-use Rattle.sheets.specs.Bytes.{ascii}
-use Rattle.sheets.specs.Sheets.{refusal}
-use Rattle.texts.specs.Judging.{valid}
-use Rattle.runs.specs.EngineRun.{Told, toldProved, toldNo, toldSpent, Result, answered, turnedBack, engineRun}
-use Rattle.judgements.specs.CheckText.{judged, checkText, countLf}
+use Rattle.sheet_format.specs.Limits.{tableNumbers}
+use Rattle.sheet_format.specs.Bytes.{ascii}
+use Rattle.sheet_format.specs.Sheets.{refusal}
+use Rattle.answer_texts.specs.Judging.{valid}
+use Rattle.engine_spec.specs.EngineRun.{Told, toldProved, toldNo, toldSpent, Result, answered, turnedBack, engineRun}
+use Rattle.checker_spec.specs.CheckText.{judged, checkText, countLf}
 
 -- A sheet, a budget and a number of answer bytes, with the result. The table has 8,192 numbers, the work buffer 64 for each unit.
 pub record Case : Type 0 where

@@ -4,8 +4,8 @@ use mathlib.Core.Path.{_≡_, ap, _∙_, subst}
 use mathlib.Core.List.{List, [], _∷_}
 use Rattle.outcomes.specs.declared.Verdict.{Verdict}
 use Rattle.outcomes.specs.Outcomes.{verdictCode, verdictLine, verdictNumber}
-use Rattle.judgements.specs.Handed.{handed}
-use Rattle.judgements.specs.Promises.{HandedBack, CheckContract}
+use Rattle.checker_spec.specs.Handed.{handed}
+use Rattle.checker_spec.specs.Promises.{HandedBack, CheckContract}
 use Rattle.rules.specs.Results.{putFront}
 use Rattle.rules.specs.RulesCheck.{checkNumbers, checkOf, RulesCheck}
 

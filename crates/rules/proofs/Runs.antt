@@ -5,8 +5,8 @@ use mathlib.Core.List.{List, [], _∷_}
 use Rattle.outcomes.specs.declared.Run.{Run}
 use Rattle.outcomes.specs.declared.Outcome.{Outcome}
 use Rattle.outcomes.specs.Outcomes.{outcomeCode, refusalNumber, refusalLine}
-use Rattle.runs.specs.Handed.{handed}
-use Rattle.runs.specs.Promises.{HandedBack, RunContract}
+use Rattle.engine_spec.specs.Handed.{handed}
+use Rattle.engine_spec.specs.Promises.{HandedBack, RunContract}
 use Rattle.rules.specs.Results.{putFront}
 use Rattle.rules.specs.RulesRun.{runNumbers, runOf, RulesRun}
 

@@ -3,8 +3,8 @@ use Prim.Native.Nat.{ℕ}
 use mathlib.Core.Path.{_≡_}
 use mathlib.Core.List.{List, [], _∷_}
 use lib.ListN.{length}
-use Rattle.judgements.specs.CheckText.{checkText}
-use Rattle.judgements.specs.Promises.{HandedBack, handedBack, CheckContract}
+use Rattle.checker_spec.specs.CheckText.{checkText}
+use Rattle.checker_spec.specs.Promises.{HandedBack, handedBack, CheckContract}
 use Rattle.rules.specs.Results.{putFront}
 
 -- Verdict, line, refusal number.

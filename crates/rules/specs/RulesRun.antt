@@ -3,8 +3,8 @@ use Prim.Native.Nat.{ℕ}
 use mathlib.Core.Path.{_≡_}
 use mathlib.Core.List.{List, [], _∷_}
 use lib.ListN.{length}
-use Rattle.runs.specs.EngineRun.{engineRun}
-use Rattle.runs.specs.Promises.{HandedBack, handedBack, RunContract}
+use Rattle.engine_spec.specs.EngineRun.{engineRun}
+use Rattle.engine_spec.specs.Promises.{HandedBack, handedBack, RunContract}
 use Rattle.rules.specs.Results.{putFront}
 
 -- Outcome, units, text length, refusal number, line.

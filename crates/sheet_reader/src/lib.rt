@@ -1,15 +1,17 @@
 // Reading a sheet: its lines are taken one after the other, to the Q line or the first refusal.
-use making::Counts;
-use making::Taken;
+pub mod sheet_lines;
+
 use outcomes::Refusal;
-use reader::Read;
-use reader::line_end;
-use reader::read_at;
+use sheet_lines::Read;
+use sheet_lines::line_end;
+use sheet_lines::read_at;
+use table_builder::node_info::Counts;
+use table_builder::node_info::Taken;
 ghost use mathlib.Core.Path.{_≡_};
 ghost use Prim.Native.Nat.{_≤_};
 ghost use lib.ListN.{length};
-ghost use Rattle.sheets.specs.Limits.{maxSheetBytes, tableNumbers};
-ghost use Rattle.reader.specs.Reader.{refusedRead, finished, ReadContract};
+ghost use Rattle.sheet_format.specs.Limits.{maxSheetBytes, tableNumbers};
+ghost use Rattle.sheet_reader.specs.Reader.{refusedRead, finished, ReadContract};
 
 fn refused(number: u32, line: u32) -> Read
     ensures { λ r. ⌜ r ≡ refusedRead number line ⌝ }

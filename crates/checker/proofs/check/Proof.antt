@@ -1,10 +1,10 @@
 use mathlib.Core.Path.{sym, _∙_}
 use lib.ListN.{length}
 use lib.Seq.{length-take-le}
-use Rattle.judgements.proofs.LineFeeds.{countLf-most}
+use Rattle.checker_spec.proofs.LineFeeds.{countLf-most}
 use Rattle.memory.proofs.Parts.{part-fits}
-use Rattle.judgements.proofs.Parts.{part-demanded}
-use Rattle.judgements.proofs.Gates.{Passed, early-passed, check-refused, check-short, check-passed}
+use Rattle.checker_spec.proofs.Parts.{part-demanded}
+use Rattle.checker_spec.proofs.Gates.{Passed, early-passed, check-refused, check-short, check-passed}
 use borrow.Author.Needs.{needs}
 use Rattle.checker.proofs.check.Statement.{statement}
 use Rattle.checker.proofs.check.Tie as tie

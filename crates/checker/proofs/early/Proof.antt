@@ -1,5 +1,5 @@
 use borrow.Author.Tests.{lt-ltb, le-ltb}
-use Rattle.judgements.specs.Checking.{earlyNumber}
+use Rattle.checker_spec.specs.Checking.{earlyNumber}
 use Rattle.checker.proofs.early.Statement.{statement}
 use Rattle.checker.proofs.early.Tie as tie
 

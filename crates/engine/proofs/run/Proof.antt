@@ -3,11 +3,11 @@ use native.Mathlib.Omega.{arith}
 use mathlib.Core.Path.{sym, _∙_}
 use lib.ListN.{length}
 use lib.Seq.{length-take-le}
-use Rattle.sheets.specs.Buffers.{demanded}
-use Rattle.runs.proofs.Answered.{Passed}
+use Rattle.sheet_format.specs.Buffers.{demanded}
+use Rattle.engine_spec.proofs.Answered.{Passed}
 use Rattle.memory.proofs.Parts.{part-fits}
 use Rattle.engine.proofs.Laws.{part-demanded}
-use Rattle.runs.proofs.Gates.{early-passed, run-refused, run-passed}
+use Rattle.engine_spec.proofs.Gates.{early-passed, run-refused, run-passed}
 use borrow.Author.Needs.{needs}
 use Rattle.engine.proofs.run.Statement.{statement}
 use Rattle.engine.proofs.run.Tie as tie

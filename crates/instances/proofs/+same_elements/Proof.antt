@@ -11,13 +11,13 @@ use native.Mathlib.Omega.{arith}
 use Rattle.instances.proofs.same_elements.Reads as same-elements
 use Rattle.instances.proofs.same_elements.Kinds as same-elements-kinds
 use Rattle.instances.proofs.+same_elements.Lts-same_elements as same-elements-lts
-use Rattle.name_classes.proofs.child_of.Reads as child-of-reads
-use Rattle.name_classes.proofs.join_name.Reads as join-name-reads
-use Rattle.name_classes.proofs.root_of.Reads as root-of-reads
+use Rattle.instances.proofs.name_classes.child_of.Reads as child-of-reads
+use Rattle.instances.proofs.name_classes.join_name.Reads as join-name-reads
+use Rattle.instances.proofs.name_classes.root_of.Reads as root-of-reads
 use Rattle.memory.proofs.put.Reads as put-reads
 use Rattle.memory.proofs.wide.Reads as wide-reads
-use Rattle.tables.proofs.child_count.Reads as child-count-reads
-use Rattle.tables.proofs.label.Reads as label-reads
+use Rattle.node_table.proofs.child_count.Reads as child-count-reads
+use Rattle.node_table.proofs.label.Reads as label-reads
 
 abbrev μ-same-elements : Measures 5 same-elements-kinds.ps ℕ
 μ-same-elements κs a = a .0

@@ -1,6 +1,6 @@
 use borrow.Author.Tests.{lt-ltb, le-ltb}
 use borrow.Author.Needs.{needs}
-use Rattle.reader.specs.Reader.{finished}
+use Rattle.sheet_reader.specs.Reader.{finished}
 use Rattle.sheet_reader.proofs.finish.Statement.{statement}
 use Rattle.sheet_reader.proofs.finish.Tie as tie
 

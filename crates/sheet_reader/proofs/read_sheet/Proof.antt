@@ -2,7 +2,7 @@ use Prim.Native.Nat.{_-_}
 use native.Mathlib.Omega.{arith}
 use lib.ListN.{length}
 use borrow.Author.Needs.{needs}
-use Rattle.reader.proofs.Reading.{Reading, LineEnds, reading-begins, reading-line, reading-on, reading-stops, reading-ends, reading-open, reading-none}
+use Rattle.sheet_reader.proofs.sheet_lines.Reading.{Reading, LineEnds, reading-begins, reading-line, reading-on, reading-stops, reading-ends, reading-open, reading-none}
 use Rattle.sheet_reader.proofs.read_sheet.Statement.{statement}
 use Rattle.sheet_reader.proofs.read_sheet.Tie as tie
 

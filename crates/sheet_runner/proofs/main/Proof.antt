@@ -3,8 +3,8 @@ use native.Mathlib.Omega.{arith}
 use mathlib.Core.Path.{sym}
 use lib.Seq.{length-take-le}
 use borrow.Author.Needs.{needs}
-use Rattle.runs.specs.Handed.{handed}
-use Rattle.runs.proofs.Promises.{callersTold}
+use Rattle.engine_spec.specs.Handed.{handed}
+use Rattle.engine_spec.proofs.Promises.{callersTold}
 use Rattle.sheet_runner.proofs.main.Statement.{statement}
 use Rattle.sheet_runner.proofs.main.Tie as tie
 

@@ -1,0 +1,40 @@
+-- One law for each way through a turn of a loop or through a call; the hypotheses are the facts on the code's path.
+use Prim.Native.Nat.{ℕ, zero, suc, _+_, _-_, _/_, _%_, _≤_, _<_}
+use native.Mathlib.Numerals.{add-one, sub-one}
+use native.Mathlib.Omega.{arith}
+use mathlib.Core.Path.{_≡_, refl}
+use mathlib.Core.Bool.{Bool, true, false, cond}
+use mathlib.Core.List.{List}
+use borrow.Author.Tests.{eq-eqb, ne-eqb}
+use lib.Dec.{eqb}
+use Rattle.sheet_format.specs.Bytes.{ascii}
+use Rattle.machine.specs.Words.{variableWord}
+use Rattle.printing.specs.Marks.{Page}
+use Rattle.printing.specs.WriteLines.{bytesTo, numberTo, termLine, bindingsTo}
+
+pub binding-none : (g x : Page) (bits : ℕ) → (bits % 2 ≡ 1 → ⊥) → g ≡ cond (eqb (bits % 2) 1) x g
+binding-none g x bits e = simp (ne-eqb _ _ e)
+
+-- either way, then on
+then-either : (f : Page → Page) (x y : Page) (b : Bool) → elim b [ true ↦ f x | false ↦ f y ] ≡ f (cond b x y)
+then-either f x y true = refl
+then-either f x y false = refl
+
+module _ (sheet t : List ℕ) (turns limit : ℕ) where
+  -- the line of a free variable
+  bindingLine : Page → ℕ → Page
+  bindingLine g v = termLine sheet t turns limit (numberTo limit (bytesTo limit g (ascii "B\t")) v) (ascii "\t") (variableWord v)
+
+  module _ (g : Page) (bits v : ℕ) where
+    pub binding-some : (s g₁ g₂ : Page) (a : ℕ) → bits % 2 ≡ 1 → g₁ ≡ bytesTo limit g (ascii "B\t") → g₂ ≡ numberTo limit g₁ v → a ≡ variableWord v → s ≡ termLine sheet t turns limit g₂ (ascii "\t") a → s ≡ cond (eqb (bits % 2) 1) (termLine sheet t turns limit (numberTo limit (bytesTo limit g (ascii "B\t")) v) (ascii "\t") (variableWord v)) g
+    binding-some s g₁ g₂ a e e₁ e₂ ea es = rw (es, ea, e₂, e₁) (simp (eq-eqb _ _ e))
+
+    pub bindings-end : (n : ℕ) → n ≤ 0 → bindingsTo sheet t turns limit n bits v g ≡ g
+    unfolding bindingsTo
+    bindings-end zero h = refl
+    bindings-end (suc n) h = absurd (omega arith)
+
+    pub bindings-on : (n : ℕ) (s : Page) → 0 < n → s ≡ cond (eqb (bits % 2) 1) (termLine sheet t turns limit (numberTo limit (bytesTo limit g (ascii "B\t")) v) (ascii "\t") (variableWord v)) g → bindingsTo sheet t turns limit n bits v g ≡ bindingsTo sheet t turns limit (n - 1) (bits / 2) (v + 1) s
+    unfolding bindingsTo bindingLine
+    bindings-on zero s h e = absurd (omega arith)
+    bindings-on (suc n) s h e = rw (sub-one (suc n), add-one v, e) (then-either (bindingsTo sheet t turns limit n (bits / 2) (suc v)) (bindingLine g v) g (eqb (bits % 2) 1))

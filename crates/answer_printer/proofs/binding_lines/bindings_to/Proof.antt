@@ -1,0 +1,28 @@
+use Prim.Native.Nat.{_+_}
+use Rattle.answer_printer.proofs.binding_lines.Laws.{bindings-end, bindings-on}
+use Rattle.printing.specs.Marks.{page}
+use Rattle.printing.specs.WriteLines.{bindingsTo}
+use borrow.Author.Needs.{needs}
+use lib.ListN.{length}
+use mathlib.Core.Path.{_∙_, _≡_, sym}
+use native.Mathlib.Omega.{arith}
+use Rattle.answer_printer.proofs.binding_lines.bindings_to.Statement.{statement}
+use Rattle.answer_printer.proofs.binding_lines.bindings_to.Tie as tie
+
+abbrev Inv-loop : tie.InvT-loop
+Inv-loop sheet t turns limit n bits v w₀ out₀ left₀ rest₀ name₀ q₀ w out left rest name q = (length w ≡ length w₀) × (length out ≡ length out₀) × (name + left ≡ v + n) × (bindingsTo sheet t turns limit n bits v (page w₀ out₀ q₀) ≡ bindingsTo sheet t turns limit left rest name (page w out q))
+
+abbrev μ-loop : tie.MeasureT-loop
+μ-loop sheet t turns limit n bits v w₀ out₀ left₀ rest₀ name₀ q₀ w out left rest name q = left
+
+loop-again : tie.Need-loop-again Inv-loop μ-loop
+loop-again c = (c .before .before .before .before .binding-to .kept .1 .1 .1 .1 .1 .1 .0 ∙ c .before .before .before .before .before .before .before .before .loop .inv .0, c .before .before .before .before .binding-to .kept .1 .1 .1 .1 .1 .1 .1 .0 ∙ c .before .before .before .before .before .before .before .before .loop .inv .1, omega (arith, c .before .before .before .before .before .before .before .before .loop .inv .2, c .before .before .before .before .before .before .before .loop-test .taken), c .before .before .before .before .before .before .before .before .loop .inv .3 ∙ bindings-on _ _ _ _ _ _ _ _ _ (c .before .before .before .before .before .before .before .loop-test .taken) (c .before .before .before .before .binding-to .ensures))
+
+returns : tie.Need-returns Inv-loop μ-loop
+returns c = sym (c .before .loop .inv .3 ∙ bindings-end _ _ _ _ _ _ _ _ (c .loop-test .left))
+
+pub bindings-to-spec : {M : Type 1} → statement M
+bindings-to-spec =
+    tie.close
+    (tie.spec Inv-loop μ-loop (λ c. search needs) (λ c κs. search needs) (λ c. search needs) (λ c. search needs)
+    (λ c. search needs) loop-again (λ c. search needs) (λ c. search needs) returns)

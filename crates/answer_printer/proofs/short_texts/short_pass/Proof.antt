@@ -1,0 +1,12 @@
+use Rattle.answer_printer.proofs.short_texts.Laws.{short-written}
+use borrow.Author.Needs.{needs}
+use Rattle.answer_printer.proofs.short_texts.short_pass.Statement.{statement}
+use Rattle.answer_printer.proofs.short_texts.short_pass.Tie as tie
+
+returns : tie.Need-returns
+returns c = short-written _ _ _ _ _ _ _ _ _ (c .before .before .before .before .before .before .before .before .before .before .write-bytes .ensures) (c .before .before .before .before .before .before .write-number .ensures) (c .before .before .emit .ensures)
+
+pub short-pass-spec : {M : Type 1} → statement M
+short-pass-spec =
+    tie.close
+    (tie.spec (λ c κs. search needs) (λ c κs. search needs) (λ c κs. search needs) (λ c. search needs) returns)

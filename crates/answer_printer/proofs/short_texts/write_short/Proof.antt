@@ -1,0 +1,16 @@
+use Rattle.answer_printer.proofs.short_texts.Laws.{short-fits, short-unfit}
+use borrow.Author.Needs.{needs}
+use Rattle.answer_printer.proofs.short_texts.write_short.Statement.{statement}
+use Rattle.answer_printer.proofs.short_texts.write_short.Tie as tie
+
+returns : tie.Need-returns
+returns c = short-unfit _ _ _ _ _ _ (c .before .before .before .before .before .text-limit .ensures .0) (c .before .before .before .short-pass .ensures) (c .before .before .before .short-pass .kept .1 .1 .0) (c .if1 .taken)
+
+returns-2 : tie.Need-returns-2
+returns-2 c = short-fits _ _ _ _ _ _ (c .before .before .before .before .before .before .before .before .before .text-limit .ensures .0) (c .before .before .before .before .before .before .before .short-pass .ensures) (c .before .before .before .before .before .before .before .short-pass .kept .1 .1 .0) _ (c .before .before .before .before .if1 .left) (c .before .before .short-pass2 .ensures)
+
+pub write-short-spec : {M : Type 1} → statement M
+write-short-spec =
+    tie.close
+    (tie.spec (λ c κs. search needs) (λ c. search needs) (λ c. search needs) (λ c κs. search needs) (λ c. search needs) returns
+    (λ c κs. search needs) (λ c. search needs) returns-2)

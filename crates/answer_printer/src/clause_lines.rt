@@ -1,0 +1,64 @@
+// A D line of an answer, with the terms of its prefix. Each function is a definition of the crate printing, and its contract
+// says so.
+use super::line_parts::bytes_to;
+use super::line_parts::number_to;
+use machine_memory::cells::field;
+use machine_memory::words::narrow;
+use memory::wide;
+use printing::Pen;
+use term_printer::cursor::emit_to;
+use term_printer::term_to;
+ghost use mathlib.Core.Path.{_≡_};
+ghost use Prim.Native.Nat.{_+_, _<_, _≤_};
+ghost use Rattle.printing.specs.Marks.{page};
+ghost use Rattle.printing.specs.WriteLines.{prefixTo, clauseTo};
+
+// The terms of a prefix: n variables from x on.
+pub fn prefix_to(
+    sheet: &[u8],
+    t: &[u32],
+    turns: u32,
+    limit: u32,
+    n: u32,
+    w: &mut [u32],
+    out: &mut [u8],
+    p: Pen,
+    x: usize,
+) -> Pen
+    requires { ⌜ (limit ≤ 65535) × (x + n < 8589934592) ⌝ }
+    ensures { λ q. ⌜ page (now (w .exit)) (now (out .exit)) q ≡ prefixTo (now (sheet .entry)) (now (t .entry)) turns limit n (page (now (w .entry)) (now (out .entry)) p) x ⌝ }
+{
+    let mut left = n;
+    let mut next = x;
+    let mut q = p;
+    while 0 < left {
+        let e = emit_to(limit, out, q, b'\t');
+        q = term_to(sheet, t, turns, limit, w, out, e, narrow(4 * next + 1));
+        next += 1;
+        left -= 1;
+    }
+    q
+}
+
+// The place of a member and the terms of its prefix, of record u.
+pub fn clause_to(
+    sheet: &[u8],
+    t: &[u32],
+    turns: u32,
+    limit: u32,
+    w: &mut [u32],
+    out: &mut [u8],
+    p: Pen,
+    u: u32,
+) -> Pen
+    requires { ⌜ limit ≤ 65535 ⌝ }
+    ensures { λ q. ⌜ page (now (w .exit)) (now (out .exit)) q ≡ clauseTo (now (sheet .entry)) (now (t .entry)) turns limit (page (now (w .entry)) (now (out .entry)) p) u ⌝ }
+{
+    let place = field(w, u, 41);
+    let count = field(w, u, 42);
+    let first = wide(field(w, u, 43));
+    let mut q = bytes_to(limit, out, p, b"D\tclause\t");
+    q = number_to(limit, out, q, place);
+    q = prefix_to(sheet, t, turns, limit, count, w, out, q, first);
+    emit_to(limit, out, q, b'\n')
+}

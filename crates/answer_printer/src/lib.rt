@@ -1,0 +1,104 @@
+// The engine's writer: the text of a proof in two passes over the lent buffers, the first to see that it fits.
+// Each function is a definition of the crate printing, and its contract says so.
+mod binding_lines;
+mod clause_lines;
+mod line_parts;
+mod path_lines;
+pub mod short_texts;
+
+use binding_lines::bindings_to;
+use line_parts::result_to;
+use machine::Registers;
+use node_table::mask;
+use path_lines::lines_to;
+use printing::Pen;
+use short_texts::text_limit;
+use term_printer::numbering::on_at;
+use term_printer::path_links::clear_constants;
+use term_printer::path_links::link_path;
+ghost use mathlib.Core.Path.{_≡_};
+ghost use mathlib.Core.List.{List};
+ghost use Prim.Native.Nat.{ℕ, _<_, _≤_};
+ghost use Rattle.machine.specs.Records.{made};
+ghost use Rattle.printing.specs.Marks.{page};
+ghost use Rattle.printing.specs.Links.{linked};
+ghost use Rattle.printing.specs.Writer.{proofPass, prepare, firstLink, answered, writePass, writeProof};
+
+// The text of a proved search: the path begins at link e.
+pub fn proof_pass(
+    sheet: &[u8],
+    t: &[u32],
+    turns: u32,
+    limit: u32,
+    goal: u32,
+    units: u32,
+    e: u32,
+    w: &mut [u32],
+    out: &mut [u8],
+    p: Pen,
+) -> Pen
+    requires { ⌜ limit ≤ 65535 ⌝ }
+    ensures { λ q. ⌜ page (now (w .exit)) (now (out .exit)) q ≡ proofPass (now (sheet .entry)) (now (t .entry)) turns limit goal units e (page (now (w .entry)) (now (out .entry)) p) ⌝ }
+{
+    let bits = mask(t, goal);
+    let mut q = result_to(limit, out, p, b"R\tproved\t", units);
+    q = bindings_to(sheet, t, turns, limit, 8, bits, 0, w, out, q);
+    lines_to(sheet, t, turns, limit, turns, w, out, q, e)
+}
+
+// Links the path in the order taken, and clears the numbers of constants; the result is the link to the first line.
+pub fn prepare(w: &mut [u32], r: Registers) -> u32
+    ensures { λ e. ⌜ linked (now (w .exit)) e ≡ linked (prepare (made (now (w .entry)) r)) (firstLink (made (now (w .entry)) r)) ⌝ }
+{
+    let acts = r.acts;
+    let e = link_path(acts, w, r.path, r.line, 0);
+    clear_constants(acts, w);
+    e
+}
+
+// The second pass: the numbers are there, the buffer is the lent one.
+pub fn write_pass(
+    sheet: &[u8],
+    t: &[u32],
+    turns: u32,
+    limit: u32,
+    goal: u32,
+    units: u32,
+    e: u32,
+    w: &mut [u32],
+    p: Pen,
+    out: &mut [u8],
+) -> u32
+    requires { ⌜ limit ≤ 65535 ⌝ }
+    ensures { λ n. ⌜ ((b : List ℕ) → answered (now (w .exit)) (now (out .exit)) n ≡ writePass (now (sheet .entry)) (now (t .entry)) turns limit goal units e (page (now (w .entry)) b p) (now (out .entry))) ⌝ }
+{
+    let q = proof_pass(sheet, t, turns, limit, goal, units, e, w, out, on_at(p, 0));
+    q.at
+}
+
+// The answer of a proved search, and its length; 65,536 where it does not fit. The first pass counts and numbers, over no bytes.
+pub fn write_proof(
+    sheet: &[u8],
+    t: &[u32],
+    goal: u32,
+    w: &mut [u32],
+    r: Registers,
+    units: u32,
+    out: &mut [u8],
+) -> u32
+    ensures { λ n. ⌜ answered (now (w .exit)) (now (out .exit)) n ≡ writeProof (now (sheet .entry)) (now (t .entry)) goal (made (now (w .entry)) r) units (now (out .entry)) ⌝ }
+{
+    let limit = text_limit(out);
+    let acts = r.acts;
+    let e = prepare(w, r);
+    let p = Pen {
+        at: 0,
+        variables: 0,
+        constants: 0,
+    };
+    let g = proof_pass(sheet, t, acts, limit, goal, units, e, w, &mut out[..0], p);
+    if limit < g.at {
+        return 65536;
+    }
+    write_pass(sheet, t, acts, limit, goal, units, e, w, g, out)
+}

@@ -1,0 +1,56 @@
+// The parts of the lines of an answer. Each function is a definition of the crate printing, and its contract says so; a
+// function that leaves the work buffer alone says so for any memory.
+use printing::Pen;
+use term_printer::cursor::emit_to;
+use term_printer::numbering::on_at;
+use term_printer::output::write_bytes;
+use term_printer::output::write_number;
+use term_printer::term_to;
+ghost use mathlib.Core.Path.{_≡_};
+ghost use mathlib.Core.List.{List};
+ghost use Prim.Native.Nat.{ℕ, _≤_};
+ghost use Rattle.printing.specs.Marks.{page};
+ghost use Rattle.printing.specs.WriteLines.{bytesTo, numberTo, resultTo, termLine};
+
+pub fn bytes_to(limit: u32, out: &mut [u8], p: Pen, bs: &[u8]) -> Pen
+    ensures { λ q. ⌜ ((m : List ℕ) → page m (now (out .exit)) q ≡ bytesTo limit (page m (now (out .entry)) p) (now (bs .entry))) ⌝ }
+{
+    let to = write_bytes(bs, out, limit, p.at);
+    on_at(p, to)
+}
+
+pub fn number_to(limit: u32, out: &mut [u8], p: Pen, n: u32) -> Pen
+    ensures { λ q. ⌜ ((m : List ℕ) → page m (now (out .exit)) q ≡ numberTo limit (page m (now (out .entry)) p) n) ⌝ }
+{
+    let to = write_number(out, limit, p.at, n);
+    on_at(p, to)
+}
+
+// Outcome and units: bs are the bytes before the units.
+pub fn result_to(limit: u32, out: &mut [u8], p: Pen, bs: &[u8], units: u32) -> Pen
+    ensures { λ q. ⌜ ((m : List ℕ) → page m (now (out .exit)) q ≡ resultTo limit (page m (now (out .entry)) p) (now (bs .entry)) units) ⌝ }
+{
+    let mut q = bytes_to(limit, out, p, bs);
+    q = number_to(limit, out, q, units);
+    emit_to(limit, out, q, b'\n')
+}
+
+// A line of these bytes and the term of word a.
+pub fn term_line(
+    sheet: &[u8],
+    t: &[u32],
+    turns: u32,
+    limit: u32,
+    w: &mut [u32],
+    out: &mut [u8],
+    p: Pen,
+    bs: &[u8],
+    a: u32,
+) -> Pen
+    requires { ⌜ limit ≤ 65535 ⌝ }
+    ensures { λ q. ⌜ page (now (w .exit)) (now (out .exit)) q ≡ termLine (now (sheet .entry)) (now (t .entry)) turns limit (page (now (w .entry)) (now (out .entry)) p) (now (bs .entry)) a ⌝ }
+{
+    let mut q = bytes_to(limit, out, p, bs);
+    q = term_to(sheet, t, turns, limit, w, out, q, a);
+    emit_to(limit, out, q, b'\n')
+}

@@ -1,0 +1,50 @@
+// The texts of no and spent, in two passes. Each function is a definition of the crate printing, and its contract says so.
+use term_printer::output::emit;
+use term_printer::output::write_bytes;
+use term_printer::output::write_number;
+ghost use mathlib.Core.Path.{_≡_};
+ghost use Prim.Native.Nat.{_<_, _≤_};
+ghost use Rattle.printing.specs.Output.{written};
+ghost use Rattle.printing.specs.Writer.{textLimit, shortPass, writeShort, writeNo, writeSpent};
+
+// The most bytes that fit.
+pub fn text_limit(out: &[u8]) -> u32
+    ensures { λ r. ⌜ (r ≡ textLimit (now (out .entry))) × (r ≤ 65535) ⌝ }
+{
+    if out.len() < 65535 {
+        return out.len() as u32;
+    }
+    65535
+}
+
+// The texts of no and spent: bs are the bytes before the units.
+pub fn short_pass(bs: &[u8], units: u32, out: &mut [u8], limit: u32) -> u32
+    ensures { λ r. ⌜ written (now (out .exit)) r ≡ shortPass (now (bs .entry)) units (now (out .entry)) limit ⌝ }
+{
+    let mut to = write_bytes(bs, out, limit, 0);
+    to = write_number(out, limit, to, units);
+    emit(out, limit, to, b'\n')
+}
+
+pub fn write_short(bs: &[u8], units: u32, out: &mut [u8]) -> u32
+    ensures { λ r. ⌜ written (now (out .exit)) r ≡ writeShort (now (bs .entry)) units (now (out .entry)) ⌝ }
+{
+    let limit = text_limit(out);
+    let length = short_pass(bs, units, &mut out[..0], limit);
+    if limit < length {
+        return 65536;
+    }
+    short_pass(bs, units, out, limit)
+}
+
+pub fn write_no(units: u32, out: &mut [u8]) -> u32
+    ensures { λ r. ⌜ written (now (out .exit)) r ≡ writeNo units (now (out .entry)) ⌝ }
+{
+    write_short(b"R\tno\t", units, out)
+}
+
+pub fn write_spent(budget: u32, out: &mut [u8]) -> u32
+    ensures { λ r. ⌜ written (now (out .exit)) r ≡ writeSpent budget (now (out .entry)) ⌝ }
+{
+    write_short(b"R\tspent\t", budget, out)
+}

@@ -1,0 +1,12 @@
+-- The part of the work buffer that is judged in.
+use Prim.Native.Nat.{ℕ, _*_, _≤_}
+use mathlib.Core.Path.{_≡_}
+use mathlib.Core.List.{List}
+use lib.ListN.{length, take}
+use Rattle.memory.proofs.Parts.{part-fits}
+use Rattle.sheet_format.specs.Buffers.{demanded}
+
+-- The part of the work buffer, m being the count of LF.
+pub part-demanded : (n m : ℕ) (l : List ℕ) → m ≡ n → 64 * m ≤ length l → demanded n ≤ length (take (64 * m) l)
+unfolding demanded
+part-demanded n m l e h = rw (← e) (part-fits (64 * m) l h)

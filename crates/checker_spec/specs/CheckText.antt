@@ -1,0 +1,51 @@
+-- Document 01, "Turned back, in checking order", for the checker: refusals 1, 2, 4, 5, 6 to 11, or the judgement; and the final
+-- contents of each lent buffer. A function of the sheet's bytes, the text's bytes and the lengths of the lent buffers.
+use Prim.Native.Nat.{ℕ, suc}
+use mathlib.Core.Bool.{Bool, true, false, cond}
+use mathlib.Core.List.{List, [], _∷_}
+use lib.Dec.{eqb, leb, ltb}
+use lib.ListN.{length}
+use Rattle.sheet_format.specs.Limits.{maxSheetBytes, tableNumbers, maxTextBytes}
+use Rattle.sheet_format.specs.Buffers.{demanded, zeroed}
+use Rattle.sheet_format.specs.Bytes.{lf}
+use Rattle.sheet_format.specs.Sheets.{Refusal, refusal, Read, sheet, refused, readSheet}
+use Rattle.answer_texts.specs.Judging.{Judgement, judge}
+
+pub data Checked : Type 0 where
+  judged : Judgement → Checked
+  turnedBack : Refusal → Checked
+
+-- "for each LF in the answer text"
+unfoldable pub countLf : List ℕ → ℕ
+countLf [] = 0
+countLf (c ∷ cs) = cond (eqb c lf) (suc (countLf cs)) (countLf cs)
+
+unfoldable pub checkSheet : List ℕ → Read → Checked
+checkSheet text (refused r) = turnedBack r
+checkSheet text (sheet s) = judged (judge s text)
+
+-- Refused with this number and line 0, if the test says so.
+unfoldable pub turnBackIf : Bool → ℕ → Checked → Checked
+turnBackIf true n r = turnedBack (refusal n 0)
+turnBackIf false n r = r
+
+-- The sheet's bytes, the text's, the lengths of table and work buffer.
+unfoldable pub checkText : List ℕ → List ℕ → ℕ → ℕ → Checked
+checkText bytes text tableLength workLength =
+    turnBackIf (ltb maxSheetBytes (length bytes)) 1
+    (turnBackIf (ltb tableLength tableNumbers) 2
+    (turnBackIf (ltb maxTextBytes (length text)) 4
+    (turnBackIf (ltb workLength (demanded (countLf text))) 5
+    (checkSheet text (readSheet bytes)))))
+
+-- "On 1 to 5 no buffer changes. Past 5, refused or not, the first 8,192 numbers of the table and the demanded part of the work
+-- buffer are zero at the end, the rest of both unchanged."
+unfoldable pub isEarly : Checked → Bool
+isEarly (judged j) = false
+isEarly (turnedBack r) = leb (r .number) 5
+
+unfoldable pub tableAfter : Checked → List ℕ → List ℕ
+tableAfter r table = cond (isEarly r) table (zeroed tableNumbers table)
+
+unfoldable pub workAfter : Checked → List ℕ → List ℕ → List ℕ
+workAfter r text work = cond (isEarly r) work (zeroed (demanded (countLf text)) work)

@@ -1,0 +1,22 @@
+-- One law for each way through a turn of a loop or through a call; the hypotheses are the facts on the code's path.
+use Prim.Native.Nat.{ℕ, _-_}
+use mathlib.Core.Path.{_≡_, _∙_}
+use mathlib.Core.List.{List}
+use borrow.Author.Tests.{eq-eqb, ne-eqb}
+use Rattle.scanning.specs.Frames.{field}
+use Rattle.line_checking.specs.declared.Registers.{Registers}
+use Rattle.line_checking.specs.Sequents.{onStage, onSequent, dueSequent, proceed}
+
+-- the next sequent
+
+pub sequent-due : (w : List ℕ) (r s : Registers) (q n f h i m : ℕ) → n ≡ field w q 16 → f ≡ field w q 17 → h ≡ field w q 18 → i ≡ field w q 19 → m ≡ field w q 20 → s ≡ onSequent r n f h i m → s ≡ dueSequent w r q
+unfolding dueSequent
+sequent-due w r s q n f h i m en ef eh ei em es = rw (es, en, ef, eh, ei, em)
+
+pub all-done : (w : List ℕ) (r s : Registers) → r .rest ≡ 0 → s ≡ onStage r 3 → s ≡ proceed w r
+unfolding proceed
+all-done w r s z es = rw (es, eq-eqb _ _ z)
+
+pub next-due : (w : List ℕ) (r s : Registers) → (r .rest ≡ 0 → ⊥) → s ≡ dueSequent w r (r .rest - 1) → s ≡ proceed w r
+unfolding proceed
+next-due w r s z es = es ∙ rw (ne-eqb _ _ z)

@@ -1,0 +1,14 @@
+use Rattle.line_checking.specs.Sequents.{putHypothesis}
+use Rattle.instances.proofs.frames.Laws.{and-put}
+use borrow.Author.Needs.{needs}
+use Rattle.checker_state.proofs.open_sequents.put_hypothesis.Statement.{statement}
+use Rattle.checker_state.proofs.open_sequents.put_hypothesis.Tie as tie
+
+returns : tie.Need-returns
+unfolding putHypothesis
+returns c = and-put _ _ _ (and-put _ _ _ (c .before .before .before .before .before .before .before .before .before .before .put-field .ensures) (c .before .before .before .before .before .before .put-field2 .ensures)) (c .before .before .put-field3 .ensures)
+
+pub put-hypothesis-spec : {M : Type 1} → statement M
+put-hypothesis-spec =
+    tie.close
+    (tie.spec (λ c κs. search needs) (λ c κs. search needs) (λ c κs. search needs) (λ c. search needs) returns)

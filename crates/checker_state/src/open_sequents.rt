@@ -1,0 +1,61 @@
+// The sequents that are left to derive, in the lent work buffer. Each function is a definition of the crate line_checking, and
+// its contract says so.
+use super::registers::on_sequent;
+use super::registers::on_stage;
+use instances::frames::field;
+use instances::frames::put_field;
+use line_checking::Registers;
+ghost use mathlib.Core.Path.{_≡_};
+ghost use Prim.Native.Nat.{_-_};
+ghost use Rattle.line_checking.specs.Sequents.{putSequent, dueSequent, proceed, putHypothesis};
+
+// A sequent left, in record q.
+pub fn put_sequent(
+    w: &mut [u32],
+    q: u32,
+    node: u32,
+    frame: u32,
+    hypotheses: u32,
+    level: u32,
+    next: u32,
+)
+    ensures { λ _. ⌜ now (w .exit) ≡ putSequent (now (w .entry)) q node frame hypotheses level next ⌝ }
+{
+    put_field(w, q, 16, node);
+    put_field(w, q, 17, frame);
+    put_field(w, q, 18, hypotheses);
+    put_field(w, q, 19, level);
+    put_field(w, q, 20, next);
+}
+
+// It is due.
+pub fn due_sequent(w: &[u32], r: Registers, q: u32) -> Registers
+    ensures { λ s. ⌜ s ≡ dueSequent (now (w .entry)) r q ⌝ }
+{
+    let node = field(w, q, 16);
+    let frame = field(w, q, 17);
+    let hypotheses = field(w, q, 18);
+    let level = field(w, q, 19);
+    let next = field(w, q, 20);
+    on_sequent(r, node, frame, hypotheses, level, next)
+}
+
+// The next of the sequents left is due, if there is one.
+pub fn proceed(w: &[u32], r: Registers) -> Registers
+    ensures { λ s. ⌜ s ≡ proceed (now (w .entry)) r ⌝ }
+{
+    let rest = r.rest;
+    if rest == 0 {
+        return on_stage(r, 3);
+    }
+    due_sequent(w, r, rest - 1)
+}
+
+// A hypothesis, in record q.
+pub fn put_hypothesis(w: &mut [u32], q: u32, node: u32, frame: u32, next: u32)
+    ensures { λ _. ⌜ now (w .exit) ≡ putHypothesis (now (w .entry)) q node frame next ⌝ }
+{
+    put_field(w, q, 21, node);
+    put_field(w, q, 22, frame);
+    put_field(w, q, 23, next);
+}

@@ -1,0 +1,50 @@
+// The clause at a place of a sequent: a hypothesis or a clause of the sheet.
+// Each function is a definition of the crate line_checking, and its contract says so.
+use instances::frames::field;
+use line_checking::Place;
+use node_table::clause_node;
+use node_table::members;
+ghost use mathlib.Core.Path.{_≡_};
+ghost use Rattle.line_checking.specs.Members.{clauseFrom, hypothesisFrom};
+
+// Member k of the sheet's clauses, of which there are so many.
+pub fn clause_from(clauses: u32, t: &[u32], k: u32) -> Place
+    ensures { λ r. ⌜ r ≡ clauseFrom clauses (now (t .entry)) 0 k ⌝ }
+{
+    let mut i: u32 = 0;
+    let mut left = k;
+    while i < clauses {
+        let node = clause_node(t, i);
+        let count = members(t, node);
+        if left < count {
+            return Place::At(node, 0, left);
+        }
+        left -= count;
+        i += 1;
+    }
+    Place::Nowhere
+}
+
+// Member k counted from the hypothesis h on, of at most n hypotheses, then the sheet's clauses.
+pub fn hypothesis_from(n: u32, t: &[u32], clauses: u32, w: &[u32], h: u32, k: u32) -> Place
+    ensures { λ r. ⌜ r ≡ hypothesisFrom n (now (t .entry)) clauses (now (w .entry)) h k ⌝ }
+{
+    let mut turns = n;
+    let mut next = h;
+    let mut left = k;
+    while 0 < turns {
+        if next == 0 {
+            return clause_from(clauses, t, left);
+        }
+        let q = next - 1;
+        let node = field(w, q, 21);
+        let count = members(t, node);
+        if left < count {
+            return Place::At(node, field(w, q, 22), left);
+        }
+        next = field(w, q, 23);
+        left -= count;
+        turns -= 1;
+    }
+    clause_from(clauses, t, left)
+}

@@ -1,0 +1,14 @@
+use borrow.Author.Needs.{needs}
+use Rattle.machine.specs.Trying.{tryNext}
+use Rattle.clause_acts.proofs.backchaining.try_next.Statement.{statement}
+use Rattle.clause_acts.proofs.backchaining.try_next.Tie as tie
+
+returns : tie.Need-returns
+unfolding tryNext
+returns c =
+    simp (tryNext, ← c .before .before .try-found .ensures, ← c .before .before .before .before .find-member .ensures, ← c .before .before .before .before .before .clause-of .ensures)
+
+pub try-next-spec : {M : Type 1} → statement M
+try-next-spec =
+    tie.close
+    (tie.spec (λ c κs. search needs) (λ c κs. search needs) (λ c κs. search needs) (λ c. search needs) returns)

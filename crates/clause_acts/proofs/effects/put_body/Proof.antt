@@ -1,0 +1,21 @@
+use borrow.Author.Tests.{eq-eqb, ne-eqb}
+use borrow.Author.Needs.{needs}
+use Rattle.machine.specs.Trying.{putBody}
+use Rattle.clause_acts.proofs.effects.put_body.Statement.{statement}
+use Rattle.clause_acts.proofs.effects.put_body.Tie as tie
+
+returns : tie.Need-returns
+unfolding putBody
+returns c =
+    simp (putBody, ne-eqb _ _ (c .if1 .taken), ← c .before .kind .ensures)
+
+returns-2 : tie.Need-returns-2
+unfolding putBody
+returns-2 c =
+    simp (putBody, ← c .before .before .put-goal .ensures, ← c .before .before .before .up .ensures, ← c .before .before .before .before .child .ensures, eq-eqb _ _ (c .before .before .before .before .before .before .if1 .left), ← c .before .before .before .before .before .before .before .kind .ensures)
+
+pub put-body-spec : {M : Type 1} → statement M
+put-body-spec =
+    tie.close
+    (tie.spec (λ c κs. search needs) returns (λ c κs. search needs) (λ c κs. search needs) (λ c κs. search needs)
+    (λ c. search needs) returns-2)

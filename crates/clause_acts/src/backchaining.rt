@@ -1,0 +1,52 @@
+// Trying a member. Each function is a definition of the crate machine, and its contract says so.
+use super::effects::put_try;
+use super::effects::tried;
+use super::lookup::find_member;
+use super::lookup::head_of;
+use super::next_member::clause_of;
+use super::next_member::next_member;
+use super::next_member::put_prefix;
+use goal_acts::goals::try_from;
+use machine::Found;
+use machine::Registers;
+use machine_memory::records::put_pairs;
+use machine_memory::words::up;
+use match_acts::pairs::due_pairs;
+use match_acts::pairs::pairs_from;
+use node_table::label;
+ghost use mathlib.Core.Path.{_≡_};
+ghost use Rattle.machine.specs.Records.{made};
+ghost use Rattle.machine.specs.Words.{up};
+ghost use Rattle.machine.specs.Trying.{tried, tryMember, tryFound, tryNext};
+ghost use Rattle.machine.specs.Machine.{act};
+
+// The predicates agree: the argument pairs are due.
+pub fn try_member(t: &[u32], c: u32, w: &mut [u32], r: Registers, m: Found) -> Registers
+    ensures { λ s. ⌜ made (now (w .exit)) s ≡ tryMember (now (t .entry)) c (now (w .entry)) r m ⌝ }
+{
+    let u = r.acts;
+    let s = next_member(t, w, r);
+    put_prefix(w, r, m);
+    put_try(t, c, w, r, m, s);
+    let p = up(u);
+    put_pairs(w, u, r.node, r.frame, head_of(t, m.leaf), p, 0);
+    due_pairs(w, tried(t, c, r, m, s), pairs_from(t, w, p, 0))
+}
+
+// First the predicates are compared; if they differ the try fails, and the next member is due.
+pub fn try_found(t: &[u32], c: u32, w: &mut [u32], r: Registers, m: Found) -> Registers
+    ensures { λ s. ⌜ made (now (w .exit)) s ≡ tryFound (now (t .entry)) c (now (w .entry)) r m ⌝ }
+{
+    if label(t, r.node) == label(t, head_of(t, m.leaf)) {
+        return try_member(t, c, w, r, m);
+    }
+    try_from(c, w, next_member(t, w, r))
+}
+
+// One act: the member that is due.
+pub fn try_next(t: &[u32], c: u32, w: &mut [u32], r: Registers) -> Registers
+    ensures { λ s. ⌜ made (now (w .exit)) s ≡ tryNext (now (t .entry)) c (now (w .entry)) r ⌝ }
+{
+    let m = find_member(1024, t, clause_of(t, w, r), r.member);
+    try_found(t, c, w, r, m)
+}

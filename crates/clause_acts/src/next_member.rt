@@ -1,0 +1,68 @@
+// The member that is due for an atom, the one after it, and its prefix. Each function is a definition of the crate machine, and its
+// contract says so.
+use machine::Found;
+use machine::Registers;
+use machine_memory::cells::field;
+use machine_memory::frames::copy_frame;
+use machine_memory::frames::put_fresh;
+use machine_memory::registers::on_member;
+use machine_memory::words::up;
+use node_table::clause_node;
+use node_table::members;
+ghost use mathlib.Core.Path.{_≡_};
+ghost use Rattle.machine.specs.Words.{up};
+ghost use Rattle.machine.specs.Trying.{clauseOf, clauseFrame, nextClause, nextMember, putPrefix};
+
+// The clause whose member is due: its node and its frame.
+pub fn clause_of(t: &[u32], w: &[u32], r: Registers) -> u32
+    ensures { λ n. ⌜ n ≡ clauseOf (now (t .entry)) (now (w .entry)) r ⌝ }
+{
+    let h = r.hypothesis;
+    if h == 0 {
+        return clause_node(t, r.clause);
+    }
+    field(w, h - 1, 36)
+}
+
+pub fn clause_frame(w: &[u32], r: Registers) -> u32
+    ensures { λ f. ⌜ f ≡ clauseFrame (now (w .entry)) r ⌝ }
+{
+    let h = r.hypothesis;
+    if h == 0 {
+        return 0;
+    }
+    field(w, h - 1, 37)
+}
+
+// At the first member of the clause after it.
+pub fn next_clause(w: &[u32], r: Registers) -> Registers
+    ensures { λ s. ⌜ s ≡ nextClause (now (w .entry)) r ⌝ }
+{
+    let h = r.hypothesis;
+    let place = up(r.place);
+    if h == 0 {
+        return on_member(r, 0, up(r.clause), 0, place);
+    }
+    on_member(r, field(w, h - 1, 38), 0, 0, place)
+}
+
+// At the member after it.
+pub fn next_member(t: &[u32], w: &[u32], r: Registers) -> Registers
+    ensures { λ s. ⌜ s ≡ nextMember (now (t .entry)) (now (w .entry)) r ⌝ }
+{
+    let k = up(r.member);
+    if k < members(t, clause_of(t, w, r)) {
+        return on_member(r, r.hypothesis, r.clause, k, up(r.place));
+    }
+    next_clause(w, r)
+}
+
+// The frame of the try: the clause's, with fresh variables of the goal's level for the prefix of the member.
+pub fn put_prefix(w: &mut [u32], r: Registers, m: Found)
+    ensures { λ _. ⌜ now (w .exit) ≡ putPrefix (now (w .entry)) r m ⌝ }
+{
+    let u = r.acts;
+    let f = clause_frame(w, r);
+    copy_frame(8, w, u, f, 0);
+    put_fresh(m.count, w, u, m.names, r.next, r.level);
+}

@@ -1,0 +1,47 @@
+// The end of a run: what the search came to, its text written, and what is told of both.
+use machine::Registers;
+use outcomes::Outcome;
+use outcomes::Run;
+ghost use mathlib.Core.Path.{_≡_};
+ghost use lib.ListN.{length};
+ghost use Rattle.machine.specs.Records.{made};
+ghost use Rattle.engine_spec.specs.Answering.{reported, ended, tell};
+
+// A text of this length was written, or did not fit.
+fn report(outcome: Outcome, units: u32, length: u32) -> Run
+    ensures { λ r. ⌜ r ≡ reported outcome units length ⌝ }
+{
+    if 65535 < length {
+        return outcomes::refused(12, 0);
+    }
+    Run {
+        outcome,
+        units,
+        length,
+    }
+}
+
+// The text of what the machine came to, and what is told of it.
+pub fn tell(
+    sheet: &[u8],
+    t: &[u32],
+    goal: u32,
+    budget: u32,
+    w: &mut [u32],
+    r: Registers,
+    answer: &mut [u8],
+) -> Run
+    ensures { λ e. ⌜ ended (now (answer .exit)) e ≡ tell (now (sheet .entry)) (now (t .entry)) goal budget (made (now (w .entry)) r) (now (answer .entry)) ⌝ }
+{
+    let acts = r.acts;
+    if r.mode == 4 {
+        let n = answer_printer::write_proof(sheet, t, goal, w, r, acts, answer);
+        return report(Outcome::Proved, acts, n);
+    }
+    if r.mode == 5 {
+        let n = answer_printer::short_texts::write_no(acts, answer);
+        return report(Outcome::No, acts, n);
+    }
+    let n = answer_printer::short_texts::write_spent(budget, answer);
+    report(Outcome::Spent, budget, n)
+}

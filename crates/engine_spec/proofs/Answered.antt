@@ -1,0 +1,114 @@
+-- When a run answers, and with what: none of refusals 1 to 5 arose, the bytes are a sheet, and its answer fits.
+use Prim.Native.Nat.{ℕ, _≤_, _<_}
+use mathlib.Core.Path.{_≡_, refl, sym, _∙_, ap}
+use mathlib.Core.Bool.{Bool, true, false, _||_, cond}
+use mathlib.Core.List.{List}
+use mathlib.Core.Logic.{_⊎_, inl, inr}
+use native.Mathlib.Omega.{arith}
+use lib.Dec.{eqb, ltb}
+use lib.ListN.{length}
+use borrow.Author.Tests.{ltb-true, ltb-false, eqb-false, lt-ltb, le-ltb, eq-eqb, ne-eqb}
+use Rattle.search.specs.Search.{Outcome, search}
+use Rattle.sheet_format.specs.Limits.{maxSheetBytes, tableNumbers, maxBudget, maxTextBytes}
+use Rattle.sheet_format.specs.Sheets.{Sheet, Refusal, refusal, Read, sheet, refused, readSheet}
+use Rattle.sheet_format.specs.Buffers.{demanded}
+use Rattle.engine_spec.specs.EngineRun.{Answer, Result, answered, turnedBack, answerTo, fit, runSheet, turnBackIf, engineRun}
+
+-- the tests of refusals 1, 2, 3 and 5 all fail
+pub record Passed (bytes : List ℕ) (budget t w : ℕ) : Type 0 where
+  pub sheetFits : length bytes ≤ maxSheetBytes
+  pub tableFits : tableNumbers ≤ t
+  pub least : 1 ≤ budget
+  pub most : budget ≤ maxBudget
+  pub workFits : demanded budget ≤ w
+
+-- the run answers x for the sheet s
+pub record Answers (bytes : List ℕ) (budget t w a : ℕ) (x : Answer) : Type 0 where
+  pub passed : Passed bytes budget t w
+  pub s : Sheet
+  pub read : readSheet bytes ≡ sheet s
+  pub textFits : length (x .text) ≤ maxTextBytes
+  pub bufferFits : length (x .text) ≤ a
+  pub is : x ≡ answerTo s budget (search budget (s .clauses) (s .goal))
+
+-- a refusal is no answer
+refused-answered : (r : Refusal) (x : Answer) → turnedBack r ≡ answered x → ⊥
+refused-answered r x e = let z : _≡_ {A = ℕ} 0 1 = cc in omega arith
+
+-- a gate that was passed
+passed-gate : (b : Bool) (n : ℕ) (r : Result) (x : Answer) → turnBackIf b n r ≡ answered x → (b ≡ false) × (r ≡ answered x)
+unfolding turnBackIf
+passed-gate true n r x e = absurd (refused-answered (refusal n 0) x e)
+passed-gate false n r x e = (refl, e)
+
+or-false : (a b : Bool) → a || b ≡ false → (a ≡ false) × (b ≡ false)
+or-false true b e = absurd (let z : _≡_ {A = ℕ} 0 1 = cc in omega arith)
+or-false false b e = (refl, e)
+
+fit-answered : (a : ℕ) (y x : Answer) → fit a y ≡ answered x → (y ≡ x) × (length (y .text) ≤ maxTextBytes) × (length (y .text) ≤ a)
+unfolding fit
+fit-answered a y x e = go (ltb maxTextBytes (length (y .text)) || ltb a (length (y .text))) refl e
+  where
+    go : (b : Bool) → ltb maxTextBytes (length (y .text)) || ltb a (length (y .text)) ≡ b → cond b (turnedBack (refusal 12 0)) (answered y) ≡ answered x
+        → (y ≡ x) × (length (y .text) ≤ maxTextBytes) × (length (y .text) ≤ a)
+    go true q e = absurd (refused-answered (refusal 12 0) x e)
+    go false q e = let r = or-false _ _ q in (cc, ltb-false _ _ (r .0), ltb-false _ _ (r .1))
+
+runSheet-answered : (budget a : ℕ) (r : Read) (x : Answer) → runSheet budget a r ≡ answered x
+    → (s : Sheet) × (r ≡ sheet s) × (fit a (answerTo s budget (search budget (s .clauses) (s .goal))) ≡ answered x)
+unfolding runSheet
+runSheet-answered budget a (refused r) x e = absurd (refused-answered r x e)
+runSheet-answered budget a (sheet s) x e = (s, refl, e)
+
+-- what an answer says of the run
+pub answered-answers : (bytes : List ℕ) (budget t w a : ℕ) (x : Answer) → engineRun bytes budget t w a ≡ answered x → Answers bytes budget t w a x
+unfolding engineRun
+answered-answers bytes budget t w a x e =
+    let g1 = passed-gate _ _ _ x e in
+    let g2 = passed-gate _ _ _ x (g1 .1) in
+    let g3 = passed-gate _ _ _ x (g2 .1) in
+    let g5 = passed-gate _ _ _ x (g3 .1) in
+    let b = or-false (eqb budget 0) (ltb maxBudget budget) (g3 .0) in
+    let q = runSheet-answered budget a (readSheet bytes) x (g5 .1) in
+    let f = fit-answered a (answerTo (q .0) budget (search budget (q .0 .clauses) (q .0 .goal))) x (q .2) in
+    record {
+      passed = record {
+        sheetFits = ltb-false _ _ (g1 .0);
+        tableFits = ltb-false _ _ (g2 .0);
+        least = let z = eqb-false budget 0 (b .0) in omega arith;
+        most = ltb-false _ _ (b .1);
+        workFits = ltb-false _ _ (g5 .0);
+      };
+      s = q .0;
+      read = q .1;
+      textFits = rw (← f .0) (f .1);
+      bufferFits = rw (← f .0) (f .2);
+      is = sym (f .0);
+    }
+
+-- a run whose sheet and budget pass: its answer, or refusal 2, 5 or 12
+pub passes : (bytes : List ℕ) (budget t w a : ℕ) (s : Sheet) → length bytes ≤ maxSheetBytes → 1 ≤ budget → budget ≤ maxBudget → readSheet bytes ≡ sheet s
+    → (engineRun bytes budget t w a ≡ answered (answerTo s budget (search budget (s .clauses) (s .goal))))
+    ⊎ ((r : Refusal) × (engineRun bytes budget t w a ≡ turnedBack r) × ((r .number ≡ 2) ⊎ ((r .number ≡ 5) ⊎ (r .number ≡ 12))))
+unfolding engineRun turnBackIf runSheet fit
+passes bytes budget t w a s short least most read =
+    rw (le-ltb maxSheetBytes (length bytes) short, ne-eqb budget 0 (λ q. omega arith), le-ltb maxBudget budget most, read)
+    (table (ltb t tableNumbers))
+  where
+    y : Answer
+    y = answerTo s budget (search budget (s .clauses) (s .goal))
+
+    Ends : Result → Type 0
+    Ends o = (o ≡ answered y) ⊎ ((r : Refusal) × (o ≡ turnedBack r) × ((r .number ≡ 2) ⊎ ((r .number ≡ 5) ⊎ (r .number ≡ 12))))
+
+    fitting : (b : Bool) → Ends (cond b (turnedBack (refusal 12 0)) (answered y))
+    fitting true = inr (refusal 12 0, refl, inr (inr refl))
+    fitting false = inl refl
+
+    work : (b : Bool) → Ends (turnBackIf b 5 (fit a y))
+    work true = inr (refusal 5 0, refl, inr (inl refl))
+    work false = fitting (ltb maxTextBytes (length (y .text)) || ltb a (length (y .text)))
+
+    table : (b : Bool) → Ends (turnBackIf b 2 (turnBackIf (ltb w (demanded budget)) 5 (fit a y)))
+    table true = inr (refusal 2 0, refl, inl refl)
+    table false = work (ltb w (demanded budget))

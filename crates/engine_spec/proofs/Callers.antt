@@ -1,0 +1,138 @@
+-- T5 and T8 for callers: from T1, what they are told and what lies in their answer buffer.
+use Prim.Native.Nat.{ℕ, _≤_}
+use mathlib.Core.Path.{_≡_, refl, sym, _∙_, ap, subst}
+use mathlib.Core.List.{List}
+use mathlib.Core.Logic.{_⊎_, inl, inr}
+use native.Mathlib.Omega.{arith}
+use lib.ListN.{length, take}
+use Rattle.search.specs.Search.{Verdict, proved, noProof, ComesTo, ends}
+use Rattle.sheet_format.specs.Sheets.{Sheet, Refusal, sheet, readSheet}
+use Rattle.answer_texts.specs.Spelled.{SpellsDerivation}
+use Rattle.engine_spec.specs.EngineRun.{Told, toldProved, toldNo, toldSpent, Answer, Result, answered, turnedBack, answerTo, engineRun, answerAfter}
+use Rattle.engine_spec.specs.Promises.{HandedBack, outcomeNumber, handedBack, RunContract, RunSound, AllDemand3, verdictTold, CallerTold, CallersTold, ToldAgain}
+use Rattle.engine_spec.proofs.Answered.{answered-answers}
+use Rattle.engine_spec.proofs.Buffers.{take-front}
+
+-- the outcomes by their numbers
+proved-number : (t : Told) → outcomeNumber t ≡ 0 → t ≡ toldProved
+unfolding outcomeNumber
+proved-number toldProved e = refl
+proved-number toldNo e = absurd (omega arith)
+proved-number toldSpent e = absurd (omega arith)
+
+no-number : (t : Told) → outcomeNumber t ≡ 1 → t ≡ toldNo
+unfolding outcomeNumber
+no-number toldProved e = absurd (omega arith)
+no-number toldNo e = refl
+no-number toldSpent e = absurd (omega arith)
+
+spent-number : (t : Told) → outcomeNumber t ≡ 2 → t ≡ toldSpent
+unfolding outcomeNumber
+spent-number toldProved e = absurd (omega arith)
+spent-number toldNo e = absurd (omega arith)
+spent-number toldSpent e = refl
+
+not-spent : (t : Told) → outcomeNumber t ≤ 1 → t ≡ toldSpent → ⊥
+unfolding outcomeNumber
+not-spent t h e = let z : outcomeNumber t ≡ 2 = rw e in omega arith
+
+-- of a verdict
+verdict-number : (s : Sheet) (budget n : ℕ) (v : Verdict) → outcomeNumber (answerTo s budget (ends v n) .outcome) ≡ verdictTold v
+unfolding answerTo outcomeNumber verdictTold
+verdict-number s budget n (proved st ls) = refl
+verdict-number s budget n noProof = refl
+
+-- A result that is handed back, with what is then in the answer buffer.
+record Holds (answer answer′ : List ℕ) (r : HandedBack) (x : Answer) : Type 0 where
+  outcome : r .outcome ≡ outcomeNumber (x .outcome)
+  units : r .units ≡ x .units
+  value : r ≡ handedBack (answered x)
+  text : take (r .length) answer′ ≡ x .text
+
+holds : (answer answer′ : List ℕ) (r : HandedBack) (x : Answer) → r ≡ handedBack (answered x) → answer′ ≡ answerAfter (answered x) answer → Holds answer answer′ r x
+unfolding handedBack answerAfter
+holds answer answer′ r x v a = record {
+  outcome = ap (λ (b : HandedBack). b .outcome) v;
+  units = ap (λ (b : HandedBack). b .units) v;
+  value = v;
+  text = rw (v, a) (take-front (x .text) _);
+}
+
+-- A refusal tells no outcome.
+refusal-number : (r : HandedBack) (f : Refusal) → r ≡ handedBack (turnedBack f) → (r .outcome ≡ 3) × (r .length ≡ 0) × (r .number ≡ f .number)
+unfolding handedBack
+refusal-number r f v = (ap (λ (b : HandedBack). b .outcome) v, ap (λ (b : HandedBack). b .length) v, ap (λ (b : HandedBack). b .number) v)
+
+module _ (bytes : List ℕ) (budget : ℕ) (table work answer table′ work′ answer′ : List ℕ) (r : HandedBack) (c : RunContract bytes budget table work answer table′ work′ answer′ r) where
+  result : Result
+  result = engineRun bytes budget (length table) (length work) (length answer)
+
+  -- Told an outcome, the run has an answer.
+  the-answer : r .outcome ≤ 2 → (x : Answer) × (result ≡ answered x) × Holds answer answer′ r x
+  unfolding result
+  the-answer h = go result refl
+    where
+      go : (q : Result) → result ≡ q → (x : Answer) × (result ≡ answered x) × Holds answer answer′ r x
+      go (answered x) e = (x, e, holds answer answer′ r x (c .value ∙ ap handedBack e) (c .answerEnd ∙ ap (λ (y : Result). answerAfter y answer) e))
+      go (turnedBack f) e = absurd (let n = refusal-number r f (c .value ∙ ap handedBack e) .0 in omega arith)
+
+  text-fits : r .length ≤ length answer
+  unfolding result handedBack
+  text-fits = go result refl
+    where
+      go : (q : Result) → result ≡ q → r .length ≤ length answer
+      go (answered x) e =
+          let v : r .length ≡ length (x .text) = ap (λ (b : HandedBack). b .length) (c .value ∙ ap handedBack e) in
+          rw v (answered-answers bytes budget (length table) (length work) (length answer) x e .bufferFits)
+      go (turnedBack f) e = let n = refusal-number r f (c .value ∙ ap handedBack e) .1 in omega arith
+
+  caller-told : RunSound → AllDemand3 → CallerTold bytes budget answer answer′ r
+  unfolding result outcomeNumber
+  caller-told sound demand = record {
+    isSheet = λ h.
+        let q = the-answer h in
+        let p = answered-answers bytes budget (length table) (length work) (length answer) (q .0) (q .1) in
+        (p .s, p .read);
+    spells = λ s read h.
+        let q = the-answer (omega arith) in
+        let p = sound bytes budget (length table) (length work) (length answer) (q .0) (q .1) (proved-number _ (sym (q .2 .outcome) ∙ h)) in
+        let e : p .0 ≡ s = same-sheet (p .0) s (p .1) read in
+        rw (q .2 .text) (subst (λ (y : Sheet). SpellsDerivation y (q .0 .text)) e (p .2));
+    neverNo = λ s read h e d.
+        let q = the-answer (omega arith) in
+        demand bytes s read .neverNo e d budget (length table) (length work) (length answer) (q .0) (q .1) (no-number _ (sym (q .2 .outcome) ∙ h));
+    comesTo = λ s read h.
+        let q = the-answer (omega arith) in
+        let p = demand bytes s read .comesTo budget (length table) (length work) (length answer) (q .0) (q .1) (not-spent _ (subst (λ (k : ℕ). k ≤ 1) (q .2 .outcome) h)) in
+        (p .0, subst (λ (k : ℕ). ComesTo (s .clauses) (s .goal) k (p .0)) (sym (q .2 .units)) (p .1), q .2 .outcome ∙ ap (λ (y : Answer). outcomeNumber (y .outcome)) (p .2) ∙ verdict-number s budget (q .0 .units) (p .0));
+    spends = λ s read h.
+        let q = the-answer h in
+        let p = demand bytes s read .spends budget (length table) (length work) (length answer) (q .0) (q .1) in
+        ((λ e. p .0 (spent-number _ (sym (q .2 .outcome) ∙ e))), (λ k. q .2 .outcome ∙ ap outcomeNumber (p .1 k)));
+    fits = text-fits;
+  }
+    where
+      same-sheet : (x y : Sheet) → readSheet bytes ≡ sheet x → readSheet bytes ≡ sheet y → x ≡ y
+      same-sheet x y e f = cc
+
+pub callers-told : RunSound → AllDemand3 → CallersTold
+callers-told sound demand bytes budget table work answer table′ work′ answer′ r c = caller-told bytes budget table work answer table′ work′ answer′ r c sound demand
+
+pub told-again : AllDemand3 → ToldAgain
+unfolding result
+told-again demand bytes budget table work answer table′ work′ answer′ r larger table₂ work₂ answer₂ table₂′ work₂′ answer₂′ r₂ c d h l m =
+    let q = the-answer bytes budget table work answer table′ work′ answer′ r c (omega arith) in
+    let x = q .0 in
+    let p = answered-answers bytes budget (length table) (length work) (length answer) x (q .1) in
+    go x (q .2)
+    (demand bytes (p .s) (p .read) .same budget (length table) (length work) (length answer) x (q .1) (not-spent _ (subst (λ (k : ℕ). k ≤ 1) (q .2 .outcome) h)) larger (length table₂) (length work₂) (length answer₂) l m)
+  where
+    R : Result
+    R = engineRun bytes larger (length table₂) (length work₂) (length answer₂)
+
+    go : (x : Answer) → Holds answer answer′ r x → (R ≡ answered x) ⊎ ((f : Refusal) × (R ≡ turnedBack f) × ((f .number ≡ 2) ⊎ ((f .number ≡ 5) ⊎ (f .number ≡ 12))))
+        → ((r₂ ≡ r) × (take (r₂ .length) answer₂′ ≡ take (r .length) answer′)) ⊎ ((r₂ .number ≡ 2) ⊎ ((r₂ .number ≡ 5) ⊎ (r₂ .number ≡ 12)))
+    go x k (inl e) =
+        let z = holds answer₂ answer₂′ r₂ x (d .value ∙ ap handedBack e) (d .answerEnd ∙ ap (λ (y : Result). answerAfter y answer₂) e) in
+        inl (z .value ∙ sym (k .value), z .text ∙ sym (k .text))
+    go x k (inr (f, e, n)) = inr (subst (λ (i : ℕ). (i ≡ 2) ⊎ ((i ≡ 5) ⊎ (i ≡ 12))) (sym (refusal-number r₂ f (d .value ∙ ap handedBack e) .2)) n)

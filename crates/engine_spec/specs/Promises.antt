@@ -1,0 +1,106 @@
+-- Promises T1, T5, T8 and T10 about the engine's run (demands 1 to 3).
+use Prim.Native.Nat.{ℕ, _≤_, _<_}
+use mathlib.Core.Path.{_≡_}
+use mathlib.Core.List.{List}
+use mathlib.Core.Logic.{_⊎_, _↔_}
+use lib.ListN.{length, take}
+use Rattle.sequents.specs.Symbols.{Symbol}
+use Rattle.sequents.specs.Sequents.{Environment}
+use Rattle.sequents.specs.Derivations.{InstanceDerivation}
+use Rattle.search.specs.Search.{Verdict, proved, noProof, ComesTo, ends}
+use Rattle.sheet_format.specs.Limits.{maxBudget}
+use Rattle.sheet_format.specs.Sheets.{Sheet, Refusal, Read, sheet, readSheet}
+use Rattle.answer_texts.specs.Spelled.{SpellsDerivation}
+use Rattle.engine_spec.specs.EngineRun.{Told, toldProved, toldNo, toldSpent, Answer, Result, answered, turnedBack, answerTo, engineRun, tableAfter, workAfter, answerAfter}
+
+-- What the run hands back, in document 01's numbers: 0 proved, 1 no, 2 spent, 3 refused; units and text length, both 0 where it
+-- is refused; refusal number and line, both 0 where it is not.
+pub record HandedBack : Type 0 where
+  pub outcome : ℕ
+  pub units : ℕ
+  pub length : ℕ
+  pub number : ℕ
+  pub line : ℕ
+
+unfoldable pub outcomeNumber : Told → ℕ
+outcomeNumber toldProved = 0
+outcomeNumber toldNo = 1
+outcomeNumber toldSpent = 2
+
+unfoldable pub handedBack : Result → HandedBack
+handedBack (answered a) = record { outcome = outcomeNumber (a .outcome); units = a .units; length = length (a .text); number = 0; line = 0 }
+handedBack (turnedBack r) = record { outcome = 3; units = 0; length = 0; number = r .number; line = r .line }
+
+-- T1, demand 1: what the run hands back and what each lent buffer then holds. `run` promises this for every input.
+pub record RunContract (bytes : List ℕ) (budget : ℕ) (table work answer table′ work′ answer′ : List ℕ) (r : HandedBack) : Type 0 where
+  pub value : r ≡ handedBack (engineRun bytes budget (length table) (length work) (length answer))
+  pub tableEnd : table′ ≡ tableAfter (engineRun bytes budget (length table) (length work) (length answer)) table
+  pub workEnd : work′ ≡ workAfter (engineRun bytes budget (length table) (length work) (length answer)) budget work
+  pub answerEnd : answer′ ≡ answerAfter (engineRun bytes budget (length table) (length work) (length answer)) answer
+
+-- T5 of the run: what is told as proved spells a derivation of an instance of the goal.
+abbrev pub RunSound : Type 0
+RunSound = (bytes : List ℕ) (budget t w a : ℕ) (x : Answer) → engineRun bytes budget t w a ≡ answered x → x .outcome ≡ toldProved
+    → (s : Sheet) × (readSheet bytes ≡ sheet s) × SpellsDerivation s (x .text)
+
+-- T8, demand 3, point e of document 01 observed: "told is what an answer says; a refusal tells no outcome".
+pub record Demand3 (bytes : List ℕ) (s : Sheet) : Type 0 where
+  -- "whoever holds a sequent derivation of some instance of the goal, its free variables replaced by terms of level 0, is never
+  -- told no"
+  pub neverNo : (e : Environment Symbol) → InstanceDerivation (s .clauses) (s .goal) e
+      → (budget t w a : ℕ) (x : Answer) → engineRun bytes budget t w a ≡ answered x → x .outcome ≡ toldNo → ⊥
+  -- "Whoever is told proved or no is told what the walk of document 01 comes to, with its units and its text"
+  pub comesTo : (budget t w a : ℕ) (x : Answer) → engineRun bytes budget t w a ≡ answered x → (x .outcome ≡ toldSpent → ⊥)
+      → (v : Verdict) × ComesTo (s .clauses) (s .goal) (x .units) v × (x ≡ answerTo s budget (ends v (x .units)))
+  -- "and is told the same under every larger permitted budget with the buffers for it": any for which refusals 2, 5 and 12 do
+  -- not arise
+  pub same : (budget t w a : ℕ) (x : Answer) → engineRun bytes budget t w a ≡ answered x → (x .outcome ≡ toldSpent → ⊥)
+      → (larger t′ w′ a′ : ℕ) → budget ≤ larger → larger ≤ maxBudget
+      → (engineRun bytes larger t′ w′ a′ ≡ answered x)
+      ⊎ ((r : Refusal) × (engineRun bytes larger t′ w′ a′ ≡ turnedBack r) × ((r .number ≡ 2) ⊎ ((r .number ≡ 5) ⊎ (r .number ≡ 12))))
+  -- "Whoever is told an outcome is told spent exactly if the walk needs more units than the budget."
+  pub spends : (budget t w a : ℕ) (x : Answer) → engineRun bytes budget t w a ≡ answered x
+      → (x .outcome ≡ toldSpent) ↔ ((n : ℕ) (v : Verdict) → ComesTo (s .clauses) (s .goal) n v → budget < n)
+
+abbrev pub AllDemand3 : Type 0
+AllDemand3 = (bytes : List ℕ) (s : Sheet) → readSheet bytes ≡ sheet s → Demand3 bytes s
+
+-- T10: what the lent buffers held before changes nothing in the result or the text.
+abbrev pub BuffersDoNotMatter : Type 0
+BuffersDoNotMatter = (bytes : List ℕ) (budget : ℕ) (table work answer table′ work′ answer′ : List ℕ) (r : HandedBack) (table₂ work₂ answer₂ table₂′ work₂′ answer₂′ : List ℕ) (r₂ : HandedBack)
+    → RunContract bytes budget table work answer table′ work′ answer′ r → RunContract bytes budget table₂ work₂ answer₂ table₂′ work₂′ answer₂′ r₂
+    → length table ≡ length table₂ → length work ≡ length work₂ → length answer ≡ length answer₂
+    → (r ≡ r₂) × (take (r .length) answer′ ≡ take (r₂ .length) answer₂′)
+
+-- What a search comes to, in the numbers handed back.
+unfoldable pub verdictTold : Verdict → ℕ
+verdictTold (proved s ls) = 0
+verdictTold noProof = 1
+
+-- T5 and T8 in the numbers handed back: what a caller is told by a run that keeps T1.
+pub record CallerTold (bytes : List ℕ) (budget : ℕ) (answer answer′ : List ℕ) (r : HandedBack) : Type 0 where
+  -- told an outcome: the bytes are a sheet
+  pub isSheet : r .outcome ≤ 2 → (s : Sheet) × (readSheet bytes ≡ sheet s)
+  -- told proved: the text in the answer buffer spells a derivation of an instance of the goal
+  pub spells : (s : Sheet) → readSheet bytes ≡ sheet s → r .outcome ≡ 0 → SpellsDerivation s (take (r .length) answer′)
+  -- told no: no instance of the goal has a derivation
+  pub neverNo : (s : Sheet) → readSheet bytes ≡ sheet s → r .outcome ≡ 1 → (e : Environment Symbol) → InstanceDerivation (s .clauses) (s .goal) e → ⊥
+  -- told proved or no: what the walk comes to, after as many units as are told
+  pub comesTo : (s : Sheet) → readSheet bytes ≡ sheet s → r .outcome ≤ 1 → (v : Verdict) × ComesTo (s .clauses) (s .goal) (r .units) v × (r .outcome ≡ verdictTold v)
+  -- told an outcome: spent exactly if the walk needs more units than the budget
+  pub spends : (s : Sheet) → readSheet bytes ≡ sheet s → r .outcome ≤ 2 → (r .outcome ≡ 2) ↔ ((n : ℕ) (v : Verdict) → ComesTo (s .clauses) (s .goal) n v → budget < n)
+  -- the text lies in the answer buffer
+  pub fits : r .length ≤ length answer
+
+-- Every caller of such a run.
+abbrev pub CallersTold : Type 0
+CallersTold = (bytes : List ℕ) (budget : ℕ) (table work answer table′ work′ answer′ : List ℕ) (r : HandedBack)
+    → RunContract bytes budget table work answer table′ work′ answer′ r → CallerTold bytes budget answer answer′ r
+
+-- T8 in the numbers handed back: who was told proved or no and asks again with a larger permitted budget is handed back the same,
+-- with the same text, or refusal 2, 5 or 12.
+abbrev pub ToldAgain : Type 0
+ToldAgain = (bytes : List ℕ) (budget : ℕ) (table work answer table′ work′ answer′ : List ℕ) (r : HandedBack) (larger : ℕ) (table₂ work₂ answer₂ table₂′ work₂′ answer₂′ : List ℕ) (r₂ : HandedBack)
+    → RunContract bytes budget table work answer table′ work′ answer′ r → RunContract bytes larger table₂ work₂ answer₂ table₂′ work₂′ answer₂′ r₂
+    → r .outcome ≤ 1 → budget ≤ larger → larger ≤ maxBudget
+    → ((r₂ ≡ r) × (take (r₂ .length) answer₂′ ≡ take (r .length) answer′)) ⊎ ((r₂ .number ≡ 2) ⊎ ((r₂ .number ≡ 5) ⊎ (r₂ .number ≡ 12)))

@@ -1,0 +1,65 @@
+// Taking a goal of the form &, | or > on the lent work buffer and the registers.
+// Each function is a definition of the crate machine, and its contract says so.
+use machine::Registers;
+use machine_memory::records::put_assumption;
+use machine_memory::records::put_goal;
+use machine_memory::records::put_path;
+use machine_memory::registers::on_choice;
+use machine_memory::registers::on_goal;
+use machine_memory::registers::on_goals;
+use machine_memory::registers::on_member;
+use machine_memory::registers::on_path;
+use machine_memory::registers::save_choice;
+use machine_memory::words::up;
+use node_table::child;
+ghost use mathlib.Core.Path.{_≡_};
+ghost use Rattle.machine.specs.Records.{made};
+ghost use Rattle.machine.specs.Goals.{takeAnd, rightBranch, takeOr, takeImplies};
+
+// &: left, then right.
+pub fn take_and(t: &[u32], w: &mut [u32], r: Registers) -> Registers
+    ensures { λ s. ⌜ made (now (w .exit)) s ≡ takeAnd (now (t .entry)) (now (w .entry)) r ⌝ }
+{
+    let act = r.acts;
+    let left = child(t, r.node, 0);
+    let right = child(t, r.node, 1);
+    put_path(w, act, r.path, r.line);
+    put_goal(w, act, right, r.frame, r.program, r.level, r.goals);
+    let next = up(act);
+    let s = on_goals(on_path(r, next, 1), next);
+    on_goal(s, left, r.frame, r.program, r.level)
+}
+
+// |: left; right is the alternative.
+pub fn right_branch(t: &[u32], r: Registers) -> Registers
+    ensures { λ s. ⌜ s ≡ rightBranch (now (t .entry)) r ⌝ }
+{
+    let s = on_path(r, up(r.acts), 3);
+    let goal = on_goal(s, child(t, r.node, 1), r.frame, r.program, r.level);
+    on_member(goal, 0, 0, 0, 0)
+}
+
+pub fn take_or(t: &[u32], w: &mut [u32], r: Registers) -> Registers
+    ensures { λ s. ⌜ made (now (w .exit)) s ≡ takeOr (now (t .entry)) (now (w .entry)) r ⌝ }
+{
+    let act = r.acts;
+    put_path(w, act, r.path, r.line);
+    save_choice(w, act, right_branch(t, r));
+    let next = up(act);
+    let s = on_choice(on_path(r, next, 2), next);
+    on_goal(s, child(t, r.node, 0), r.frame, r.program, r.level)
+}
+
+// >: the clause is assumed, in the goal's frame, in front of that goal's program.
+pub fn take_implies(t: &[u32], w: &mut [u32], r: Registers) -> Registers
+    ensures { λ s. ⌜ made (now (w .exit)) s ≡ takeImplies (now (t .entry)) (now (w .entry)) r ⌝ }
+{
+    let act = r.acts;
+    let clause = child(t, r.node, 0);
+    let goal = child(t, r.node, 1);
+    put_path(w, act, r.path, r.line);
+    put_assumption(w, act, clause, r.frame, r.program);
+    let next = up(act);
+    let s = on_path(r, next, 4);
+    on_goal(s, goal, r.frame, next, r.level)
+}

@@ -1,0 +1,76 @@
+// The goal that is due, and goals that have no goal in them: true, and an atom, whose members are tried next.
+// Each function is a definition of the crate machine, and its contract says so.
+use machine::Registers;
+use machine_memory::cells::field;
+use machine_memory::choice_points::failed;
+use machine_memory::records::put_path;
+use machine_memory::registers::on_goal;
+use machine_memory::registers::on_goals;
+use machine_memory::registers::on_member;
+use machine_memory::registers::on_mode;
+use machine_memory::registers::on_path;
+use machine_memory::words::up;
+ghost use mathlib.Core.Path.{_≡_};
+ghost use Rattle.machine.specs.Records.{made};
+ghost use Rattle.machine.specs.Goals.{dueGoal, proceed, membersLeft, tryFrom, takeAtom, takeTrue};
+
+// The goal that waits in record q is due.
+pub fn due_goal(w: &[u32], r: Registers, q: u32) -> Registers
+    ensures { λ s. ⌜ s ≡ dueGoal (now (w .entry)) r q ⌝ }
+{
+    let s = on_goals(r, field(w, q, 35));
+    let node = field(w, q, 31);
+    let frame = field(w, q, 32);
+    let program = field(w, q, 33);
+    let level = field(w, q, 34);
+    on_goal(s, node, frame, program, level)
+}
+
+// The front goal is due; where none waits, all is proved.
+pub fn proceed(w: &[u32], r: Registers) -> Registers
+    ensures { λ s. ⌜ s ≡ proceed (now (w .entry)) r ⌝ }
+{
+    let goals = r.goals;
+    if goals == 0 {
+        return on_mode(r, 4);
+    }
+    due_goal(w, r, goals - 1)
+}
+
+// Whether there is a member that the registers name; c is the number of the sheet's clauses.
+pub fn members_left(c: u32, r: Registers) -> bool
+    ensures { λ b. ⌜ b ≡ membersLeft c r ⌝ }
+{
+    let hypothesis = r.hypothesis;
+    if hypothesis == 0 {
+        let clause = r.clause;
+        return clause < c;
+    }
+    true
+}
+
+// That member is due.
+pub fn try_from(c: u32, w: &mut [u32], r: Registers) -> Registers
+    ensures { λ s. ⌜ made (now (w .exit)) s ≡ tryFrom c (now (w .entry)) r ⌝ }
+{
+    if members_left(c, r) {
+        return on_mode(r, 1);
+    }
+    failed(w, r)
+}
+
+// An atom: members in turn, assumptions first, latest first, then the sheet's in order.
+pub fn take_atom(c: u32, w: &mut [u32], r: Registers) -> Registers
+    ensures { λ s. ⌜ made (now (w .exit)) s ≡ takeAtom c (now (w .entry)) r ⌝ }
+{
+    try_from(c, w, on_member(r, r.program, 0, 0, 1))
+}
+
+// Y: nothing.
+pub fn take_true(w: &mut [u32], r: Registers) -> Registers
+    ensures { λ s. ⌜ made (now (w .exit)) s ≡ takeTrue (now (w .entry)) r ⌝ }
+{
+    let act = r.acts;
+    put_path(w, act, r.path, r.line);
+    proceed(w, on_path(r, up(act), 0))
+}

@@ -1,0 +1,33 @@
+// Taking whatever goal is due. Each function is a definition of the crate machine, and its contract says so.
+mod connectives;
+pub mod goals;
+mod quantifiers;
+
+use connectives::take_and;
+use connectives::take_implies;
+use connectives::take_or;
+use goals::take_atom;
+use goals::take_true;
+use machine::Registers;
+use node_table::kind;
+use quantifiers::take_exists;
+use quantifiers::take_forall;
+ghost use mathlib.Core.Path.{_≡_};
+ghost use Rattle.machine.specs.Records.{made};
+ghost use Rattle.machine.specs.Goals.{takeGoal};
+
+// By the kind of the goal's node.
+pub fn take_goal(t: &[u32], c: u32, w: &mut [u32], r: Registers) -> Registers
+    ensures { λ s. ⌜ made (now (w .exit)) s ≡ takeGoal (now (t .entry)) c (now (w .entry)) r ⌝ }
+{
+    let sort = kind(t, r.node);
+    match sort {
+        2 => take_atom(c, w, r),
+        4 => take_and(t, w, r),
+        5 => take_or(t, w, r),
+        6 => take_implies(t, w, r),
+        7 => take_exists(t, w, r),
+        8 => take_forall(t, w, r),
+        _ => take_true(w, r),
+    }
+}

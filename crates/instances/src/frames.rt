@@ -1,0 +1,75 @@
+// Records of the checker's work buffer, and the frames in them.
+use memory::get;
+use memory::wide;
+ghost use mathlib.Core.Path.{_≡_};
+ghost use Prim.Native.Nat.{_+_, _*_, _<_};
+ghost use Rattle.scanning.specs.Frames.{field, put, slotStart, slotEnd, putSlot, copyFrame, bindFrame};
+
+// Field f of record r.
+pub fn field(w: &[u32], r: u32, f: u32) -> u32
+    ensures { λ a. ⌜ a ≡ field (now (w .entry)) r f ⌝ }
+{
+    get(w, 64 * wide(r) + wide(f))
+}
+
+pub fn put_field(w: &mut [u32], r: u32, f: u32, a: u32)
+    ensures { λ _. ⌜ now (w .exit) ≡ put (now (w .entry)) r f a ⌝ }
+{
+    memory::put(w, 64 * wide(r) + wide(f), a);
+}
+
+// Where the term of name v in frame r starts and ends.
+pub fn slot_start(w: &[u32], r: u32, v: u32) -> u32
+    ensures { λ a. ⌜ a ≡ slotStart (now (w .entry)) r v ⌝ }
+{
+    get(w, 64 * wide(r) + 2 * wide(v))
+}
+
+pub fn slot_end(w: &[u32], r: u32, v: u32) -> u32
+    ensures { λ a. ⌜ a ≡ slotEnd (now (w .entry)) r v ⌝ }
+{
+    get(w, 64 * wide(r) + (2 * wide(v) + 1))
+}
+
+fn put_start(w: &mut [u32], r: u32, v: u32, s: u32)
+    ensures { λ _. ⌜ now (w .exit) ≡ put (now (w .entry)) r (2 * v) s ⌝ }
+{
+    memory::put(w, 64 * wide(r) + 2 * wide(v), s);
+}
+
+fn put_end(w: &mut [u32], r: u32, v: u32, e: u32)
+    ensures { λ _. ⌜ now (w .exit) ≡ put (now (w .entry)) r (2 * v + 1) e ⌝ }
+{
+    memory::put(w, 64 * wide(r) + (2 * wide(v) + 1), e);
+}
+
+// The term of name v in frame r is the one from s to e.
+pub fn put_slot(w: &mut [u32], r: u32, v: u32, s: u32, e: u32)
+    ensures { λ _. ⌜ now (w .exit) ≡ putSlot (now (w .entry)) r v s e ⌝ }
+{
+    put_start(w, r, v, s);
+    put_end(w, r, v, e);
+}
+
+// Copies n numbers of frame q, from field f on, to record r.
+pub fn copy_frame(n: u32, w: &mut [u32], r: u32, q: u32, f: u32)
+    requires { ⌜ f + n < 4294967296 ⌝ }
+    ensures { λ _. ⌜ now (w .exit) ≡ copyFrame n (now (w .entry)) r q f ⌝ }
+{
+    let mut left = n;
+    let mut at = f;
+    while 0 < left {
+        let a = field(w, q, at);
+        put_field(w, r, at, a);
+        at += 1;
+        left -= 1;
+    }
+}
+
+// The frame of record r is frame q with another term for name v.
+pub fn bind_frame(w: &mut [u32], r: u32, q: u32, v: u32, s: u32, e: u32)
+    ensures { λ _. ⌜ now (w .exit) ≡ bindFrame (now (w .entry)) r q v s e ⌝ }
+{
+    copy_frame(16, w, r, q, 0);
+    put_slot(w, r, v, s, e);
+}

@@ -1,0 +1,149 @@
+// Whether a range of the text spells an instance of a sheet term: a node of the table with a frame, whose names are places in the
+// text.
+use super::frames::slot_end;
+use super::frames::slot_start;
+use memory::byte;
+use memory::wide;
+use node_table::child;
+use node_table::child_count;
+use node_table::kind;
+use node_table::label;
+use node_table::name_start;
+use scanning::Reach;
+use term_scanner::ranges::monus;
+use term_scanner::ranges::same_range;
+use term_scanner::symbol_names::name_size;
+ghost use mathlib.Core.Path.{_≡_};
+ghost use Prim.Native.Nat.{_+_, _-_, _<_};
+ghost use mathlib.Core.Bool.{cond};
+ghost use lib.Dec.{eqb};
+ghost use lib.ListN.{getD};
+ghost use Rattle.scanning.specs.Instances.{sameSlots, alongRange, alongName, alongSlot, along, isInstance};
+
+// Whether the terms of the text from s to e and from i to j are the same.
+pub fn same_slots(text: &[u8], s: usize, e: usize, i: usize, j: usize) -> bool
+    ensures { λ r. ⌜ r ≡ sameSlots (now (text .entry)) s e i j ⌝ }
+{
+    if s == i {
+        return true;
+    }
+    let n = monus(e, s);
+    if n == monus(j, i) {
+        return same_range(n, text, s, text, i);
+    }
+    false
+}
+
+// Whether the n bytes of a from s on stand at place i, and where they end.
+fn along_range(n: usize, a: &[u8], s: usize, text: &[u8], i: usize) -> Reach
+    ensures { λ r. ⌜ r ≡ alongRange n (now (a .entry)) s (now (text .entry)) i ⌝ }
+{
+    if n <= monus(text.len(), i) {
+        if same_range(n, a, s, text, i) {
+            return Reach::To(i + n);
+        }
+        return Reach::Differs;
+    }
+    Reach::Differs
+}
+
+// Whether the name of symbol k does.
+fn along_name(sheet: &[u8], t: &[u32], k: u32, text: &[u8], i: usize) -> Reach
+    ensures { λ r. ⌜ r ≡ alongName (now (sheet .entry)) (now (t .entry)) k (now (text .entry)) i ⌝ }
+{
+    let n = name_size(sheet, t, k);
+    along_range(n, sheet, wide(name_start(t, k)), text, i)
+}
+
+// Whether the term of name v in frame g does.
+fn along_slot(text: &[u8], w: &[u32], g: u32, v: u32, i: usize) -> Reach
+    ensures { λ r. ⌜ r ≡ alongSlot (now (text .entry)) (now (w .entry)) g v i ⌝ }
+{
+    let s = wide(slot_start(w, g, v));
+    let e = wide(slot_end(w, g, v));
+    along_range(monus(e, s), text, s, text, i)
+}
+
+// The bracket after the last child.
+fn along_close(text: &[u8], i: usize) -> Reach
+    ensures { λ r. ⌜ r ≡ cond (eqb (getD (now (text .entry)) i 0) 41) (Reach.To (i + 1)) Reach.Differs ⌝ }
+{
+    if byte(text, i) == b')' {
+        return Reach::To(i + 1);
+    }
+    Reach::Differs
+}
+
+// Whether the instance of node m in frame g stands at place i, and where it ends. The rank is above the node's number.
+fn along_instance(
+    rank: u32,
+    sheet: &[u8],
+    t: &[u32],
+    text: &[u8],
+    w: &[u32],
+    g: u32,
+    m: u32,
+    i: usize,
+) -> Reach
+    ensures { λ r. ⌜ r ≡ along rank (now (sheet .entry)) (now (t .entry)) (now (text .entry)) (now (w .entry)) g m i ⌝ }
+{
+    if rank == 0 {
+        return Reach::Differs;
+    }
+    let name = label(t, m);
+    if kind(t, m) == 0 {
+        return along_slot(text, w, g, name, i);
+    }
+    let Reach::To(e) = along_name(sheet, t, name, text, i) else {
+        return Reach::Differs;
+    };
+    let mut left = child_count(t, m);
+    if left == 0 {
+        return Reach::To(e);
+    }
+    let mut at = e;
+    let mut j: u32 = 0;
+    let mut mark = b'(';
+    while 0 < left {
+        if byte(text, at) == mark {
+            let Reach::To(p) = along_instance(
+                rank - 1,
+                sheet,
+                t,
+                text,
+                w,
+                g,
+                child(t, m, j),
+                at + 1,
+            ) else {
+                return Reach::Differs;
+            };
+            at = p;
+            mark = b',';
+            j += 1;
+            left -= 1;
+        } else {
+            return Reach::Differs;
+        }
+    }
+    along_close(text, at)
+}
+
+// Whether the term of the text from s to e is the instance of node m in frame g.
+pub fn is_instance(
+    sheet: &[u8],
+    t: &[u32],
+    text: &[u8],
+    w: &[u32],
+    s: usize,
+    e: usize,
+    g: u32,
+    m: u32,
+) -> bool
+    ensures { λ r. ⌜ r ≡ isInstance (now (sheet .entry)) (now (t .entry)) (now (text .entry)) (now (w .entry)) s e g m ⌝ }
+{
+    let Reach::To(i) = along_instance(1024, sheet, t, text, w, g, m, s) else {
+        return false;
+    };
+    i == e
+}

@@ -1,0 +1,120 @@
+// The classes of names that stand for one term: their roots, and joining a name to a class (union-find).
+use super::frames::slot_end;
+use super::frames::slot_start;
+use super::instance_ranges::is_instance;
+use super::instance_ranges::same_slots;
+use memory::get;
+use memory::put;
+use memory::wide;
+use node_table::child;
+use node_table::kind;
+use node_table::label;
+ghost use mathlib.Core.Path.{_≡_};
+ghost use Prim.Native.Nat.{_+_, _-_, _<_};
+ghost use Rattle.scanning.specs.Classes.{elementOf, elementChild, frameOn, rooted, rootOf};
+ghost use Rattle.scanning.specs.Instances.{compared, startOf, endOf, sameName, joinName};
+
+// The element of node m on side s.
+fn element_of(t: &[u32], s: u32, m: u32) -> u32
+    requires { ⌜ s < 2 ⌝ }
+    ensures { λ r. ⌜ r ≡ elementOf (now (t .entry)) s m ⌝ }
+{
+    if kind(t, m) == 0 {
+        return 2 * (label(t, m) % 8) + (s + 16);
+    }
+    2 * (m % 1024) + (s + 2048)
+}
+
+// The element of the j-th child of application i.
+pub fn child_of(t: &[u32], i: u32, j: u32) -> u32
+    ensures { λ r. ⌜ r ≡ elementChild (now (t .entry)) i j ⌝ }
+{
+    element_of(t, i % 2, child(t, i / 2 % 1024, j))
+}
+
+// The representative of element i; the way to it is halved.
+pub fn root_of(c: &mut [u32], i: u32) -> u32
+    ensures { λ r. ⌜ rooted (now (c .exit)) r ≡ rootOf (now (c .entry)) i ⌝ }
+{
+    let mut at = i;
+    let mut left: u32 = 1032;
+    while 0 < left {
+        let p = get(c, wide(at));
+        if p == 0 {
+            return at;
+        }
+        let q = get(c, wide(p));
+        if q == 0 {
+            return p;
+        }
+        put(c, wide(at), q);
+        at = q;
+        left -= 1;
+    }
+    at
+}
+
+// The frame of side s.
+fn frame_on(f: u32, g: u32, s: u32) -> u32
+    ensures { λ r. ⌜ r ≡ frameOn f g s ⌝ }
+{
+    if s == 0 {
+        return f;
+    }
+    g
+}
+
+// Where the term of name i starts and ends, in its side's frame.
+fn start_of(w: &[u32], f: u32, g: u32, i: u32) -> usize
+    ensures { λ r. ⌜ r ≡ startOf (now (w .entry)) f g i ⌝ }
+{
+    wide(slot_start(w, frame_on(f, g, i % 2), i / 2 % 8))
+}
+
+fn end_of(w: &[u32], f: u32, g: u32, i: u32) -> usize
+    ensures { λ r. ⌜ r ≡ endOf (now (w .entry)) f g i ⌝ }
+{
+    wide(slot_end(w, frame_on(f, g, i % 2), i / 2 % 8))
+}
+
+// Whether the term of name i is that of element j.
+fn same_name(
+    sheet: &[u8],
+    t: &[u32],
+    text: &[u8],
+    w: &[u32],
+    f: u32,
+    g: u32,
+    i: u32,
+    j: u32,
+) -> bool
+    ensures { λ r. ⌜ r ≡ sameName (now (sheet .entry)) (now (t .entry)) (now (text .entry)) (now (w .entry)) f g i j ⌝ }
+{
+    let s = start_of(w, f, g, i);
+    let e = end_of(w, f, g, i);
+    if j < 2048 {
+        return same_slots(text, s, e, start_of(w, f, g, j), end_of(w, f, g, j));
+    }
+    is_instance(sheet, t, text, w, s, e, frame_on(f, g, j % 2), j / 2 % 1024)
+}
+
+// The same; if so, name i joins the class of element j.
+pub fn join_name(
+    sheet: &[u8],
+    t: &[u32],
+    text: &[u8],
+    w: &[u32],
+    f: u32,
+    g: u32,
+    c: &mut [u32],
+    i: u32,
+    j: u32,
+) -> bool
+    ensures { λ r. ⌜ compared (now (c .exit)) r ≡ joinName (now (sheet .entry)) (now (t .entry)) (now (text .entry)) (now (w .entry)) f g (now (c .entry)) i j ⌝ }
+{
+    if same_name(sheet, t, text, w, f, g, i, j) {
+        put(c, wide(i), j);
+        return true;
+    }
+    false
+}

@@ -1,0 +1,280 @@
+-- Laws of `specs/Lines.antt` and of the lines of `sheet_format`: one for each way through the code. Assumes nothing.
+use Prim.Native.Nat.{ℕ, _+_, _-_, _≤_, _<_}
+use Prim.Native.Char.{code}
+use native.Mathlib.Omega.{arith}
+use mathlib.Core.Bool.{Bool, true, false, cond}
+use mathlib.Core.Path.{_≡_, refl, sym, ap, _∙_}
+use mathlib.Core.List.{List, [], _∷_}
+use mathlib.Core.Option.{Option, none, some}
+use lib.Dec.{ltb, leb}
+use lib.ListN.{length, drop, take}
+use borrow.Author.Tests.{lt-ltb, le-ltb, le-leb, lt-leb, ne-eqb}
+use Rattle.sheet_format.specs.Limits.{maxArity, variableNames}
+use Rattle.sheet_format.specs.Bytes.{fields, isName, number}
+use Rattle.sheet_format.specs.SheetLines.{variableLine, andLine, orLine, impliesLine, someLine, everyLine, SheetLine, declareLine, nodeLine, clauseLine, goalLine, consNumber, numbers, declared, declaration, oneNumber, twoNumbers, withVariable, application}
+use Rattle.line_parser.specs.declared.fields.Number.the-variants.{Value, Bad}
+use Rattle.line_parser.specs.Fields.{fieldLen, firstField, firstNumber, firstName}
+use Rattle.line_parser.proofs.fields.Laws.{rest-part}
+use Rattle.line_parser.proofs.fields.Fields.{fields-first, fields-last, fields-more, first-bad, first-last, first-more, first-length, name-absent, name-present}
+use Rattle.line_parser.specs.declared.lines.Nodes.{Nodes}
+use Rattle.line_parser.specs.declared.lines.NodeLine.the-variants.{Variable, Apply, And, Or, Implies, Exists, Forall}
+use Rattle.line_parser.specs.declared.lines.Line.the-variants.{Declare, Node, Clause, Goal, Malformed}
+use Rattle.line_parser.specs.declared.lines.One.{One}
+use Rattle.line_parser.specs.declared.lines.One.the-variants.{Only, NotOne}
+use Rattle.line_parser.specs.declared.lines.Two.the-variants.{Both, NotTwo}
+use Rattle.line_parser.specs.Lines.{nodesOf, nodeAnswer, lineAnswer, oneAnswer, twoAnswer, arityAnswer, addNode, applyOn, applyAnswer, connectiveOf, quantifierOf}
+use Rattle.line_parser.proofs.lines.Laws.{alone, cond-same, one-is}
+
+-- no other answer
+one-none : (l : ℕ → SheetLine) (x : Option (List ℕ)) → oneAnswer x ≡ NotOne → oneNumber l x ≡ none
+unfolding oneAnswer oneNumber
+one-none l none h = refl
+one-none l (some []) h = refl
+one-none l (some (m ∷ [])) h = let z : _≡_ {A = ℕ} 0 1 = cc in absurd (omega arith)
+one-none l (some (m ∷ o ∷ ns)) h = refl
+
+-- what the answer says
+two-is : (x : Option (List ℕ)) (n m : ℕ) → twoAnswer x ≡ Both n m → x ≡ some (n ∷ m ∷ [])
+unfolding twoAnswer
+two-is none n m h = let z : _≡_ {A = ℕ} 0 1 = cc in absurd (omega arith)
+two-is (some []) n m h = let z : _≡_ {A = ℕ} 0 1 = cc in absurd (omega arith)
+two-is (some (p ∷ [])) n m h = let z : _≡_ {A = ℕ} 0 1 = cc in absurd (omega arith)
+two-is (some (p ∷ q ∷ [])) n m h =
+    let y : p ≡ n = cc in
+    let z : q ≡ m = cc in
+    rw (y, z)
+two-is (some (p ∷ q ∷ o ∷ ns)) n m h = let z : _≡_ {A = ℕ} 0 1 = cc in absurd (omega arith)
+
+-- no other answer
+two-none : (l : ℕ → ℕ → SheetLine) (x : Option (List ℕ)) → twoAnswer x ≡ NotTwo → twoNumbers l x ≡ none
+unfolding twoAnswer twoNumbers
+two-none l none h = refl
+two-none l (some []) h = refl
+two-none l (some (p ∷ [])) h = refl
+two-none l (some (p ∷ q ∷ [])) h = let z : _≡_ {A = ℕ} 0 1 = cc in absurd (omega arith)
+two-none l (some (p ∷ q ∷ o ∷ ns)) h = refl
+
+-- C, Q and V
+
+module _ (x : Option (List ℕ)) where
+  -- not one number
+  pub single-none : (l : ℕ → SheetLine) → oneAnswer x ≡ NotOne → Malformed ≡ lineAnswer (oneNumber l x)
+  unfolding lineAnswer
+  single-none l h = rw (one-none l x h)
+
+  -- a clause
+  pub clause-is : (n : ℕ) → oneAnswer x ≡ Only n → Clause n ≡ lineAnswer (oneNumber clauseLine x)
+  unfolding lineAnswer oneNumber
+  clause-is n h = rw (one-is x n h)
+
+  -- a goal
+  pub goal-is : (n : ℕ) → oneAnswer x ≡ Only n → Goal n ≡ lineAnswer (oneNumber goalLine x)
+  unfolding lineAnswer oneNumber
+  goal-is n h = rw (one-is x n h)
+
+  -- a variable from 8 on
+  pub variable-large : (v : ℕ) → oneAnswer x ≡ Only v → variableNames ≤ v → Malformed ≡ lineAnswer (oneNumber (λ w. nodeLine (variableLine w)) (withVariable x))
+  unfolding lineAnswer oneNumber withVariable
+  variable-large v h l = rw (one-is x v h) (rw (le-ltb v variableNames l))
+
+  -- a variable
+  pub variable-is : (v : ℕ) → oneAnswer x ≡ Only v → v < variableNames
+      → Node (Variable v) ≡ lineAnswer (oneNumber (λ w. nodeLine (variableLine w)) (withVariable x))
+  unfolding lineAnswer nodeAnswer oneNumber withVariable
+  variable-is v h l = rw (one-is x v h) (rw (lt-ltb v variableNames l))
+
+-- not one number
+pub variable-none : (x : Option (List ℕ)) → oneAnswer x ≡ NotOne → Malformed ≡ lineAnswer (oneNumber (λ w. nodeLine (variableLine w)) (withVariable x))
+unfolding oneAnswer lineAnswer oneNumber withVariable
+variable-none none h = refl
+variable-none (some []) h = refl
+variable-none (some (v ∷ [])) h = let z : _≡_ {A = ℕ} 0 1 = cc in absurd (omega arith)
+variable-none (some (v ∷ w ∷ ns)) h = go (ltb v variableNames)
+  where
+    go : (t : Bool) → Malformed ≡ lineAnswer (oneNumber (λ u. nodeLine (variableLine u)) (cond t (some (v ∷ w ∷ ns)) none))
+    go true = refl
+    go false = refl
+
+-- &, | and >
+
+module _ (c : ℕ) (x : Option (List ℕ)) where
+  -- not two numbers
+  pub connective-none : twoAnswer x ≡ NotTwo → Malformed ≡ lineAnswer (connectiveOf c x)
+  unfolding connectiveOf lineAnswer
+  connective-none h =
+      simp (two-none (λ n m. nodeLine (andLine n m)) x h, two-none (λ n m. nodeLine (orLine n m)) x h, two-none (λ n m. nodeLine (impliesLine n m)) x h, cond-same)
+
+  module _ (n m : ℕ) (h : twoAnswer x ≡ Both n m) where
+    -- and
+    pub connective-and : c ≡ code "&" → Node (And n m) ≡ lineAnswer (connectiveOf c x)
+    unfolding connectiveOf lineAnswer nodeAnswer twoNumbers
+    connective-and e = rw (two-is x n m h, e)
+
+    -- or
+    pub connective-or : c ≡ code "|" → Node (Or n m) ≡ lineAnswer (connectiveOf c x)
+    unfolding connectiveOf lineAnswer nodeAnswer twoNumbers
+    connective-or e = rw (two-is x n m h, e)
+
+    -- implies
+    pub connective-implies : c ≡ code ">" → Node (Implies n m) ≡ lineAnswer (connectiveOf c x)
+    unfolding connectiveOf lineAnswer nodeAnswer twoNumbers
+    connective-implies e = rw (two-is x n m h, e)
+
+  -- another letter
+  pub connective-other : (c ≡ code "&" → ⊥) → (c ≡ code "|" → ⊥) → (c ≡ code ">" → ⊥) → Malformed ≡ lineAnswer (connectiveOf c x)
+  unfolding connectiveOf lineAnswer
+  connective-other p q r = rw (ne-eqb c (code "&") p, ne-eqb c (code "|") q, ne-eqb c (code ">") r)
+
+-- E and U
+
+-- not two numbers
+quantified-none : (l : ℕ → ℕ → SheetLine) (x : Option (List ℕ)) → twoAnswer x ≡ NotTwo → twoNumbers l (withVariable x) ≡ none
+unfolding twoAnswer twoNumbers withVariable
+quantified-none l none h = refl
+quantified-none l (some []) h = refl
+quantified-none l (some (p ∷ [])) h = go (ltb p variableNames)
+  where
+    go : (t : Bool) → twoNumbers l (cond t (some (p ∷ [])) none) ≡ none
+    go true = refl
+    go false = refl
+quantified-none l (some (p ∷ q ∷ [])) h = let z : _≡_ {A = ℕ} 0 1 = cc in absurd (omega arith)
+quantified-none l (some (p ∷ q ∷ o ∷ ns)) h = go (ltb p variableNames)
+  where
+    go : (t : Bool) → twoNumbers l (cond t (some (p ∷ q ∷ o ∷ ns)) none) ≡ none
+    go true = refl
+    go false = refl
+
+module _ (c : ℕ) (x : Option (List ℕ)) where
+  -- so neither letter has a line
+  pub quantifier-none : twoAnswer x ≡ NotTwo → Malformed ≡ lineAnswer (quantifierOf c x)
+  unfolding quantifierOf lineAnswer
+  quantifier-none h =
+      simp (quantified-none (λ v n. nodeLine (someLine v n)) x h, quantified-none (λ v n. nodeLine (everyLine v n)) x h, cond-same)
+
+  module _ (v n : ℕ) (h : twoAnswer x ≡ Both v n) where
+    -- a variable from 8 on
+    pub quantifier-large : variableNames ≤ v → Malformed ≡ lineAnswer (quantifierOf c x)
+    unfolding quantifierOf lineAnswer twoNumbers withVariable
+    quantifier-large l = rw (two-is x v n h) (simp (le-ltb v variableNames l, cond-same))
+
+    -- some
+    pub quantifier-some : v < variableNames → c ≡ code "E" → Node (Exists v n) ≡ lineAnswer (quantifierOf c x)
+    unfolding quantifierOf lineAnswer nodeAnswer twoNumbers withVariable
+    quantifier-some l e = rw (two-is x v n h, e) (rw (lt-ltb v variableNames l))
+
+    -- every
+    pub quantifier-every : v < variableNames → c ≡ code "U" → Node (Forall v n) ≡ lineAnswer (quantifierOf c x)
+    unfolding quantifierOf lineAnswer nodeAnswer twoNumbers withVariable
+    quantifier-every l e = rw (two-is x v n h, e) (rw (lt-ltb v variableNames l))
+
+  -- another letter
+  pub quantifier-other : (c ≡ code "E" → ⊥) → (c ≡ code "U" → ⊥) → Malformed ≡ lineAnswer (quantifierOf c x)
+  unfolding quantifierOf lineAnswer
+  quantifier-other p q = rw (ne-eqb c (code "E") p, ne-eqb c (code "U") q)
+
+-- no nodes yet
+abbrev pub noNodes : Nodes
+noNodes = record { count = 0; a = 0; b = 0; c = 0; d = 0 }
+
+-- read one by one or all at once
+applied : (f : ℕ) (ms : List ℕ) → applyOn f noNodes ms ≡ lineAnswer (application (some (f ∷ ms)))
+unfolding applyOn addNode application lineAnswer nodeAnswer nodesOf
+applied f [] = refl
+applied f (p ∷ []) = refl
+applied f (p ∷ q ∷ []) = refl
+applied f (p ∷ q ∷ r ∷ []) = refl
+applied f (p ∷ q ∷ r ∷ t ∷ []) = refl
+applied f (p ∷ q ∷ r ∷ t ∷ u ∷ ms) = rw (lt-leb (length (p ∷ q ∷ r ∷ t ∷ u ∷ ms)) maxArity (omega arith))
+
+module _ (s : List ℕ) where
+  -- no symbol
+  pub apply-bad : firstNumber s ≡ Bad → Malformed ≡ lineAnswer (application (numbers (fields s)))
+  unfolding application lineAnswer
+  apply-bad h = rw (first-bad s h)
+
+  -- a symbol alone
+  pub apply-last : (f e : ℕ) → firstNumber s ≡ Value f e → length s ≤ e → Node (Apply f noNodes) ≡ lineAnswer (application (numbers (fields s)))
+  unfolding application lineAnswer nodeAnswer nodesOf
+  apply-last f e h l = rw (first-last s f e h l)
+
+  -- a symbol and its nodes
+  pub apply-more : (f e : ℕ) → firstNumber s ≡ Value f e → e < length s
+      → applyAnswer f noNodes (numbers (fields (take (length s - (e + 1)) (drop (e + 1) s)))) ≡ lineAnswer (application (numbers (fields s)))
+  unfolding applyAnswer consNumber application lineAnswer
+  apply-more f e h l = rw (rest-part (e + 1) s, first-more s f e h l) (go (numbers (fields (drop (e + 1) s))))
+    where
+      go : (x : Option (List ℕ)) → applyAnswer f noNodes x ≡ lineAnswer (application (consNumber (some f) x))
+      go none = refl
+      go (some ms) = applied f ms
+
+-- F and P
+
+-- what is no name
+declare-other : (k : Bool) (f : List ℕ) (fs : List (List ℕ)) → isName f ≡ false → declaration k (f ∷ fs) ≡ none
+unfolding declaration declared
+declare-other k f [] h = refl
+declare-other k f (a ∷ []) h = go (number a)
+  where
+    go : (o : Option ℕ) → declared k f o ≡ none
+    go none = refl
+    go (some n) = rw h
+declare-other k f (a ∷ b ∷ fs) h = refl
+
+-- a name and the fields after it
+declare-fields : (k : Bool) (f : List ℕ) (fs : List (List ℕ)) → isName f ≡ true → lineAnswer (declaration k (f ∷ fs)) ≡ arityAnswer k (length f) (oneAnswer (numbers fs))
+unfolding declaration declared arityAnswer oneAnswer numbers consNumber lineAnswer
+declare-fields k f [] h = refl
+declare-fields k f (a ∷ []) h = go (number a)
+  where
+    bound : (n : ℕ) (t : Bool) → lineAnswer (cond t (some (declareLine k f n)) none) ≡ cond t (Declare k (length f) n) Malformed
+    bound n true = refl
+    bound n false = refl
+
+    go : (o : Option ℕ) → lineAnswer (declared k f o) ≡ arityAnswer k (length f) (oneAnswer (consNumber o (some [])))
+    go none = refl
+    go (some n) = rw h (bound n (leb n maxArity))
+declare-fields k f (a ∷ b ∷ fs) h = go (number a) (number b) (numbers fs)
+  where
+    go : (o p : Option ℕ) (x : Option (List ℕ)) → Malformed ≡ arityAnswer k (length f) (oneAnswer (consNumber o (consNumber p x)))
+    go none p x = refl
+    go (some n) none x = refl
+    go (some n) (some m) none = refl
+    go (some n) (some m) (some ns) = refl
+
+module _ (s m : List ℕ) (e : m ≡ firstName s) (k : Bool) where
+  -- no name comes first
+  pub declare-absent : length m ≡ 0 → Malformed ≡ lineAnswer (declaration k (fields s))
+  unfolding lineAnswer
+  declare-absent h =
+      let n = name-absent s (ap length (sym e) ∙ h) in
+      sym (ap (λ fs. lineAnswer (declaration k fs)) (fields-first s) ∙ ap lineAnswer (declare-other k (firstField s) _ n))
+
+  -- no field follows the name
+  pub declare-short : (length m ≡ 0 → ⊥) → length s ≤ length m → Malformed ≡ lineAnswer (declaration k (fields s))
+  unfolding lineAnswer declaration
+  declare-short h l =
+      let n = name-present s (λ z. h (ap length e ∙ z)) in
+      rw (fields-last s (omega (arith, ap length e)))
+
+  -- a name and the rest
+  pub declare-more : (length m ≡ 0 → ⊥) → length m < length s
+      → arityAnswer k (length m) (oneAnswer (numbers (fields (take (length s - (length m + 1)) (drop (length m + 1) s))))) ≡ lineAnswer (declaration k (fields s))
+  declare-more h l =
+      let n = name-present s (λ z. h (ap length e ∙ z)) in
+      let q : length m ≡ fieldLen s = ap length e ∙ n .1 in
+      rw (rest-part (length m + 1) s, q) (sym (ap (λ fs. lineAnswer (declaration k fs)) (fields-more s (omega arith)) ∙ declare-fields k (firstField s) _ (n .0) ∙ rw (first-length s)))
+
+-- the rest is not one number
+pub arity-none : (k : Bool) (n : ℕ) (o : One) → o ≡ NotOne → Malformed ≡ arityAnswer k n o
+unfolding arityAnswer
+arity-none k n o h = rw h
+
+-- an arity above 4
+pub arity-large : (k : Bool) (n a : ℕ) (o : One) → o ≡ Only a → maxArity < a → Malformed ≡ arityAnswer k n o
+unfolding arityAnswer
+arity-large k n a o h l = rw h (rw (lt-leb a maxArity l))
+
+-- an arity
+pub arity-is : (k : Bool) (n a : ℕ) (o : One) → o ≡ Only a → a ≤ maxArity → Declare k n a ≡ arityAnswer k n o
+unfolding arityAnswer
+arity-is k n a o h l = rw h (rw (le-leb a maxArity l))

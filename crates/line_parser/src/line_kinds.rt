@@ -1,0 +1,133 @@
+// A line of each kind, from the rest after its letter.
+use super::fields::Number;
+use super::lines::Line;
+use super::lines::NodeLine;
+use super::lines::Nodes;
+use super::lines::One;
+use super::lines::Two;
+use super::lines::one_number;
+use super::lines::read_nodes;
+use super::lines::two_numbers;
+ghost use mathlib.Core.Path.{_≡_};
+ghost use Rattle.sheet_format.specs.Bytes.{fields};
+ghost use Rattle.sheet_format.specs.SheetLines.{nodeLine, variableLine, clauseLine, goalLine, numbers, declaration, oneNumber, withVariable, application};
+ghost use Rattle.line_parser.specs.Lines.{lineAnswer, oneAnswer, arityAnswer, connectiveOf, quantifierOf};
+
+// The arity after a name of n bytes.
+fn declared_arity(s: &[u8], function: bool, n: usize) -> Line
+    ensures { λ r. ⌜ r ≡ arityAnswer function n (oneAnswer (numbers (fields (now (s .entry))))) ⌝ }
+{
+    let One::Only(a) = one_number(s) else {
+        return Line::Malformed;
+    };
+    if 4 < a {
+        return Line::Malformed;
+    }
+    Line::Declare(function, n, a)
+}
+
+// F or P: a name and an arity.
+pub fn read_declaration(s: &[u8], function: bool) -> Line
+    ensures { λ r. ⌜ r ≡ lineAnswer (declaration function (fields (now (s .entry)))) ⌝ }
+{
+    let name = super::names::read_name(s);
+    let n = name.len();
+    if n == 0 {
+        return Line::Malformed;
+    }
+    if s.len() <= n {
+        return Line::Malformed;
+    }
+    declared_arity(&s[n + 1..], function, n)
+}
+
+// V: a variable.
+pub fn read_variable(s: &[u8]) -> Line
+    ensures { λ r. ⌜ r ≡ lineAnswer (oneNumber (λ v. nodeLine (variableLine v)) (withVariable (numbers (fields (now (s .entry)))))) ⌝ }
+{
+    let One::Only(v) = one_number(s) else {
+        return Line::Malformed;
+    };
+    if 8 <= v {
+        return Line::Malformed;
+    }
+    Line::Node(NodeLine::Variable(v))
+}
+
+// C: a clause's node.
+pub fn read_clause(s: &[u8]) -> Line
+    ensures { λ r. ⌜ r ≡ lineAnswer (oneNumber clauseLine (numbers (fields (now (s .entry))))) ⌝ }
+{
+    let One::Only(n) = one_number(s) else {
+        return Line::Malformed;
+    };
+    Line::Clause(n)
+}
+
+// Q: the goal's node.
+pub fn read_goal(s: &[u8]) -> Line
+    ensures { λ r. ⌜ r ≡ lineAnswer (oneNumber goalLine (numbers (fields (now (s .entry))))) ⌝ }
+{
+    let One::Only(n) = one_number(s) else {
+        return Line::Malformed;
+    };
+    Line::Goal(n)
+}
+
+// & | >: two nodes.
+pub fn read_connective(s: &[u8], letter: u8) -> Line
+    ensures { λ r. ⌜ r ≡ lineAnswer (connectiveOf letter (numbers (fields (now (s .entry))))) ⌝ }
+{
+    let Two::Both(n, m) = two_numbers(s) else {
+        return Line::Malformed;
+    };
+    if letter == b'&' {
+        return Line::Node(NodeLine::And(n, m));
+    }
+    if letter == b'|' {
+        return Line::Node(NodeLine::Or(n, m));
+    }
+    if letter == b'>' {
+        return Line::Node(NodeLine::Implies(n, m));
+    }
+    Line::Malformed
+}
+
+// E U: a variable and a node.
+pub fn read_quantifier(s: &[u8], letter: u8) -> Line
+    ensures { λ r. ⌜ r ≡ lineAnswer (quantifierOf letter (numbers (fields (now (s .entry))))) ⌝ }
+{
+    let Two::Both(variable, n) = two_numbers(s) else {
+        return Line::Malformed;
+    };
+    if 8 <= variable {
+        return Line::Malformed;
+    }
+    if letter == b'E' {
+        return Line::Node(NodeLine::Exists(variable, n));
+    }
+    if letter == b'U' {
+        return Line::Node(NodeLine::Forall(variable, n));
+    }
+    Line::Malformed
+}
+
+// A: a symbol and its nodes.
+pub fn read_application(s: &[u8]) -> Line
+    ensures { λ r. ⌜ r ≡ lineAnswer (application (numbers (fields (now (s .entry))))) ⌝ }
+{
+    let Number::Value(f, e) = super::fields::read_number(s) else {
+        return Line::Malformed;
+    };
+    let none = Nodes {
+        count: 0,
+        a: 0,
+        b: 0,
+        c: 0,
+        d: 0,
+    };
+    if s.len() <= e {
+        return Line::Node(NodeLine::Apply(f, none));
+    }
+    read_nodes(&s[e + 1..], f, none)
+}

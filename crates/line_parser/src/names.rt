@@ -1,0 +1,79 @@
+// A field as a name: a letter, then letters, digits and underscores, at most 16 bytes in all.
+use super::fields::field_len;
+ghost use mathlib.Core.Path.{_≡_};
+ghost use Rattle.sheet_format.specs.Bytes.{isLetter, isNameByte, nameBytes, isName};
+ghost use Rattle.line_parser.specs.Fields.{firstName};
+
+// a to z
+fn is_letter(b: u8) -> bool
+    ensures { λ r. ⌜ r ≡ isLetter b ⌝ }
+{
+    if b < b'a' {
+        return false;
+    }
+    if b'z' < b {
+        return false;
+    }
+    true
+}
+
+// a to z, 0 to 9 and `_`
+fn is_name_byte(b: u8) -> bool
+    ensures { λ r. ⌜ r ≡ isNameByte b ⌝ }
+{
+    if is_letter(b) {
+        return true;
+    }
+    if b == b'_' {
+        return true;
+    }
+    if b < b'0' {
+        return false;
+    }
+    if b'9' < b {
+        return false;
+    }
+    true
+}
+
+// Whether all bytes of f may stand in a name.
+fn name_bytes(f: &[u8]) -> bool
+    ensures { λ r. ⌜ r ≡ nameBytes (now (f .entry)) ⌝ }
+{
+    let mut i: usize = 0;
+    while i < f.len() {
+        if is_name_byte(f[i]) {
+            i += 1;
+        } else {
+            return false;
+        }
+    }
+    true
+}
+
+// Whether the field f is a name: 1 to 16 of a to z, 0 to 9 and `_`, a letter first.
+fn is_name(f: &[u8]) -> bool
+    ensures { λ r. ⌜ r ≡ isName (now (f .entry)) ⌝ }
+{
+    if f.len() == 0 {
+        return false;
+    }
+    if 16 < f.len() {
+        return false;
+    }
+    if is_letter(f[0]) {
+        return name_bytes(&f[1..]);
+    }
+    false
+}
+
+// The first field of s, as a part of s, if it is a name; otherwise the empty part.
+pub fn read_name(s: &[u8]) -> &[u8]
+    ensures { λ r. ⌜ now r ≡ firstName (now (s .entry)) ⌝ }
+{
+    let n = field_len(s);
+    if is_name(&s[..n]) {
+        return &s[..n];
+    }
+    &s[..0]
+}

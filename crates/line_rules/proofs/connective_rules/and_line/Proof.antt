@@ -1,0 +1,19 @@
+use Rattle.sheet_format.specs.Bytes.{ascii}
+use Rattle.line_rules.proofs.connective_rules.Laws.{and-right, and-wrong}
+use borrow.Author.Needs.{needs}
+use Rattle.line_rules.proofs.connective_rules.and_line.Statement.{statement}
+use Rattle.line_rules.proofs.connective_rules.and_line.Tie as tie
+
+returns : tie.Need-returns
+unfolding ascii
+returns c = and-right _ _ _ _ _ _ _ _ (c .before .before .before .before .before .before .before .before .is-line .ensures) _ _ _ _ (c .before .before .before .before .before .before .before .if1 .taken) (c .before .before .before .before .before .before .child .ensures) (c .before .before .before .before .before .child2 .ensures) (c .before .before .before .put-sequent .ensures) (c .on-sequent .ensures)
+
+returns-2 : tie.Need-returns-2
+unfolding ascii
+returns-2 c = and-wrong _ _ _ _ _ _ _ _ (c .before .before .is-line .ensures) _ (c .before .if1 .left) ((c .broken .ensures) _)
+
+pub and-line-spec : {M : Type 1} → statement M
+and-line-spec =
+    tie.close
+    (tie.spec (λ c. search needs) (λ c κs. search needs) (λ c κs. search needs) (λ c κs. search needs) (λ c κs. search needs)
+    (λ c. search needs) (λ c κs. search needs) (λ c. search needs) returns (λ c κs. search needs) returns-2)

@@ -1,0 +1,13 @@
+use Rattle.line_rules.proofs.quantifier_rules.Laws.{goal-bound}
+use borrow.Author.Needs.{needs}
+use Rattle.line_rules.proofs.quantifier_rules.bind_goal.Statement.{statement}
+use Rattle.line_rules.proofs.quantifier_rules.bind_goal.Tie as tie
+
+returns : tie.Need-returns
+returns c = goal-bound _ _ _ _ _ _ _ _ _ _ _ (c .before .before .before .before .before .before .label .ensures) (c .before .before .before .before .before .child .ensures) (c .before .before .before .bind-frame .ensures) (c .on-sequent .ensures)
+
+pub bind-goal-spec : {M : Type 1} → statement M
+bind-goal-spec =
+    tie.close
+    (tie.spec (λ c κs. search needs) (λ c κs. search needs) (λ c. search needs) (λ c. search needs) (λ c κs. search needs)
+    (λ c κs. search needs) (λ c. search needs) returns)

@@ -1,0 +1,16 @@
+use Rattle.line_rules.proofs.quantifier_rules.Laws.{term-read, term-missing}
+use borrow.Author.Needs.{needs}
+use Rattle.line_rules.proofs.quantifier_rules.some_term.Statement.{statement}
+use Rattle.line_rules.proofs.quantifier_rules.some_term.Tie as tie
+
+returns : tie.Need-returns
+returns c = term-read _ _ _ _ _ _ _ _ _ _ _ _ _ (c .before .before .before .before .before .before .before .scan-term .ensures) (c .before .before .before .before .before .j .given .1) (c .before .before .some-with .ensures)
+
+returns-2 : tie.Need-returns-2
+returns-2 c = term-missing _ _ _ _ _ _ _ _ _ _ _ (c .before .before .before .scan-term .ensures) (c .before .enum-told .given .1) ((c .broken .ensures) _)
+
+pub some-term-spec : {M : Type 1} → statement M
+some-term-spec =
+    tie.close
+    (tie.spec (λ c κs. search needs) (λ c. search needs) (λ c κs. search needs) (λ c. search needs) (λ c κs. search needs)
+    (λ c. search needs) returns returns-2)

@@ -1,0 +1,62 @@
+-- One law for each way out of a function; the hypotheses are the facts on the code's path.
+use Prim.Native.Nat.{ℕ, _+_, _-_, _≤_, _<_}
+use mathlib.Core.Path.{_≡_, _∙_}
+use mathlib.Core.Bool.{Bool, true, false}
+use mathlib.Core.List.{List}
+use lib.ListN.{length}
+use borrow.Author.Tests.{le-leb, lt-leb, eq-eqb, ne-eqb}
+use Rattle.sheet_format.specs.Bytes.{ascii}
+use Rattle.scanning.specs.declared.Number.{Number}
+use Rattle.scanning.specs.declared.Number.the-variants.{Value, Missing}
+use Rattle.scanning.specs.Ranges.{readNumber}
+use Rattle.line_checking.specs.declared.Registers.{Registers}
+use Rattle.line_checking.specs.Sequents.{Made, made, broken, bound}
+use Rattle.line_checking.specs.Bindings.{beginsWith, isLine, openWith, openUnits, openLine}
+
+module _ (a x : List ℕ) (i e n : ℕ) (en : n ≡ e - i) where
+  pub line-long : (z : Bool) → n ≡ length a → z ≡ beginsWith a x i → z ≡ isLine a x i e
+  unfolding isLine
+  line-long z h ez = rw (← en, eq-eqb _ _ h) ez
+
+  pub line-other : (n ≡ length a → ⊥) → false ≡ isLine a x i e
+  unfolding isLine
+  line-other h = rw (← en, ne-eqb _ _ h)
+
+-- the R line
+
+module _ (t : List ℕ) (goal : ℕ) (w : List ℕ) (r : Registers) where
+  module _ (n j e : ℕ) where
+    pub open-right : (s : Registers) → j ≡ e → 1 ≤ n → n ≤ 50000 → s ≡ bound t goal r 0 0 → made w s ≡ openWith t goal w r n j e
+    unfolding openWith
+    open-right s h a b es = rw es (simp (openWith, eq-eqb _ _ h, le-leb _ _ a, le-leb _ _ b))
+
+    module _ (m : Made) (em : m ≡ broken w r) where
+      pub open-many : j ≡ e → 1 ≤ n → 50000 < n → m ≡ openWith t goal w r n j e
+      unfolding openWith
+      open-many h a b = em ∙ simp (openWith, eq-eqb _ _ h, le-leb _ _ a, lt-leb _ _ b)
+
+      pub open-none : j ≡ e → n < 1 → m ≡ openWith t goal w r n j e
+      unfolding openWith
+      open-none h a = em ∙ simp (openWith, eq-eqb _ _ h, lt-leb _ _ a)
+
+      pub open-long : (j ≡ e → ⊥) → m ≡ openWith t goal w r n j e
+      unfolding openWith
+      open-long h = em ∙ simp (openWith, ne-eqb _ _ h)
+
+  module _ (x : List ℕ) (i e : ℕ) (m : Made) where
+    pub units-read : (n j : ℕ) (o : Number) → o ≡ readNumber x i → o ≡ Value n j → m ≡ openWith t goal w r n j e → m ≡ openUnits t goal x i w r e
+    unfolding openUnits
+    units-read n j o eo h em = rw (openUnits, ← eo, h) em
+
+    pub units-missing : (o : Number) → o ≡ readNumber x i → o ≡ Missing → m ≡ broken w r → m ≡ openUnits t goal x i w r e
+    unfolding openUnits
+    units-missing o eo h em = rw (openUnits, ← eo, h) em
+
+    module _ (z : Bool) (ez : z ≡ beginsWith (ascii "R\tproved\t") x i) where
+      pub opens : z ≡ true → m ≡ openUnits t goal x (i + 9) w r e → m ≡ openLine t goal x w r i e
+      unfolding openLine
+      opens h em = rw (← ez, h) em
+
+      pub opens-not : z ≡ false → m ≡ broken w r → m ≡ openLine t goal x w r i e
+      unfolding openLine
+      opens-not h em = rw (← ez, h) em

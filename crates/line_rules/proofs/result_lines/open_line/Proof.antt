@@ -1,0 +1,19 @@
+use Rattle.sheet_format.specs.Bytes.{ascii}
+use Rattle.line_rules.proofs.result_lines.Laws.{opens, opens-not}
+use borrow.Author.Needs.{needs}
+use Rattle.line_rules.proofs.result_lines.open_line.Statement.{statement}
+use Rattle.line_rules.proofs.result_lines.open_line.Tie as tie
+
+returns : tie.Need-returns
+unfolding ascii
+returns c = λ w. opens _ _ _ _ _ _ _ _ _ (c .before .before .begins-with .ensures) (c .before .if1 .taken) ((c .open-units .ensures) w)
+
+returns-2 : tie.Need-returns-2
+unfolding ascii
+returns-2 c = λ w. opens-not _ _ _ _ _ _ _ _ _ (c .before .before .begins-with .ensures) (c .before .if1 .left) ((c .broken .ensures) w)
+
+pub open-line-spec : {M : Type 1} → statement M
+open-line-spec =
+    tie.close
+    (tie.spec (λ c. search needs) (λ c κs. search needs) (λ c. search needs) (λ c κs. search needs) returns
+    (λ c κs. search needs) returns-2)

@@ -1,0 +1,96 @@
+// D lines for true, &, | and >: the right rule is done to the sequent that is due. Each function is a definition of the crate
+// line_checking, and its contract says so.
+use super::result_lines::is_line;
+use checker_state::open_sequents::proceed;
+use checker_state::open_sequents::put_hypothesis;
+use checker_state::open_sequents::put_sequent;
+use checker_state::registers::broken;
+use checker_state::registers::on_sequent;
+use line_checking::Registers;
+use node_table::child;
+ghost use mathlib.Core.Path.{_≡_};
+ghost use mathlib.Core.List.{List};
+ghost use Prim.Native.Nat.{ℕ, _+_, _<_};
+ghost use Rattle.line_checking.specs.Sequents.{made};
+ghost use Rattle.line_checking.specs.Rules.{onChild, trueLine, andLine, orLine, assumeLine};
+
+// Child j of the goal is due in the place of the goal.
+pub fn on_child(t: &[u32], r: Registers, j: u32) -> Registers
+    ensures { λ s. ⌜ s ≡ onChild (now (t .entry)) r j ⌝ }
+{
+    on_sequent(
+        r,
+        child(t, r.node, j),
+        r.frame,
+        r.hypotheses,
+        r.level,
+        r.rest,
+    )
+}
+
+// Y: the next sequent is due.
+pub fn true_line(text: &[u8], w: &[u32], r: Registers, i: usize, e: usize) -> Registers
+    ensures { λ s. ⌜ made (now (w .entry)) s ≡ trueLine (now (text .entry)) (now (w .entry)) r i e ⌝ }
+{
+    if is_line(b"D\ttrue", text, i, e) {
+        return proceed(w, r);
+    }
+    broken(r)
+}
+
+// &: the left side is due, the right side after it.
+pub fn and_line(
+    t: &[u32],
+    text: &[u8],
+    w: &mut [u32],
+    r: Registers,
+    q: u32,
+    i: usize,
+    e: usize,
+) -> Registers
+    requires { ⌜ q + 1 < 4294967296 ⌝ }
+    ensures { λ s. ⌜ made (now (w .exit)) s ≡ andLine (now (t .entry)) (now (text .entry)) (now (w .entry)) r q i e ⌝ }
+{
+    if is_line(b"D\tand", text, i, e) {
+        let left = child(t, r.node, 0);
+        let right = child(t, r.node, 1);
+        put_sequent(w, q, right, r.frame, r.hypotheses, r.level, r.rest);
+        return on_sequent(r, left, r.frame, r.hypotheses, r.level, q + 1);
+    }
+    broken(r)
+}
+
+// |: the side that the line says is due.
+pub fn or_line(t: &[u32], text: &[u8], r: Registers, i: usize, e: usize) -> Registers
+    ensures { λ s. ⌜ ((w : List ℕ) → made w s ≡ orLine (now (t .entry)) (now (text .entry)) w r i e) ⌝ }
+{
+    if is_line(b"D\tleft", text, i, e) {
+        return on_child(t, r, 0);
+    }
+    if is_line(b"D\tright", text, i, e) {
+        return on_child(t, r, 1);
+    }
+    broken(r)
+}
+
+// >: the clause is the latest hypothesis.
+pub fn assume_line(
+    t: &[u32],
+    text: &[u8],
+    w: &mut [u32],
+    r: Registers,
+    q: u32,
+    i: usize,
+    e: usize,
+) -> Registers
+    requires { ⌜ q + 1 < 4294967296 ⌝ }
+    ensures { λ s. ⌜ made (now (w .exit)) s ≡ assumeLine (now (t .entry)) (now (text .entry)) (now (w .entry)) r q i e ⌝ }
+{
+    if is_line(b"D\tassume", text, i, e) {
+        let clause = child(t, r.node, 0);
+        let goal = child(t, r.node, 1);
+        put_hypothesis(w, q, clause, r.frame, r.hypotheses);
+        return on_sequent(r, goal, r.frame, q + 1, r.level, r.rest);
+    }
+    broken(r)
+}

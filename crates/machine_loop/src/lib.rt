@@ -1,0 +1,114 @@
+// The walk in the lent work buffer: one act, and at most so many acts. Each function is a definition of the crate machine, and
+// its contract says so.
+use clause_acts::backchaining::try_next;
+use goal_acts::take_goal;
+use machine::Registers;
+use machine_memory::frames::put_variables;
+use machine_memory::registers::on_acts;
+use machine_memory::words::up;
+use match_acts::comparing::compare_pair;
+use match_acts::range_check::check_node;
+use node_table::members;
+ghost use mathlib.Core.Path.{_≡_};
+ghost use Rattle.machine.specs.Records.{made};
+ghost use Rattle.machine.specs.Words.{up};
+ghost use Rattle.machine.specs.Trying.{tried};
+ghost use Rattle.machine.specs.Machine.{dueAct, act, run, startMemory, startRegisters, runMachine};
+
+// The act that is due.
+pub fn due_act(t: &[u32], c: u32, w: &mut [u32], r: Registers) -> Registers
+    ensures { λ s. ⌜ made (now (w .exit)) s ≡ dueAct (now (t .entry)) c (now (w .entry)) r ⌝ }
+{
+    if r.mode == 0 {
+        return take_goal(t, c, w, r);
+    }
+    if r.mode == 1 {
+        return try_next(t, c, w, r);
+    }
+    if r.mode == 2 {
+        return compare_pair(t, w, r);
+    }
+    check_node(t, w, r)
+}
+
+// One act, counted.
+pub fn act(t: &[u32], c: u32, w: &mut [u32], r: Registers) -> Registers
+    ensures { λ s. ⌜ made (now (w .exit)) s ≡ act (now (t .entry)) c (now (w .entry)) r ⌝ }
+{
+    let u = up(r.acts);
+    on_acts(due_act(t, c, w, r), u)
+}
+
+// At most n acts, each of which takes one of the units left. Members are tried in turn: an act of the outer loop takes a goal or
+// tries a member, those of the inner loop compare its argument pairs, and the first mismatch leaves them for the next member. The
+// state between two acts is in the work buffer and the registers alone.
+pub fn run(n: u32, t: &[u32], c: u32, w: &mut [u32], from: Registers) -> Registers
+    ensures { λ s. ⌜ made (now (w .exit)) s ≡ run n (now (t .entry)) c (now (w .entry)) from ⌝ }
+{
+    let mut r = from;
+    let mut left = n;
+    'members: while 0 < left {
+        if 3 < r.mode {
+            return r;
+        }
+        r = act(t, c, w, r);
+        left -= 1; // a goal taken or a member tried
+        while 1 < r.mode {
+            if 3 < r.mode {
+                return r;
+            }
+            if left == 0 {
+                return r;
+            }
+            r = act(t, c, w, r);
+            left -= 1; // a pair compared or a node looked at
+            // A mismatch: a member is due.
+            if r.mode == 1 {
+                continue 'members;
+            }
+        }
+    }
+    r
+}
+
+// The start: the eight variables of the goal's names are made, the goal is due.
+pub fn start_memory(w: &mut [u32])
+    ensures { λ _. ⌜ now (w .exit) ≡ startMemory (now (w .entry)) ⌝ }
+{
+    put_variables(8, w, 0);
+}
+
+pub fn start_registers(goal: u32) -> Registers
+    ensures { λ r. ⌜ r ≡ startRegisters goal ⌝ }
+{
+    Registers {
+        acts: 0,
+        mode: 0,
+        next: 8,
+        trail: 0,
+        choice: 0,
+        goals: 0,
+        path: 0,
+        line: 0,
+        node: goal,
+        frame: 0,
+        program: 0,
+        level: 0,
+        hypothesis: 0,
+        clause: 0,
+        member: 0,
+        place: 0,
+        pairs: 0,
+        variable: 0,
+        value: 0,
+        nodes: 0,
+    }
+}
+
+// From the start, within a budget.
+pub fn run_machine(budget: u32, t: &[u32], c: u32, goal: u32, w: &mut [u32]) -> Registers
+    ensures { λ s. ⌜ made (now (w .exit)) s ≡ runMachine budget (now (t .entry)) c goal (now (w .entry)) ⌝ }
+{
+    start_memory(w);
+    run(budget, t, c, w, start_registers(goal))
+}

@@ -1,0 +1,15 @@
+use Rattle.machine.specs.Records.{put}
+use borrow.Author.Needs.{needs}
+use Rattle.machine_memory.proofs.cells.put_slot.Statement.{statement}
+use Rattle.machine_memory.proofs.cells.put_slot.Tie as tie
+
+returns : tie.Need-returns
+unfolding put
+returns c =
+    simp (put, ← c .before .before .put .ensures, ← c .before .before .before .wide2 .ensures .0, ← c .before .before .before .before .wide .ensures .0)
+
+pub put-slot-spec : {M : Type 1} → statement M
+put-slot-spec =
+    tie.close
+    (tie.spec (λ c κs. search needs) (λ c. search needs) (λ c κs. search needs) (λ c. search needs) (λ c. search needs)
+    (λ c κs. search needs) (λ c. search needs) returns)

@@ -1,0 +1,14 @@
+use Rattle.machine_memory.proofs.choice_points.Laws.{goal-resumed}
+use borrow.Author.Needs.{needs}
+use Rattle.machine_memory.proofs.choice_points.resume_goal.Statement.{statement}
+use Rattle.machine_memory.proofs.choice_points.resume_goal.Tie as tie
+
+returns : tie.Need-returns
+returns c =
+    goal-resumed _ _ _ _ _ _ _ _ (c .before .before .before .before .field .ensures) (c .before .before .before .field2 .ensures) (c .before .before .field3 .ensures) (c .before .field4 .ensures) (c .on-goal .ensures)
+
+pub resume-goal-spec : {M : Type 1} → statement M
+resume-goal-spec =
+    tie.close
+    (tie.spec (λ c κs. search needs) (λ c κs. search needs) (λ c κs. search needs) (λ c κs. search needs) (λ c κs. search needs)
+    returns)

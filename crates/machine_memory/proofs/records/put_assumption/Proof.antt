@@ -1,0 +1,14 @@
+use Rattle.machine.specs.Records.{putAssumption}
+use Rattle.machine_memory.proofs.records.Laws.{and-put}
+use borrow.Author.Needs.{needs}
+use Rattle.machine_memory.proofs.records.put_assumption.Statement.{statement}
+use Rattle.machine_memory.proofs.records.put_assumption.Tie as tie
+
+returns : tie.Need-returns
+unfolding putAssumption
+returns c = and-put _ _ _ (and-put _ _ _ (c .before .before .before .before .before .before .before .before .before .before .put-field .ensures) (c .before .before .before .before .before .before .put-field2 .ensures)) (c .before .before .put-field3 .ensures)
+
+pub put-assumption-spec : {M : Type 1} → statement M
+put-assumption-spec =
+    tie.close
+    (tie.spec (λ c κs. search needs) (λ c κs. search needs) (λ c κs. search needs) (λ c. search needs) returns)

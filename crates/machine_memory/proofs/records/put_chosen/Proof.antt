@@ -1,0 +1,15 @@
+use Rattle.machine.specs.Records.{putChosen}
+use Rattle.machine_memory.proofs.records.Laws.{and-put}
+use borrow.Author.Needs.{needs}
+use Rattle.machine_memory.proofs.records.put_chosen.Statement.{statement}
+use Rattle.machine_memory.proofs.records.put_chosen.Tie as tie
+
+returns : tie.Need-returns
+unfolding putChosen
+returns c = and-put _ _ _ (and-put _ _ _ (and-put _ _ _ (c .before .before .before .before .before .before .before .before .before .before .before .before .before .before .put-field .ensures) (c .before .before .before .before .before .before .before .before .before .before .put-field2 .ensures)) (c .before .before .before .before .before .before .put-field3 .ensures)) (c .before .before .put-field4 .ensures)
+
+pub put-chosen-spec : {M : Type 1} → statement M
+put-chosen-spec =
+    tie.close
+    (tie.spec (λ c κs. search needs) (λ c κs. search needs) (λ c κs. search needs) (λ c κs. search needs) (λ c. search needs)
+    returns)

@@ -1,0 +1,14 @@
+use Rattle.machine.specs.Records.{putUse}
+use Rattle.machine_memory.proofs.records.Laws.{and-put}
+use borrow.Author.Needs.{needs}
+use Rattle.machine_memory.proofs.records.put_use.Statement.{statement}
+use Rattle.machine_memory.proofs.records.put_use.Tie as tie
+
+returns : tie.Need-returns
+unfolding putUse
+returns c = and-put _ _ _ (and-put _ _ _ (c .before .before .before .before .before .before .before .before .before .before .put-field .ensures) (c .before .before .before .before .before .before .put-field2 .ensures)) (c .before .before .put-field3 .ensures)
+
+pub put-use-spec : {M : Type 1} → statement M
+put-use-spec =
+    tie.close
+    (tie.spec (λ c κs. search needs) (λ c κs. search needs) (λ c κs. search needs) (λ c. search needs) returns)

@@ -1,0 +1,76 @@
+// Taking up an alternative: the trail is undone to its mark, and the registers are as they were. Each function is a definition of
+// the crate machine, and its contract says so.
+use super::cells::field;
+use super::registers::on_goal;
+use super::registers::on_member;
+use super::registers::on_mode;
+use super::trail::undo;
+use machine::Registers;
+ghost use mathlib.Core.Path.{_≡_};
+ghost use Rattle.machine.specs.Records.{made};
+ghost use Rattle.machine.specs.Choices.{resumeGoal, resumeMember, resumeBranch, resume, takeUp, failed};
+
+// The registers of the choice point in record q: its goal or atom,
+pub fn resume_goal(w: &[u32], r: Registers, q: u32) -> Registers
+    ensures { λ s. ⌜ s ≡ resumeGoal (now (w .entry)) r q ⌝ }
+{
+    let node = field(w, q, 49);
+    let frame = field(w, q, 50);
+    let program = field(w, q, 51);
+    let level = field(w, q, 52);
+    on_goal(r, node, frame, program, level)
+}
+
+// its member, where there is one to try,
+pub fn resume_member(w: &[u32], r: Registers, q: u32) -> Registers
+    ensures { λ s. ⌜ s ≡ resumeMember (now (w .entry)) r q ⌝ }
+{
+    let place = field(w, q, 56);
+    let s = on_member(r, field(w, q, 53), field(w, q, 54), field(w, q, 55), place);
+    if place == 0 {
+        return on_mode(s, 0);
+    }
+    on_mode(s, 1)
+}
+
+// its branch, and what was open before it.
+pub fn resume_branch(w: &[u32], r: Registers, q: u32) -> Registers
+    ensures { λ s. ⌜ s ≡ resumeBranch (now (w .entry)) r q ⌝ }
+{
+    let mut s = r;
+    s.next = field(w, q, 43);
+    s.trail = field(w, q, 44);
+    s.choice = field(w, q, 45);
+    s.goals = field(w, q, 46);
+    s.path = field(w, q, 47);
+    s.line = field(w, q, 48);
+    s
+}
+
+pub fn resume(w: &[u32], r: Registers, q: u32) -> Registers
+    ensures { λ s. ⌜ s ≡ resume (now (w .entry)) r q ⌝ }
+{
+    resume_member(w, resume_goal(w, resume_branch(w, r, q), q), q)
+}
+
+// The choice point in record q is taken up, with all bindings and levels as they were.
+pub fn take_up(w: &mut [u32], r: Registers, q: u32) -> Registers
+    ensures { λ s. ⌜ made (now (w .exit)) s ≡ takeUp (now (w .entry)) r q ⌝ }
+{
+    let s = resume(w, r, q);
+    let mark = field(w, q, 44);
+    let trail = r.trail;
+    undo(trail, w, trail, mark);
+    s
+}
+
+// Failure: the latest choice point, or no.
+pub fn failed(w: &mut [u32], r: Registers) -> Registers
+    ensures { λ s. ⌜ made (now (w .exit)) s ≡ failed (now (w .entry)) r ⌝ }
+{
+    let choice = r.choice;
+    if choice == 0 {
+        return on_mode(r, 5);
+    }
+    take_up(w, r, choice - 1)
+}

@@ -1,0 +1,142 @@
+// The registers of the engine's machine, by value, with one of them changed. Each function is a definition of the crate machine,
+// and its contract says so.
+use super::cells::put_field;
+use super::records::put_choice;
+use super::records::put_chosen;
+use super::records::put_position;
+use machine::Registers;
+ghost use mathlib.Core.Path.{_≡_};
+ghost use Rattle.machine.specs.Records.{made};
+ghost use Rattle.machine.specs.Changes.{onActs, onMode, onNext, onTrail, onChoice, onGoals, onPath, onGoal, onMember, onPairs, onCheck, onNodes};
+ghost use Rattle.machine.specs.Choices.{saveChoice};
+
+// One more act is done.
+pub fn on_acts(r: Registers, a: u32) -> Registers
+    ensures { λ s. ⌜ s ≡ onActs r a ⌝ }
+{
+    let mut s = r;
+    s.acts = a;
+    s
+}
+
+// The act that is due, or the verdict.
+pub fn on_mode(r: Registers, m: u32) -> Registers
+    ensures { λ s. ⌜ s ≡ onMode r m ⌝ }
+{
+    let mut s = r;
+    s.mode = m;
+    s
+}
+
+// Variables have been made.
+pub fn on_next(r: Registers, n: u32) -> Registers
+    ensures { λ s. ⌜ s ≡ onNext r n ⌝ }
+{
+    let mut s = r;
+    s.next = n;
+    s
+}
+
+// The latest trail entry.
+pub fn on_trail(r: Registers, h: u32) -> Registers
+    ensures { λ s. ⌜ s ≡ onTrail r h ⌝ }
+{
+    let mut s = r;
+    s.trail = h;
+    s
+}
+
+// The latest choice point.
+pub fn on_choice(r: Registers, q: u32) -> Registers
+    ensures { λ s. ⌜ s ≡ onChoice r q ⌝ }
+{
+    let mut s = r;
+    s.choice = q;
+    s
+}
+
+// The goals that wait.
+pub fn on_goals(r: Registers, q: u32) -> Registers
+    ensures { λ s. ⌜ s ≡ onGoals r q ⌝ }
+{
+    let mut s = r;
+    s.goals = q;
+    s
+}
+
+// The latest line of the path.
+pub fn on_path(r: Registers, p: u32, l: u32) -> Registers
+    ensures { λ s. ⌜ s ≡ onPath r p l ⌝ }
+{
+    let mut s = r;
+    s.path = p;
+    s.line = l;
+    s
+}
+
+// A goal is due.
+pub fn on_goal(r: Registers, n: u32, f: u32, h: u32, i: u32) -> Registers
+    ensures { λ s. ⌜ s ≡ onGoal r n f h i ⌝ }
+{
+    let mut s = r;
+    s.mode = 0;
+    s.node = n;
+    s.frame = f;
+    s.program = h;
+    s.level = i;
+    s
+}
+
+// The member to try.
+pub fn on_member(r: Registers, h: u32, c: u32, k: u32, p: u32) -> Registers
+    ensures { λ s. ⌜ s ≡ onMember r h c k p ⌝ }
+{
+    let mut s = r;
+    s.hypothesis = h;
+    s.clause = c;
+    s.member = k;
+    s.place = p;
+    s
+}
+
+// A pair is due.
+pub fn on_pairs(r: Registers, a: u32) -> Registers
+    ensures { λ s. ⌜ s ≡ onPairs r a ⌝ }
+{
+    let mut s = r;
+    s.mode = 2;
+    s.pairs = a;
+    s
+}
+
+// A range check is due, of the value v for the variable x; then the pairs a.
+pub fn on_check(r: Registers, a: u32, x: u32, v: u32) -> Registers
+    ensures { λ s. ⌜ s ≡ onCheck r a x v ⌝ }
+{
+    let mut s = r;
+    s.mode = 3;
+    s.pairs = a;
+    s.variable = x;
+    s.value = v;
+    s.nodes = 0;
+    s
+}
+
+// The nodes of a range check that wait.
+pub fn on_nodes(r: Registers, a: u32) -> Registers
+    ensures { λ s. ⌜ s ≡ onNodes r a ⌝ }
+{
+    let mut s = r;
+    s.nodes = a;
+    s
+}
+
+// A choice point in record u: what the registers go on with later.
+pub fn save_choice(w: &mut [u32], u: u32, r: Registers)
+    ensures { λ _. ⌜ now (w .exit) ≡ saveChoice (now (w .entry)) u r ⌝ }
+{
+    put_field(w, u, 43, r.next);
+    put_choice(w, u, r.trail, r.choice, r.goals, r.path, r.line);
+    put_chosen(w, u, r.node, r.frame, r.program, r.level);
+    put_position(w, u, r.hypothesis, r.clause, r.member, r.place);
+}

@@ -1,0 +1,107 @@
+// The words of the engine's machine, which stand for terms: a variable, a constant, or a node in a frame; looking through bindings.
+// Each function is a definition of the crate machine, and its contract says so.
+use super::cells::cell_of;
+use super::cells::slot;
+use memory::wide;
+use node_table::kind;
+use node_table::label;
+ghost use mathlib.Core.Path.{_≡_};
+ghost use Prim.Native.Nat.{_+_, _-_};
+ghost use Rattle.machine.specs.Words.{narrow, up, variableWord, constantWord, closureWord, tagOf, nameOf, nodeOf, frameOf, slotOf, wordOf, lookWord};
+
+// A number kept in 32 bits, and the number after it.
+pub fn narrow(a: usize) -> u32
+    ensures { λ r. ⌜ r ≡ narrow a ⌝ }
+{
+    (a % 4294967296) as u32
+}
+
+pub fn up(a: u32) -> u32
+    ensures { λ r. ⌜ r ≡ up a ⌝ }
+{
+    narrow(wide(a) + 1)
+}
+
+// Packed words.
+pub fn variable_word(x: u32) -> u32
+    ensures { λ r. ⌜ r ≡ variableWord x ⌝ }
+{
+    narrow(4 * wide(x) + 1)
+}
+
+pub fn constant_word(c: u32) -> u32
+    ensures { λ r. ⌜ r ≡ constantWord c ⌝ }
+{
+    narrow(4 * wide(c) + 2)
+}
+
+pub fn closure_word(n: u32, f: u32) -> u32
+    ensures { λ r. ⌜ r ≡ closureWord n f ⌝ }
+{
+    narrow(4 * (1024 * wide(f) + wide(n)) + 3)
+}
+
+// The parts of a word: 1 a variable, 2 a made constant, 3 a closure.
+pub fn tag_of(a: u32) -> u32
+    ensures { λ r. ⌜ r ≡ tagOf a ⌝ }
+{
+    a % 4
+}
+
+pub fn name_of(a: u32) -> u32
+    ensures { λ r. ⌜ r ≡ nameOf a ⌝ }
+{
+    a / 4
+}
+
+pub fn node_of(a: u32) -> u32
+    ensures { λ r. ⌜ r ≡ nodeOf a ⌝ }
+{
+    a / 4 % 1024
+}
+
+pub fn frame_of(a: u32) -> u32
+    ensures { λ r. ⌜ r ≡ frameOf a ⌝ }
+{
+    a / 4 / 1024
+}
+
+// What name v stands for in frame f; frame 0 is the first environment.
+pub fn slot_of(w: &[u32], f: u32, v: u32) -> u32
+    ensures { λ r. ⌜ r ≡ slotOf (now (w .entry)) f v ⌝ }
+{
+    if f == 0 {
+        return variable_word(v);
+    }
+    slot(w, f - 1, v)
+}
+
+// The word of a term's node n in frame f.
+pub fn word_of(t: &[u32], w: &[u32], n: u32, f: u32) -> u32
+    ensures { λ r. ⌜ r ≡ wordOf (now (t .entry)) (now (w .entry)) n f ⌝ }
+{
+    if kind(t, n) == 0 {
+        return slot_of(w, f, label(t, n));
+    }
+    closure_word(n, f)
+}
+
+// Looks through at most n bindings.
+pub fn look_word(n: u32, w: &[u32], a: u32) -> u32
+    ensures { λ r. ⌜ r ≡ lookWord n (now (w .entry)) a ⌝ }
+{
+    let mut bindings = n;
+    let mut at = a;
+    while 0 < bindings {
+        if tag_of(at) != 1 {
+            return at;
+        }
+        let b = cell_of(w, name_of(at));
+        if b == 0 {
+            return at;
+        }
+        at = b;
+        bindings -= 1;
+    }
+    at
+}

@@ -1,9 +1,0 @@
-use borrow.Author.Needs.{needs}
-use Rattle.making.proofs.bound_mask.Statement.{statement}
-use Rattle.making.proofs.bound_mask.Tie as tie
-
-returns : tie.Need-returns
-returns c = (simp (← c .before .mask .ensures .0, ← c .without-bit .ensures .0), search needs)
-
-pub bound-mask-spec : {M : Type 1} → statement M
-bound-mask-spec = tie.close (tie.spec (λ c κs. search needs) (λ c κs. search needs) returns)

@@ -1,0 +1,15 @@
+use borrow.Author.Needs.{needs}
+use Rattle.machine.specs.Matching.{checkNode}
+use Rattle.match_acts.proofs.range_check.check_node.Statement.{statement}
+use Rattle.match_acts.proofs.range_check.check_node.Tie as tie
+
+returns : tie.Need-returns
+unfolding checkNode
+returns c =
+    simp (checkNode, ← c .before .before .visit-word .ensures, ← c .before .before .before .before .look-word .ensures, ← c .before .before .before .before .before .due-word .ensures, ← c .before .before .before .before .before .before .before .nodes-after .ensures)
+
+pub check-node-spec : {M : Type 1} → statement M
+check-node-spec =
+    tie.close
+    (tie.spec (λ c κs. search needs) (λ c κs. search needs) (λ c κs. search needs) (λ c κs. search needs) (λ c. search needs)
+    returns)

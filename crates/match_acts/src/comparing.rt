@@ -1,0 +1,79 @@
+// Comparing a pair of arguments: the goal's side first. Each function is a definition of the crate machine, and its contract says
+// so.
+use super::pairs::argument_word;
+use super::pairs::due_pairs;
+use super::pairs::pairs_from;
+use machine::Registers;
+use machine_memory::choice_points::failed;
+use machine_memory::records::put_pairs;
+use machine_memory::registers::on_check;
+use machine_memory::words::frame_of;
+use machine_memory::words::look_word;
+use machine_memory::words::node_of;
+use machine_memory::words::tag_of;
+use machine_memory::words::up;
+use node_table::label;
+ghost use mathlib.Core.Path.{_≡_};
+ghost use Prim.Native.Nat.{_+_};
+ghost use Rattle.machine.specs.Records.{made};
+ghost use Rattle.machine.specs.Matching.{compareClosures, compareLeaves, compareWords, comparePair};
+
+// Two applications: the same symbol, then their arguments, then the pairs at e.
+pub fn compare_closures(t: &[u32], w: &mut [u32], r: Registers, e: u32, x: u32, y: u32) -> Registers
+    ensures { λ s. ⌜ made (now (w .exit)) s ≡ compareClosures (now (t .entry)) (now (w .entry)) r e x y ⌝ }
+{
+    let m = node_of(x);
+    let n = node_of(y);
+    if label(t, m) != label(t, n) {
+        return failed(w, r);
+    }
+    let u = r.acts;
+    put_pairs(w, u, m, frame_of(x), n, frame_of(y), e);
+    due_pairs(w, r, pairs_from(t, w, up(u), 0))
+}
+
+// Goal side a made constant: the same one twice, then the pairs at e.
+pub fn compare_leaves(w: &mut [u32], r: Registers, e: u32, x: u32, y: u32) -> Registers
+    ensures { λ s. ⌜ made (now (w .exit)) s ≡ compareLeaves (now (w .entry)) r e x y ⌝ }
+{
+    if x == y {
+        return due_pairs(w, r, e);
+    }
+    failed(w, r)
+}
+
+// x is the goal's side, y the clause's, both looked through; then the pairs at e.
+pub fn compare_words(t: &[u32], w: &mut [u32], r: Registers, e: u32, x: u32, y: u32) -> Registers
+    ensures { λ s. ⌜ made (now (w .exit)) s ≡ compareWords (now (t .entry)) (now (w .entry)) r e x y ⌝ }
+{
+    let a = tag_of(x);
+    if a == 1 {
+        if x == y {
+            return due_pairs(w, r, e);
+        }
+        return on_check(r, e, x, y);
+    }
+    let b = tag_of(y);
+    if b == 1 {
+        return on_check(r, e, y, x);
+    }
+    if a == 2 {
+        return compare_leaves(w, r, e, x, y);
+    }
+    if b == 2 {
+        return failed(w, r);
+    }
+    compare_closures(t, w, r, e, x, y)
+}
+
+// One act: the pair that is due.
+pub fn compare_pair(t: &[u32], w: &mut [u32], r: Registers) -> Registers
+    ensures { λ s. ⌜ made (now (w .exit)) s ≡ comparePair (now (t .entry)) (now (w .entry)) r ⌝ }
+{
+    let a = r.pairs;
+    let u = r.acts;
+    let e = pairs_from(t, w, a / 4, a % 4 + 1);
+    let x = look_word(u, w, argument_word(t, w, a, 57));
+    let y = look_word(u, w, argument_word(t, w, a, 59));
+    compare_words(t, w, r, e, x, y)
+}

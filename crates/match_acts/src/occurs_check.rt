@@ -1,0 +1,73 @@
+// A range check (the occurs check, with levels) at a variable and at a constant, and the binding that it ends in.
+// Each function is a definition of the crate machine, and its contract says so.
+use super::pairs::due_pairs;
+use machine::Registers;
+use machine_memory::cells::field;
+use machine_memory::cells::level_of;
+use machine_memory::choice_points::failed;
+use machine_memory::registers::on_nodes;
+use machine_memory::registers::on_trail;
+use machine_memory::trail::effect;
+use machine_memory::words::name_of;
+use machine_memory::words::up;
+ghost use mathlib.Core.Path.{_≡_};
+ghost use Prim.Native.Nat.{min};
+ghost use Rattle.machine.specs.Records.{field, made};
+ghost use Rattle.machine.specs.Matching.{bindValue, passNode, visitVariable, visitConstant};
+
+// The range check has passed: lowers z to k, binds, goes on with the pairs.
+pub fn bind_value(w: &mut [u32], r: Registers, z: u32, k: u32) -> Registers
+    ensures { λ s. ⌜ made (now (w .exit)) s ≡ bindValue (now (w .entry)) r z k ⌝ }
+{
+    let u = r.acts;
+    let entry = up(u);
+    effect(w, u, z, k, r.variable, r.value, r.trail);
+    due_pairs(w, on_trail(r, entry), r.pairs)
+}
+
+// A node has passed: lowers z to k (0: nothing), goes on with the nodes at e.
+pub fn pass_node(w: &mut [u32], r: Registers, z: u32, k: u32, e: u32) -> Registers
+    ensures { λ s. ⌜ made (now (w .exit)) s ≡ passNode (now (w .entry)) r z k e ⌝ }
+{
+    if e == 0 {
+        return bind_value(w, r, z, k);
+    }
+    let u = r.acts;
+    let entry = up(u);
+    effect(w, u, z, k, 0, 0, r.trail);
+    on_nodes(on_trail(r, entry), e)
+}
+
+// The lower of two levels.
+fn min(a: u32, b: u32) -> u32
+    ensures { λ r. ⌜ r ≡ min a b ⌝ }
+{
+    if a <= b {
+        return a;
+    }
+    b
+}
+
+// The node is a variable: not the one to be bound; lowered to its level.
+pub fn visit_variable(w: &mut [u32], r: Registers, e: u32, x: u32) -> Registers
+    ensures { λ s. ⌜ made (now (w .exit)) s ≡ visitVariable (now (w .entry)) r e x ⌝ }
+{
+    if x == r.variable {
+        return failed(w, r);
+    }
+    let level = level_of(w, name_of(x));
+    let limit = level_of(w, name_of(r.variable));
+    pass_node(w, r, x, min(level, limit), e)
+}
+
+// The node is a made constant: not above the level of the variable.
+pub fn visit_constant(w: &mut [u32], r: Registers, e: u32, x: u32) -> Registers
+    ensures { λ s. ⌜ made (now (w .exit)) s ≡ visitConstant (now (w .entry)) r e x ⌝ }
+{
+    let level = field(w, name_of(x), 22);
+    let limit = level_of(w, name_of(r.variable));
+    if level <= limit {
+        return pass_node(w, r, 0, 0, e);
+    }
+    failed(w, r)
+}

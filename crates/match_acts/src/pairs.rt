@@ -1,0 +1,72 @@
+// The lists of matching in the lent work buffer: pairs of arguments to compare, nodes to look at in a range check.
+// Each function is a definition of the crate machine, and its contract says so.
+use goal_acts::goals::proceed;
+use machine::Registers;
+use machine_memory::cells::field;
+use machine_memory::cells::record_of;
+use machine_memory::registers::on_pairs;
+use machine_memory::words::narrow;
+use machine_memory::words::word_of;
+use memory::get;
+use memory::wide;
+use node_table::child;
+use node_table::child_count;
+ghost use mathlib.Core.Path.{_≡_};
+ghost use Prim.Native.Nat.{_+_};
+ghost use Rattle.machine.specs.Records.{field};
+ghost use Rattle.machine.specs.Matching.{placeWord, pairsFrom, nodesFrom, argumentWord, duePairs};
+
+// The place of argument i in the record of pointer p, in one number.
+pub fn place_word(p: u32, i: u32) -> u32
+    ensures { λ r. ⌜ r ≡ placeWord p i ⌝ }
+{
+    narrow(4 * wide(p) + wide(i))
+}
+
+// The place of argument i of the pairs at pointer p, or what comes after them.
+pub fn pairs_from(t: &[u32], w: &[u32], p: u32, i: u32) -> u32
+    ensures { λ r. ⌜ r ≡ pairsFrom (now (t .entry)) (now (w .entry)) p i ⌝ }
+{
+    let q = record_of(p);
+    if i < child_count(t, field(w, q, 57)) {
+        return place_word(p, i);
+    }
+    field(w, q, 61)
+}
+
+// The same for the nodes of a range check.
+pub fn nodes_from(t: &[u32], w: &[u32], p: u32, i: u32) -> u32
+    ensures { λ r. ⌜ r ≡ nodesFrom (now (t .entry)) (now (w .entry)) p i ⌝ }
+{
+    let q = record_of(p);
+    if i < child_count(t, field(w, q, 57)) {
+        return place_word(p, i);
+    }
+    field(w, q, 59)
+}
+
+// The field after field f of record u.
+fn field_after(w: &[u32], u: u32, f: u32) -> u32
+    ensures { λ r. ⌜ r ≡ field (now (w .entry)) u (f + 1) ⌝ }
+{
+    get(w, 64 * wide(u) + (wide(f) + 1))
+}
+
+// The word of the argument at place a; its node is in field f of the record, its frame in the next one.
+pub fn argument_word(t: &[u32], w: &[u32], a: u32, f: u32) -> u32
+    ensures { λ r. ⌜ r ≡ argumentWord (now (t .entry)) (now (w .entry)) a f ⌝ }
+{
+    let q = record_of(a / 4);
+    let node = child(t, field(w, q, f), a % 4);
+    word_of(t, w, node, field_after(w, q, f))
+}
+
+// The pairs at place a are due; where none is left, the next goal.
+pub fn due_pairs(w: &[u32], r: Registers, a: u32) -> Registers
+    ensures { λ s. ⌜ s ≡ duePairs (now (w .entry)) r a ⌝ }
+{
+    if a == 0 {
+        return proceed(w, r);
+    }
+    on_pairs(r, a)
+}

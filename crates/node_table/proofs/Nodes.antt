@@ -1,0 +1,142 @@
+-- What is known of a node stays when the table changes elsewhere: in symbols, nodes and clauses that come after.
+use Prim.Native.Nat.{ℕ, _+_, _<_, _≤_}
+use native.Mathlib.Omega.{arith}
+use mathlib.Core.Path.{_≡_, sym, ap, ap₂, _∙_, subst}
+use mathlib.Core.Bool.{Bool}
+use mathlib.Core.List.{List}
+use lib.Dec.{eqb}
+use lib.ListN.{length}
+use Rattle.terms.specs.Terms.{Term, size}
+use Rattle.formulas.specs.Formulas.{Goal, Clause, freeT, freeG, freeC}
+use Rattle.formulas.specs.Members.{members}
+use Rattle.node_table.specs.Layout.{kindOf, labelOf, childOf, maskOf, bitOf, membersOf, arityOf}
+use Rattle.node_table.specs.Decoding.{termAt, goalAt, clauseAtNode}
+use Rattle.node_table.specs.WellMade.{IsTerm, IsGoal, IsClause, Arguments, TermNode, GoalNode, ClauseNode}
+use Rattle.node_table.proofs.Same.{Same, same-kind, same-count, same-label, same-child, same-mask, same-goal, same-members, same-size, same-arity}
+use Rattle.node_table.proofs.Decoding.{Nodes, termAt-same, goalAt-same, clauseAt-same}
+
+module _ (t u : List ℕ) (symbols nodes : ℕ) (s : Same t u symbols nodes) where
+  -- being a term, a goal, a clause
+  pub is-term-same : (n : ℕ) → n < nodes → IsTerm t n → IsTerm u n
+  is-term-same n h i = let e = same-size t u symbols nodes s n h in omega arith
+
+  pub is-term-back : (n : ℕ) → n < nodes → IsTerm u n → IsTerm t n
+  is-term-back n h i = let e = same-size t u symbols nodes s n h in omega arith
+
+  pub is-goal-same : (n : ℕ) → n < nodes → IsGoal t n → IsGoal u n
+  is-goal-same n h i = same-goal t u symbols nodes s n h ∙ i
+
+  pub is-goal-back : (n : ℕ) → n < nodes → IsGoal u n → IsGoal t n
+  is-goal-back n h i = sym (same-goal t u symbols nodes s n h) ∙ i
+
+  pub is-clause-same : (n : ℕ) → n < nodes → IsClause t n → IsClause u n
+  is-clause-same n h i = let e = same-members t u symbols nodes s n h in omega arith
+
+  pub is-clause-back : (n : ℕ) → n < nodes → IsClause u n → IsClause t n
+  is-clause-back n h i = let e = same-members t u symbols nodes s n h in omega arith
+
+  module _ (n : ℕ) (h : n < nodes) where
+    -- a child that comes before its node and is a term, a goal, a clause
+    term-child : (j : ℕ) → j < 4 → (childOf t n j < n) × IsTerm t (childOf t n j) → (childOf u n j < n) × IsTerm u (childOf u n j)
+    term-child j l p =
+        subst (λ (c : ℕ). (c < n) × IsTerm u c) (sym (same-child t u symbols nodes s n h j l)) (p .0, is-term-same (childOf t n j) (omega arith) (p .1))
+
+    goal-child : (j : ℕ) → j < 4 → childOf t n j < n → IsGoal t (childOf t n j) → (childOf u n j < n) × IsGoal u (childOf u n j)
+    goal-child j l p q =
+        subst (λ (c : ℕ). (c < n) × IsGoal u c) (sym (same-child t u symbols nodes s n h j l)) (p, is-goal-same (childOf t n j) (omega arith) q)
+
+    clause-child : (j : ℕ) → j < 4 → childOf t n j < n → IsClause t (childOf t n j) → (childOf u n j < n) × IsClause u (childOf u n j)
+    clause-child j l p q =
+        subst (λ (c : ℕ). (c < n) × IsClause u c) (sym (same-child t u symbols nodes s n h j l)) (p, is-clause-same (childOf t n j) (omega arith) q)
+
+    pub arguments-same : labelOf t n < symbols → Arguments t n → Arguments u n
+    arguments-same l a =
+        let e = same-label t u symbols nodes s n h in
+        let c = same-count t u symbols nodes s n h in
+        let few = a .few in
+        let symbol = a .symbol in
+        record {
+          symbol = omega arith;
+          many = c ∙ a .many ∙ sym (ap (arityOf u) e ∙ same-arity t u symbols nodes s (labelOf t n) l);
+          few = omega arith;
+          terms = λ j k. term-child j (omega arith) (a .terms j (omega arith));
+        }
+
+  module _ (made : Nodes t nodes) (named : (n : ℕ) → n < nodes → 1 ≤ kindOf t n → kindOf t n ≤ 2 → labelOf t n < symbols) where
+    -- the arguments of an older node
+    older : (n : ℕ) → n < nodes → (k : ℕ) → kindOf t n ≡ k → 1 ≤ k → k ≤ 2 → Arguments t n → Arguments u n
+    older n h k e l m a = arguments-same n h (named n h (omega arith) (omega arith)) a
+
+    free-same : (n : ℕ) → n < nodes → (f f′ : ℕ → Bool) → ((v : ℕ) → v < 8 → eqb (bitOf (maskOf t n) v) 1 ≡ f v) → ((v : ℕ) → f v ≡ f′ v)
+        → (v : ℕ) → v < 8 → eqb (bitOf (maskOf u n) v) 1 ≡ f′ v
+    free-same n h f f′ p q v l = ap (λ (m : ℕ). eqb (bitOf m v) 1) (same-mask t u symbols nodes s n h) ∙ p v l ∙ q v
+
+    pub term-same : (n : ℕ) → n < nodes → IsTerm t n → TermNode u n
+    term-same n h i =
+        let m = made .term n h i in
+        let e = same-kind t u symbols nodes s n h in
+        let l = same-label t u symbols nodes s n h in
+        let tree = sym (termAt-same t u symbols nodes s made n h i) in
+        let kind = m .kind in
+        record {
+          kind = omega arith;
+          variable = λ k. subst (λ (x : ℕ). x < 8) (sym l) (m .variable (sym e ∙ k));
+          application = λ k. older n h 1 (sym e ∙ k) (omega arith) (omega arith) (m .application (sym e ∙ k));
+          size = same-size t u symbols nodes s n h ∙ m .size ∙ ap size tree;
+          free = free-same n h (freeT (termAt t n)) (freeT (termAt u n)) (m .free) (λ v. ap (λ (x : Term ℕ). freeT x v) tree);
+        }
+
+    pub goal-same : (n : ℕ) → n < nodes → IsGoal t n → GoalNode u n
+    goal-same n h i =
+        let m = made .goal n h i in
+        let e = same-kind t u symbols nodes s n h in
+        let l = same-label t u symbols nodes s n h in
+        let tree = sym (goalAt-same t u symbols nodes s made n h i) in
+        let least = m .least in
+        let most = m .most in
+        record {
+          least = omega arith;
+          most = omega arith;
+          atom = λ k. older n h 2 (sym e ∙ k) (omega arith) (omega arith) (m .atom (sym e ∙ k));
+          and = λ k. let a = m .and (sym e ∙ k) in
+              let x = goal-child n h 0 (omega arith) (a .0) (a .1) in let y = goal-child n h 1 (omega arith) (a .2) (a .3) in (x .0, x .1, y .0, y .1);
+          or = λ k. let a = m .or (sym e ∙ k) in
+              let x = goal-child n h 0 (omega arith) (a .0) (a .1) in let y = goal-child n h 1 (omega arith) (a .2) (a .3) in (x .0, x .1, y .0, y .1);
+          implies = λ k. let a = m .implies (sym e ∙ k) in
+              let x = clause-child n h 0 (omega arith) (a .0) (a .1) in let y = goal-child n h 1 (omega arith) (a .2) (a .3) in (x .0, x .1, y .0, y .1);
+          exists = λ k. let a = m .exists (sym e ∙ k) in let x = goal-child n h 0 (omega arith) (a .1) (a .2) in (subst (λ (x : ℕ). x < 8) (sym l) (a .0), x .0, x .1);
+          forall = λ k. let a = m .forall (sym e ∙ k) in let x = goal-child n h 0 (omega arith) (a .1) (a .2) in (subst (λ (x : ℕ). x < 8) (sym l) (a .0), x .0, x .1);
+          free = free-same n h (freeG (goalAt t n)) (freeG (goalAt u n)) (m .free) (λ v. ap (λ (x : Goal). freeG x v) tree);
+        }
+
+    members-child : (n : ℕ) → n < nodes → (j : ℕ) → j < 4 → childOf t n j < n → membersOf u (childOf u n j) ≡ membersOf t (childOf t n j)
+    members-child n h j l k = ap (membersOf u) (same-child t u symbols nodes s n h j l) ∙ same-members t u symbols nodes s (childOf t n j) (omega arith)
+
+    pub clause-same : (n : ℕ) → n < nodes → IsClause t n → ClauseNode u n
+    clause-same n h i =
+        let m = made .clause n h i in
+        let e = same-kind t u symbols nodes s n h in
+        let l = same-label t u symbols nodes s n h in
+        let c = same-members t u symbols nodes s n h in
+        let tree = sym (clauseAt-same t u symbols nodes s made n h i) in
+        let few = m .few in
+        record {
+          kind = λ p q r. e ∙ m .kind (λ k. p (e ∙ k)) (λ k. q (e ∙ k)) (λ k. r (e ∙ k));
+          atom = λ k. older n h 2 (sym e ∙ k) (omega arith) (omega arith) (m .atom (sym e ∙ k));
+          and = λ k. let a = m .and (sym e ∙ k) in
+              let x = clause-child n h 0 (omega arith) (a .0) (a .1) in let y = clause-child n h 1 (omega arith) (a .2) (a .3) in
+              (x .0, x .1, y .0, y .1, c ∙ a .4 ∙ sym (ap₂ _+_ (members-child n h 0 (omega arith) (a .0)) (members-child n h 1 (omega arith) (a .2))));
+          implies = λ k. let a = m .implies (sym e ∙ k) in
+              let x = goal-child n h 0 (omega arith) (a .0) (a .1) in
+              let d = same-child t u symbols nodes s n h 1 (omega arith) in
+              let b = a .2 in
+              let f : kindOf u (childOf t n 1) ≡ 2 = same-kind t u symbols nodes s (childOf t n 1) (omega arith) ∙ a .3 in
+              let g : Arguments u (childOf t n 1) = older (childOf t n 1) (omega arith) 2 (a .3) (omega arith) (omega arith) (a .4) in
+              (x .0, x .1, subst (λ (i : ℕ). i < n) (sym d) b, subst (λ (i : ℕ). kindOf u i ≡ 2) (sym d) f, subst (λ (i : ℕ). Arguments u i) (sym d) g);
+          each = λ k. let a = m .each (sym e ∙ k) in
+              let x = clause-child n h 0 (omega arith) (a .1) (a .2) in
+              (subst (λ (x : ℕ). x < 8) (sym l) (a .0), x .0, x .1, c ∙ a .3 ∙ sym (members-child n h 0 (omega arith) (a .1)));
+          few = omega arith;
+          members = c ∙ m .members ∙ ap (λ (x : Clause). length (members x)) tree;
+          free = free-same n h (freeC (clauseAtNode t n)) (freeC (clauseAtNode u n)) (m .free) (λ v. ap (λ (x : Clause). freeC x v) tree);
+        }

@@ -1,0 +1,75 @@
+-- What holds of every table that the reader fills: each node's children come before it and are of the kinds that it needs. The
+-- engine and the checker rely on it.
+use Prim.Native.Nat.{ℕ, suc, _+_, _≤_, _<_}
+use mathlib.Core.Path.{_≡_}
+use mathlib.Core.Bool.{Bool, true, false}
+use mathlib.Core.List.{List}
+use lib.Dec.{eqb}
+use lib.ListN.{length}
+use Rattle.terms.specs.Terms.{size}
+use Rattle.formulas.specs.Formulas.{freeT, freeG, freeC}
+use Rattle.formulas.specs.Members.{members}
+use Rattle.node_table.specs.Layout.{kindOf, childCount, labelOf, childOf, maskOf, bitOf, goalBit, membersOf, sizeOf, arityOf, clauseNode}
+use Rattle.node_table.specs.Decoding.{termAt, goalAt, clauseAtNode}
+
+abbrev pub IsTerm : List ℕ → ℕ → Type 0
+IsTerm t n = 1 ≤ sizeOf t n
+
+abbrev pub IsGoal : List ℕ → ℕ → Type 0
+IsGoal t n = goalBit t n ≡ 1
+
+abbrev pub IsClause : List ℕ → ℕ → Type 0
+IsClause t n = 1 ≤ membersOf t n
+
+-- The children of an application or an atom: as many as the symbol's arity, at most four, all terms made before.
+pub record Arguments (t : List ℕ) (n : ℕ) : Type 0 where
+  pub symbol : labelOf t n < 256
+  pub many : childCount t n ≡ arityOf t (labelOf t n)
+  pub few : childCount t n ≤ 4
+  pub terms : (j : ℕ) → j < childCount t n → (childOf t n j < n) × IsTerm t (childOf t n j)
+
+-- A term: a variable below 8, or an application.
+pub record TermNode (t : List ℕ) (n : ℕ) : Type 0 where
+  pub kind : kindOf t n ≤ 1
+  pub variable : kindOf t n ≡ 0 → labelOf t n < 8
+  pub application : kindOf t n ≡ 1 → Arguments t n
+  pub size : sizeOf t n ≡ size (termAt t n)
+  pub free : (v : ℕ) → v < 8 → eqb (bitOf (maskOf t n) v) 1 ≡ freeT (termAt t n) v
+
+pub record GoalNode (t : List ℕ) (n : ℕ) : Type 0 where
+  pub least : 2 ≤ kindOf t n
+  pub most : kindOf t n ≤ 8
+  pub atom : kindOf t n ≡ 2 → Arguments t n
+  pub and : kindOf t n ≡ 4 → (childOf t n 0 < n) × IsGoal t (childOf t n 0) × (childOf t n 1 < n) × IsGoal t (childOf t n 1)
+  pub or : kindOf t n ≡ 5 → (childOf t n 0 < n) × IsGoal t (childOf t n 0) × (childOf t n 1 < n) × IsGoal t (childOf t n 1)
+  pub implies : kindOf t n ≡ 6 → (childOf t n 0 < n) × IsClause t (childOf t n 0) × (childOf t n 1 < n) × IsGoal t (childOf t n 1)
+  pub exists : kindOf t n ≡ 7 → (labelOf t n < 8) × (childOf t n 0 < n) × IsGoal t (childOf t n 0)
+  pub forall : kindOf t n ≡ 8 → (labelOf t n < 8) × (childOf t n 0 < n) × IsGoal t (childOf t n 0)
+  pub free : (v : ℕ) → v < 8 → eqb (bitOf (maskOf t n) v) 1 ≡ freeG (goalAt t n) v
+
+-- A clause: an atom, & of clauses, > from a goal to an atom, U of a clause.
+pub record ClauseNode (t : List ℕ) (n : ℕ) : Type 0 where
+  pub kind : (kindOf t n ≡ 2 → ⊥) → (kindOf t n ≡ 4 → ⊥) → (kindOf t n ≡ 6 → ⊥) → kindOf t n ≡ 8
+  pub atom : kindOf t n ≡ 2 → Arguments t n
+  pub and : kindOf t n ≡ 4 → (childOf t n 0 < n) × IsClause t (childOf t n 0) × (childOf t n 1 < n) × IsClause t (childOf t n 1)
+      × (membersOf t n ≡ membersOf t (childOf t n 0) + membersOf t (childOf t n 1))
+  pub implies : kindOf t n ≡ 6 → (childOf t n 0 < n) × IsGoal t (childOf t n 0) × (childOf t n 1 < n) × (kindOf t (childOf t n 1) ≡ 2) × Arguments t (childOf t n 1)
+  pub each : kindOf t n ≡ 8 → (labelOf t n < 8) × (childOf t n 0 < n) × IsClause t (childOf t n 0) × (membersOf t n ≡ membersOf t (childOf t n 0))
+  pub few : membersOf t n ≤ 64
+  pub members : membersOf t n ≡ length (members (clauseAtNode t n))
+  pub free : (v : ℕ) → v < 8 → eqb (bitOf (maskOf t n) v) 1 ≡ freeC (clauseAtNode t n) v
+
+-- So many nodes and clauses, and the goal's node.
+pub record WellMade (t : List ℕ) (nodes clauses goal : ℕ) : Type 0 where
+  pub fewNodes : nodes ≤ 1024
+  pub fewClauses : clauses ≤ 128
+  pub term : (n : ℕ) → n < nodes → IsTerm t n → TermNode t n
+  pub goalNode : (n : ℕ) → n < nodes → IsGoal t n → GoalNode t n
+  pub clauseNodes : (n : ℕ) → n < nodes → IsClause t n → ClauseNode t n
+  pub clause : (i : ℕ) → i < clauses → (clauseNode t i < nodes) × IsClause t (clauseNode t i)
+  pub goal-there : goal < nodes
+  pub goal-is : IsGoal t goal
+
+-- The applications of a table name symbols that are declared.
+abbrev pub Named : List ℕ → ℕ → ℕ → Type 0
+Named t nodes symbols = (n : ℕ) → n < nodes → IsTerm t n → kindOf t n ≡ 1 → labelOf t n < symbols

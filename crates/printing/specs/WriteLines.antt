@@ -1,0 +1,70 @@
+-- Document 01, "The answer text": the lines. "Tabs and LF stand as on the sheet."
+use Prim.Native.Nat.{ℕ, zero, suc, _-_, _/_, _%_}
+use mathlib.Core.Bool.{true, false, cond}
+use mathlib.Core.List.{List}
+use lib.Dec.{eqb, ltb}
+use Rattle.sheet_format.specs.Bytes.{ascii, tab, lf}
+use Rattle.machine.specs.Records.{field}
+use Rattle.machine.specs.Words.{variableWord, constantWord}
+use Rattle.printing.specs.Output.{writeBytes, writeNumber}
+use Rattle.printing.specs.Marks.{Page, wrote}
+use Rattle.printing.specs.WriteTerms.{emitTo, termTo}
+
+-- Bytes on a page.
+unfoldable pub bytesTo : ℕ → Page → List ℕ → Page
+bytesTo limit g bs = wrote g (writeBytes bs (g .buffer) limit (g .pen .at))
+
+-- A number on a page.
+unfoldable pub numberTo : ℕ → Page → ℕ → Page
+numberTo limit g n = wrote g (writeNumber (g .buffer) limit (g .pen .at) n)
+
+-- "First `R`, outcome, units": bs are the bytes before the units.
+unfoldable pub resultTo : ℕ → Page → List ℕ → ℕ → Page
+resultTo limit g bs units = emitTo limit (numberTo limit (bytesTo limit g bs) units) lf
+
+-- The five lines that have no term.
+unfoldable pub plainBytes : ℕ → List ℕ
+plainBytes k =
+    cond (eqb k 0) (ascii "D\ttrue\n")
+    (cond (eqb k 1) (ascii "D\tand\n")
+    (cond (eqb k 2) (ascii "D\tleft\n") (cond (eqb k 3) (ascii "D\tright\n") (ascii "D\tassume\n"))))
+
+module _ (sheet t : List ℕ) (turns limit : ℕ) where
+  -- A line of these bytes and the term of word a.
+  unfoldable pub termLine : Page → List ℕ → ℕ → Page
+  termLine g bs a = emitTo limit (termTo sheet t turns limit (bytesTo limit g bs) a) lf
+
+  -- "`B v term` for each free variable, ascending": the names from v on, n of them; the lowest bit of the mask is that of v.
+  unfoldable pub bindingsTo : ℕ → ℕ → ℕ → Page → Page
+  bindingsTo zero mask v g = g
+  bindingsTo (suc n) mask v g =
+      elim (eqb (mask % 2) 1) [
+        | true ↦ bindingsTo n (mask / 2) (suc v) (termLine (numberTo limit (bytesTo limit g (ascii "B\t")) v) (ascii "\t") (variableWord v))
+        | false ↦ bindingsTo n (mask / 2) (suc v) g
+      ]
+
+  -- The terms of a prefix: n variables from x on.
+  unfoldable pub prefixTo : ℕ → Page → ℕ → Page
+  prefixTo zero g x = g
+  prefixTo (suc n) g x = prefixTo n (termTo sheet t turns limit (emitTo limit g tab) (variableWord x)) (suc x)
+
+  -- "`D clause place term...`", of record q.
+  unfoldable pub clauseTo : Page → ℕ → Page
+  clauseTo g q =
+      let s = numberTo limit (bytesTo limit g (ascii "D\tclause\t")) (field (g .memory) q 41) in
+      emitTo limit (prefixTo (field (g .memory) q 42) s (field (g .memory) q 43)) lf
+
+  -- The line of kind k in record q.
+  unfoldable pub lineTo : Page → ℕ → ℕ → Page
+  lineTo g q k = elim (ltb k 5) [
+    | true ↦ bytesTo limit g (plainBytes k)
+    | false ↦ elim (eqb k 5) [
+      | true ↦ termLine g (ascii "D\tsome\t") (variableWord (field (g .memory) q 43))
+      | false ↦ elim (eqb k 6) [ true ↦ termLine g (ascii "D\tall\t") (constantWord q) | false ↦ clauseTo g q ]
+    ]
+  ]
+
+  -- The lines from link e on, at most n of them (Links).
+  unfoldable pub linesTo : ℕ → Page → ℕ → Page
+  linesTo zero g e = g
+  linesTo (suc n) g e = elim (eqb (e / 8) 0) [ true ↦ g | false ↦ linesTo n (lineTo g (e / 8 - 1) (e % 8)) (field (g .memory) (e / 8 - 1) 62) ]

@@ -1,0 +1,54 @@
+-- Document 01: "A term is written as its name and, in round brackets, its arguments parted by commas, a constant as the bare name".
+-- The writer of a term calls itself on its arguments; it stops as soon as the position has passed the limit, and at rank 0, which
+-- is met only then: before each call of itself it writes a bracket or a comma.
+use Prim.Native.Nat.{ℕ, zero, suc}
+use Prim.Native.Char.{code}
+use mathlib.Core.Bool.{true, false, cond}
+use mathlib.Core.List.{List}
+use lib.Dec.{eqb, ltb}
+use Rattle.node_table.specs.Layout.{childCount, labelOf, childOf, nameStart, nameLength}
+use Rattle.machine.specs.Words.{up, tagOf, nameOf, nodeOf, frameOf, wordOf}
+use Rattle.printing.specs.Output.{emit, copyBytes}
+use Rattle.printing.specs.Marks.{Page, wrote, seek, showVariable, showConstant}
+
+-- A byte on a page.
+unfoldable pub emitTo : ℕ → Page → ℕ → Page
+emitTo limit g b = wrote g (emit (g .buffer) limit (g .pen .at) b)
+
+-- The name of symbol f, from the sheet.
+unfoldable pub writeName : List ℕ → List ℕ → ℕ → Page → ℕ → Page
+writeName sheet t limit g f = wrote g (copyBytes (nameLength t f) sheet (nameStart t f) (g .buffer) limit (g .pen .at))
+
+-- What stands before argument j.
+unfoldable pub separator : ℕ → ℕ
+separator j = cond (eqb j 0) (code "(") (code ",")
+
+-- The arguments from the j-th on, c of them, of node n in frame f, each by `write`; then the closing bracket.
+unfoldable pub argumentsBy : (Page → ℕ → Page) → List ℕ → ℕ → ℕ → ℕ → ℕ → ℕ → Page → Page
+argumentsBy write t limit zero n f j g = emitTo limit g (code ")")
+argumentsBy write t limit (suc c) n f j g =
+    let s = emitTo limit g (separator j) in
+    argumentsBy write t limit c n f (suc j) (write s (wordOf t (s .memory) (childOf t n j) f))
+
+-- An application: its name, then its arguments, if there are any.
+unfoldable pub applicationBy : (Page → ℕ → Page) → List ℕ → List ℕ → ℕ → Page → ℕ → ℕ → Page
+applicationBy write sheet t limit g n f =
+    let s = writeName sheet t limit g (labelOf t n) in
+    elim (eqb (childCount t n) 0) [ true ↦ s | false ↦ argumentsBy write t limit (childCount t n) n f 0 s ]
+
+-- The word a, looked through.
+unfoldable pub wordBy : (Page → ℕ → Page) → List ℕ → List ℕ → ℕ → Page → ℕ → Page
+wordBy write sheet t limit g a = elim (eqb (tagOf a) 1) [
+  | true ↦ showVariable limit g (nameOf a)
+  | false ↦ elim (eqb (tagOf a) 2) [ true ↦ showConstant limit g (nameOf a) | false ↦ applicationBy write sheet t limit g (nodeOf a) (frameOf a) ]
+]
+
+-- The term of word a: at most `turns` bindings are looked through at a time.
+unfoldable pub writeTerm : ℕ → List ℕ → List ℕ → ℕ → ℕ → Page → ℕ → Page
+writeTerm zero sheet t turns limit g a = g
+writeTerm (suc rank) sheet t turns limit g a =
+    elim (ltb limit (g .pen .at)) [ true ↦ g | false ↦ wordBy (writeTerm rank sheet t turns limit) sheet t limit g (seek turns (g .memory) a) ]
+
+-- A rank that suffices.
+unfoldable pub termTo : List ℕ → List ℕ → ℕ → ℕ → Page → ℕ → Page
+termTo sheet t turns limit g a = writeTerm (up limit) sheet t turns limit g a

@@ -1,0 +1,111 @@
+-- What is proved of the writer: it writes the answer text of document 01 if it fits, and otherwise no byte.
+use Prim.Native.Nat.{ℕ, zero, suc, _+_, _-_, _*_, _≤_, _<_}
+use mathlib.Core.Path.{_≡_}
+use mathlib.Core.Bool.{cond}
+use mathlib.Core.List.{List, _++_}
+use mathlib.Core.Logic.{_⊎_}
+use lib.Dec.{leb}
+use lib.ListN.{length, drop}
+use Rattle.sequents.specs.Sequents.{Line}
+use Rattle.unification.specs.Store.{Leaf, Store}
+use Rattle.unification.specs.Promises.{Unbound, Formed}
+use Rattle.node_table.specs.Layout.{kindOf}
+use Rattle.search.specs.Search.{proved, ends, search}
+use Rattle.node_table.specs.Decoding.{clausesFrom, goalAt, decodeSheet}
+use Rattle.node_table.specs.WellMade.{IsTerm, WellMade, Named}
+use Rattle.machine.specs.Records.{field, cellOf, levelOf, Made}
+use Rattle.machine.specs.Words.{tagOf, nameOf, nodeOf, frameOf, slotOf}
+use Rattle.machine.specs.Machine.{runMachine}
+use Rattle.machine.specs.Simulation.{StandsAt}
+use Rattle.answer_texts.specs.Spelling.{noText, spentText}
+use Rattle.answer_texts.specs.Promises.{searchText}
+use Rattle.printing.specs.Output.{Written, written}
+use Rattle.printing.specs.Links.{clearVariables}
+use Rattle.printing.specs.Writer.{textLimit, noRoom, writeProof, writeNo, writeSpent}
+
+-- What holds of the machine's memory after a proved search, beside `StandsAt`. All of it is part of the simulation's invariant.
+
+-- A word of a leaf: a variable, or the constant of an act done.
+pub data LeafWord (acts a : ℕ) : Type 0 where
+  variable : tagOf a ≡ 1 → LeafWord acts a
+  constant : tagOf a ≡ 2 → nameOf a < acts → LeafWord acts a
+
+-- A closure's: an application's node, and a frame that was made, in which every name stands for a leaf.
+pub record Closure (t w : List ℕ) (nodes acts a : ℕ) : Type 0 where
+  pub tag : tagOf a ≡ 3
+  pub there : nodeOf a < nodes
+  pub term : IsTerm t (nodeOf a)
+  pub application : kindOf t (nodeOf a) ≡ 1
+  pub frame : frameOf a ≤ acts
+  pub slots : (v : ℕ) → v < 8 → LeafWord acts (slotOf w (frameOf a) v)
+
+-- A word of a term.
+pub data TermWord (t w : List ℕ) (nodes acts a : ℕ) : Type 0 where
+  ofLeaf : LeafWord acts a → TermWord t w nodes acts a
+  ofClosure : Closure t w nodes acts a → TermWord t w nodes acts a
+
+-- The line of kind k in record q: its variables were made.
+pub record LineMade (w : List ℕ) (next q k : ℕ) : Type 0 where
+  pub kind : k ≤ 7
+  pub some : k ≡ 5 → field w q 43 < next
+  pub clause : k ≡ 7 → field w q 42 + field w q 43 ≤ next
+
+-- From pointer p on, at most n lines, each made before the one after it.
+unfoldable pub PathMade : ℕ → List ℕ → ℕ → ℕ → ℕ → Type 0
+PathMade zero w next p k = p ≡ 0
+PathMade (suc n) w next p k = (p ≡ 0) ⊎ ((1 ≤ p) × LineMade w next (p - 1) k × (field w (p - 1) 39 < p) × PathMade n w next (field w (p - 1) 39) (field w (p - 1) 40))
+
+-- The memory as a whole.
+pub record Orderly (t : List ℕ) (nodes : ℕ) (m : Made) (s : Store) : Type 0 where
+  -- the demanded part of the work buffer, and in it the variables made
+  pub few : m .registers .acts ≤ 50000
+  pub room : 64 * m .registers .acts ≤ length (m .memory)
+  pub goals : 8 ≤ s .next
+  pub variables : s .next ≤ 9 * m .registers .acts
+  -- each act binds at most once, and an unbound variable has no word
+  pub formed : Formed s
+  pub bindings : length (s .bindings) ≤ m .registers .acts
+  pub unbound : (x : ℕ) → x < s .next → Unbound (s .bindings) x → cellOf (m .memory) x ≡ 0
+  pub words : (x : ℕ) → x < s .next → (cellOf (m .memory) x ≡ 0) ⊎ TermWord t (m .memory) nodes (m .registers .acts) (cellOf (m .memory) x)
+  pub pointer : m .registers .path ≤ m .registers .acts
+  pub path : PathMade (m .registers .acts) (m .memory) (s .next) (m .registers .path) (m .registers .line)
+
+-- What becomes of the answer buffer, and the text's length: "an answer changes only its own bytes".
+unfoldable pub told : List ℕ → List ℕ → Written
+told text out = cond (leb (length text) (textLimit out)) (written (text ++ drop (length text) out) (length text)) (written out noRoom)
+
+-- The answer text is written if it fits, and otherwise no byte.
+abbrev pub WritesProof : Type 0
+WritesProof = (sheet t : List ℕ) (symbols nodes clauses goal : ℕ) → WellMade t nodes clauses goal → Named t nodes symbols
+    → (m : Made) (s : Store) (path : List (Line Leaf)) → StandsAt t m 4 s path → Orderly t nodes m s → (units : ℕ) (out : List ℕ)
+    → written (writeProof sheet t goal m units out .buffer) (writeProof sheet t goal m units out .length)
+    ≡ told (searchText (decodeSheet sheet t symbols clauses goal) s path units) out
+
+-- So after every run of the machine that ends with a proof.
+abbrev pub WritesAnswer : Type 0
+WritesAnswer = (sheet t : List ℕ) (symbols nodes clauses goal : ℕ) → WellMade t nodes clauses goal → Named t nodes symbols
+    → (budget : ℕ) → budget ≤ 50000 → (w : List ℕ) → 64 * budget ≤ length w
+    → (s : Store) (path : List (Line Leaf)) (n : ℕ) → search budget (clausesFrom t clauses 0) (goalAt t goal) ≡ ends (proved s path) n → (out : List ℕ)
+    → written (writeProof sheet t goal (runMachine budget t clauses goal w) n out .buffer) (writeProof sheet t goal (runMachine budget t clauses goal w) n out .length)
+    ≡ told (searchText (decodeSheet sheet t symbols clauses goal) s path n) out
+
+-- So are the text of no
+abbrev pub WritesNo : Type 0
+WritesNo = (units : ℕ) (out : List ℕ) → writeNo units out ≡ told (noText units) out
+
+-- and the text of spent.
+abbrev pub WritesSpent : Type 0
+WritesSpent = (budget : ℕ) (out : List ℕ) → writeSpent budget out ≡ told (spentText budget) out
+
+-- With the numbers cleared, all that the search reads is as it was.
+pub record Restored (w w′ : List ℕ) (next : ℕ) : Type 0 where
+  pub long : length w′ ≡ length w
+  pub fields : (u f : ℕ) → 18 ≤ f → f < 62 → field w′ u f ≡ field w u f
+  pub levels : (x : ℕ) → levelOf w′ x ≡ levelOf w x
+  pub cells : (x : ℕ) → x < next → cellOf w′ x ≡ cellOf w x
+
+-- It is so after the writer.
+abbrev pub Restores : Type 0
+Restores = (sheet t : List ℕ) (symbols nodes clauses goal : ℕ) → WellMade t nodes clauses goal → Named t nodes symbols
+    → (m : Made) (s : Store) (path : List (Line Leaf)) → StandsAt t m 4 s path → Orderly t nodes m s → (units : ℕ) (out : List ℕ)
+    → Restored (m .memory) (clearVariables (s .next) (writeProof sheet t goal m units out .memory)) (s .next)

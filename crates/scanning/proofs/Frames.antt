@@ -1,0 +1,71 @@
+-- Frames and the environments that they hold: kept by writes to other records, copied, and changed at a name.
+use Prim.Native.Nat.{ℕ, _+_, _*_, _<_}
+use native.Mathlib.Omega.{arith}
+use mathlib.Core.Path.{_≡_, refl, sym, _∙_, subst, subst₂}
+use mathlib.Core.Bool.{Bool, true, false}
+use mathlib.Core.List.{List}
+use lib.Dec.{eqb}
+use borrow.Author.Tests.{eqb-true, eqb-false}
+use Rattle.terms.specs.Lists.{update}
+use Rattle.terms.proofs.Lists.{update-same, update-other}
+use Rattle.sequents.specs.Symbols.{Symbol, Ground}
+use Rattle.sequents.specs.Sequents.{Environment}
+use Rattle.sheet_format.specs.Nodes.{Declaration}
+use Rattle.scanning.specs.Frames.{field, put, slotStart, slotEnd, putSlot, copyFrame, bindFrame}
+use Rattle.scanning.proofs.Placed.{Placed}
+use Rattle.scanning.proofs.Along.{Frame}
+use Rattle.scanning.proofs.Records.{Room, put-at, put-off, Kept, put-kept, kept-room, copy-kept, copy-at}
+
+module _ (ds : List Declaration) (x : List ℕ) where
+  -- a place with its two numbers changed for equal ones
+  moved : (s e i j : ℕ) (u : Ground) → s ≡ i → e ≡ j → Placed ds x s e u → Placed ds x i j u
+  moved s e i j u p q h = subst₂ (λ (a b : ℕ). Placed ds x a b u) p q h
+
+  -- a frame of another record stays
+  pub frame-kept : (q r : ℕ) (w w′ : List ℕ) (e : Environment Symbol) (p : ℕ → Bool) → Kept q w w′ → (r ≡ q → ⊥) → Frame ds x w r e p → Frame ds x w′ r e p
+  unfolding slotStart slotEnd
+  frame-kept q r w w′ e p k d f v l h =
+      moved (field w r (2 * v)) (field w r (2 * v + 1)) (field w′ r (2 * v)) (field w′ r (2 * v + 1)) (e v)
+      (sym (k .others r (2 * v) d (omega arith))) (sym (k .others r (2 * v + 1) d (omega arith))) (f v l h)
+
+  -- a frame that is copied
+  pub frame-copy : (q r : ℕ) (w : List ℕ) (e : Environment Symbol) (p : ℕ → Bool) → Room q w → (r ≡ q → ⊥) → Frame ds x w r e p → Frame ds x (copyFrame 16 w q r 0) q e p
+  unfolding slotStart slotEnd
+  frame-copy q r w e p room d f v l h =
+      moved (field w r (2 * v)) (field w r (2 * v + 1)) (field (copyFrame 16 w q r 0) q (2 * v)) (field (copyFrame 16 w q r 0) q (2 * v + 1)) (e v)
+      (sym (copy-at 16 w q r 0 (2 * v) room d (omega arith) (omega arith) (omega arith))) (sym (copy-at 16 w q r 0 (2 * v + 1) room d (omega arith) (omega arith) (omega arith))) (f v l h)
+
+  -- a frame with another term for name v
+  pub frame-put : (q v s j : ℕ) (u : Ground) (w : List ℕ) (e : Environment Symbol) (p p′ : ℕ → Bool) → Room q w → v < 8 → Placed ds x s j u
+      → ((z : ℕ) → (z ≡ v → ⊥) → p′ z ≡ true → p z ≡ true) → Frame ds x w q e p → Frame ds x (putSlot w q v s j) q (update e v u) p′
+  unfolding slotStart slotEnd putSlot
+  frame-put q v s j u w e p p′ room k h n f z l g = go (eqb z v) refl
+    where
+      w₁ : List ℕ
+      w₁ = put w q (2 * v) s
+
+      w₂ : List ℕ
+      w₂ = put w₁ q (2 * v + 1) j
+
+      go : (b : Bool) → eqb z v ≡ b → Placed ds x (field w₂ q (2 * z)) (field w₂ q (2 * z + 1)) (update e v u z)
+      go true i =
+          let d = eqb-true z v i in
+          subst (λ (y : ℕ). Placed ds x (field w₂ q (2 * y)) (field w₂ q (2 * y + 1)) (update e v u y)) (sym d)
+          (subst (Placed ds x (field w₂ q (2 * v)) (field w₂ q (2 * v + 1))) (sym (update-same e v u))
+          (moved s j (field w₂ q (2 * v)) (field w₂ q (2 * v + 1)) u
+          (sym (put-off w₁ q (2 * v + 1) j q (2 * v) (omega arith) (omega arith) (λ y. omega arith) ∙ put-at w q (2 * v) s room (omega arith)))
+          (sym (put-at w₁ q (2 * v + 1) j (kept-room q q w w₁ (put-kept w q (2 * v) s (omega arith)) room) (omega arith))) h))
+      go false i =
+          let d = eqb-false z v i in
+          subst (Placed ds x (field w₂ q (2 * z)) (field w₂ q (2 * z + 1))) (sym (update-other e v u z d))
+          (moved (field w q (2 * z)) (field w q (2 * z + 1)) (field w₂ q (2 * z)) (field w₂ q (2 * z + 1)) (e z)
+          (sym (put-off w₁ q (2 * v + 1) j q (2 * z) (omega arith) (omega arith) (λ y. omega arith) ∙ put-off w q (2 * v) s q (2 * z) (omega arith) (omega arith) (λ y. omega arith)))
+          (sym (put-off w₁ q (2 * v + 1) j q (2 * z + 1) (omega arith) (omega arith) (λ y. omega arith) ∙ put-off w q (2 * v) s q (2 * z + 1) (omega arith) (omega arith) (λ y. omega arith)))
+          (f z l (n z d g)))
+
+  -- both
+  pub frame-bind : (q r v s j : ℕ) (u : Ground) (w : List ℕ) (e : Environment Symbol) (p p′ : ℕ → Bool) → Room q w → (r ≡ q → ⊥) → v < 8 → Placed ds x s j u
+      → ((z : ℕ) → (z ≡ v → ⊥) → p′ z ≡ true → p z ≡ true) → Frame ds x w r e p → Frame ds x (bindFrame w q r v s j) q (update e v u) p′
+  unfolding bindFrame
+  frame-bind q r v s j u w e p p′ room d k h n f =
+      frame-put q v s j u (copyFrame 16 w q r 0) e p p′ (kept-room q q w (copyFrame 16 w q r 0) (copy-kept 16 w q r 0 (omega arith)) room) k h n (frame-copy q r w e p room d f)

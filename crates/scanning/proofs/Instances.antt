@@ -1,0 +1,308 @@
+-- Comparing instances by classes of elements is comparing the instances: the classes hold elements that mean the same term.
+use Prim.Native.Nat.{ℕ, zero, suc, _+_, _<_, _≤_}
+use native.Mathlib.Omega.{arith}
+use native.Mathlib.Numerals.{add-one}
+use mathlib.Core.Path.{_≡_, refl, sym, ap, ap₂, _∙_, subst}
+use mathlib.Core.Bool.{Bool, true, false, _&&_, cond}
+use mathlib.Core.List.{List}
+use lib.Dec.{eqb}
+use lib.ListN.{length, set}
+use borrow.Author.Tests.{eqb-true, ne-eqb}
+use Rattle.terms.specs.Terms.{Term, app, Terms, substitute, substitutes}
+use Rattle.formulas.specs.Formulas.{freeT, freeTs}
+use Rattle.sequents.specs.Symbols.{Symbol, Ground}
+use Rattle.sequents.specs.Sequents.{Environment}
+use Rattle.sheet_format.specs.Nodes.{Declaration}
+use Rattle.sheet_format.proofs.Names.{Names}
+use Rattle.sheet_format.proofs.Formed.{FormedTerms}
+use Rattle.node_table.specs.Layout.{childCount, labelOf, childOf, arityOf}
+use Rattle.node_table.specs.Decoding.{childrenBy, termAt, argumentsAt, declarationsFrom}
+use Rattle.node_table.specs.WellMade.{Arguments}
+use Rattle.node_table.proofs.Decoding.{Nodes, term-application}
+use Rattle.answer_texts.specs.Judging.{sameTerm, sameTerms}
+use Rattle.answer_texts.proofs.Infer.{sameTerm-refl}
+use Rattle.scanning.specs.Classes.{isName, elementSide, elementNode, elementChild, frameOn, nodeElement, rootOf, separate}
+use Rattle.scanning.specs.Instances.{Compared, compared, joined, sameName, joinName, sameChildren, sameNodes, sameRoots, sameElements, sameAtoms}
+use Rattle.scanning.proofs.Along.{Frame, frame-fewer, formed-child, free-child}
+use Rattle.scanning.proofs.Depth.{depth, child-depth}
+use Rattle.scanning.proofs.Nodes.{sameTerm-swap, TermIn, child-in, instance-depth}
+use Rattle.scanning.proofs.Classes.{Forest, forest-set, root-of, separate-forest, separate-root}
+use Rattle.scanning.proofs.Elements.{environmentOn, Means, means-once, Alike, alike, element-means, same-name, side-low, node-number}
+
+module _ (b t : List ℕ) (symbols : ℕ) (names : Names (declarationsFrom b t symbols 0)) (x : List ℕ) (nodes : ℕ) (table : Nodes t nodes) (few : nodes ≤ 1024) (w : List ℕ) where
+  -- the declared symbols
+  abbrev ds : List Declaration
+  ds = declarationsFrom b t symbols 0
+
+  module _ (f g : ℕ) (e d : Environment Symbol) where
+    -- the environment of a side
+    abbrev E : ℕ → Environment Symbol
+    E s = environmentOn b t symbols names x nodes table few w f g e d s
+
+    -- what an element means
+    abbrev M : ℕ → Ground → Type 0
+    M i u = Means b t symbols names x nodes table few w f g e d i u
+
+    -- elements that mean the same
+    abbrev A : ℕ → ℕ → Type 0
+    A i j = Alike b t symbols names x nodes table few w f g e d i j
+
+    -- an element and itself
+    alike-self : (i : ℕ) → A i i
+    alike-self i u m = m
+
+    -- one after the other
+    alike-then : (i j k : ℕ) → A i j → A j k → A i k
+    alike-then i j k p q u m = q u (p u m)
+
+    -- classes of elements that mean the same
+    abbrev Classes : List ℕ → Type 0
+    Classes c = Forest A alike-self alike-then c
+
+    -- A comparison has the answer z, and leaves classes.
+    record Compares (o : Compared) (z : Bool) : Type 0 where
+      classes : Classes (o .classes)
+      answer : o .same ≡ z
+
+    -- The elements that are compared join.
+    compares-joined : (o : Compared) (z : Bool) (i j : ℕ) → Compares o z → (z ≡ true → A i j) → Compares (joined o i j) z
+    unfolding joined
+    compares-joined o z i j h r = go (o .same) refl
+      where
+        go : (y : Bool) → o .same ≡ y → Compares (joined o i j) z
+        go true q = rw q (record { classes = forest-set A alike-self alike-then (o .classes) i j (h .classes) (r (sym (h .answer) ∙ q)); answer = sym q ∙ h .answer })
+        go false q = rw q (record { classes = h .classes; answer = sym q ∙ h .answer })
+
+    -- One comparison after the other, if the first says that the terms are the same.
+    compares-then : (o : Compared) (y z : Bool) (r : List ℕ → Compared) → Compares o y → (Classes (o .classes) → Compares (r (o .classes)) z) → Compares (cond (o .same) (r (o .classes)) o) (y && z)
+    compares-then o y z r h k = go (o .same) refl
+      where
+        go : (a : Bool) → o .same ≡ a → Compares (cond a (r (o .classes)) o) (y && z)
+        go true q = rw (sym (h .answer) ∙ q) (k (h .classes))
+        go false q = rw (sym (h .answer) ∙ q) (record { classes = h .classes; answer = q })
+
+    -- The comparison r is right for terms nested less deep than n.
+    abbrev Right : (List ℕ → ℕ → ℕ → Compared) → ℕ → Type 0
+    Right r n = (c : List ℕ) (i j : ℕ) (u v : Ground) → M i u → M j v → depth u < n → Classes c → Compares (r c i j) (sameTerm u v)
+
+    -- applications
+
+    -- what an application means
+    applied : (l : ℕ) (u : Ground) → isName l ≡ false → M l u → u ≡ app (labelOf t (elementNode l)) (substitutes (argumentsAt t (elementNode l)) (E (elementSide l)))
+    unfolding substitute
+    applied l u p h =
+        h .instance p
+        ∙ ap (λ (y : Term ℕ). substitute y (E (elementSide l))) (term-application t nodes table (elementNode l) (h .node p .below) (h .node p .is) (h .applied p))
+
+    -- its children
+    child-means : (l : ℕ) (u : Ground) → isName l ≡ false → M l u → (a : ℕ) → a < childCount t (elementNode l)
+        → M (elementChild t l a) (substitute (termAt t (childOf t (elementNode l) a)) (E (elementSide l)))
+    unfolding elementChild
+    child-means l u p h a o =
+        element-means b t symbols names x nodes table few w f g e d (elementSide l) (childOf t (elementNode l) a) (side-low l)
+        (child-in b t symbols names x nodes table few w (elementNode l) (frameOn f g (elementSide l)) (E (elementSide l)) (h .node p) (h .applied p) a o)
+
+    module _ (r : List ℕ → ℕ → ℕ → Compared) (n : ℕ) (right : Right r n) (i j : ℕ) where
+      -- the one node
+      abbrev one : ℕ
+      one = elementNode i
+
+      -- and the other
+      abbrev two : ℕ
+      two = elementNode j
+
+      -- the l-th children's instances
+      abbrev first : ℕ → Ground
+      first l = substitute (termAt t (childOf t one l)) (E (elementSide i))
+
+      -- of the other
+      abbrev second : ℕ → Ground
+      second l = substitute (termAt t (childOf t two l)) (E (elementSide j))
+
+      -- children
+      compares-children : (o l : ℕ) (c : List ℕ) → ((a : ℕ) → l ≤ a → a < l + o → M (elementChild t i a) (first a)) → ((a : ℕ) → l ≤ a → a < l + o → M (elementChild t j a) (second a))
+          → ((a : ℕ) → l ≤ a → a < l + o → depth (first a) < n) → Classes c
+          → Compares (sameChildren r o t i j l c) (sameTerms (substitutes (childrenBy (termAt t) t one o l) (E (elementSide i))) (substitutes (childrenBy (termAt t) t two o l) (E (elementSide j))))
+      unfolding sameChildren childrenBy substitutes sameTerms
+      compares-children zero l c p q s h = record { classes = h; answer = refl }
+      compares-children (suc o) l c p q s h =
+          compares-then (r c (elementChild t i l) (elementChild t j l)) (sameTerm (first l) (second l))
+          (sameTerms (substitutes (childrenBy (termAt t) t one o (suc l)) (E (elementSide i))) (substitutes (childrenBy (termAt t) t two o (suc l)) (E (elementSide j))))
+          (sameChildren r o t i j (l + 1))
+          (right c (elementChild t i l) (elementChild t j l) (first l) (second l) (p l (omega arith) (omega arith)) (q l (omega arith) (omega arith)) (s l (omega arith) (omega arith)) h)
+          (λ y. rw (add-one l) (compares-children o (suc l) (r c (elementChild t i l) (elementChild t j l) .classes) (λ a u v. p a (omega arith) (omega arith))
+          (λ a u v. q a (omega arith) (omega arith)) (λ a u v. s a (omega arith) (omega arith)) y))
+
+      -- all children of two nodes with one symbol
+      compares-arguments : (c : List ℕ) → Arguments t one → Arguments t two → labelOf t one ≡ labelOf t two → ((a : ℕ) → a < childCount t one → M (elementChild t i a) (first a))
+          → ((a : ℕ) → a < childCount t two → M (elementChild t j a) (second a)) → ((a : ℕ) → a < childCount t one → depth (first a) < n) → Classes c
+          → Compares (sameChildren r (childCount t one) t i j 0 c) (sameTerms (substitutes (argumentsAt t one) (E (elementSide i))) (substitutes (argumentsAt t two) (E (elementSide j))))
+      unfolding argumentsAt
+      compares-arguments c y z q u v s h =
+          let l : childCount t two ≡ childCount t one = z .many ∙ ap (arityOf t) (sym q) ∙ sym (y .many) in
+          rw l (compares-children (childCount t one) 0 c (λ a p o. u a (omega arith)) (λ a p o. v a (omega arith)) (λ a p o. s a (omega arith)) h)
+
+      -- Two applications.
+      compares-nodes : (c : List ℕ) (u v : Ground) → isName i ≡ false → isName j ≡ false → M i u → M j v → depth u < suc n → Classes c → Compares (sameNodes r t i j c) (sameTerm u v)
+      unfolding sameNodes depth sameTerm argumentsAt
+      compares-nodes c u v p q hi hj l h = subst (Compares (sameNodes r t i j c)) (sym (ap₂ sameTerm eu ev)) (go (eqb (labelOf t one) (labelOf t two)) refl)
+        where
+          Us : Terms Symbol
+          Us = substitutes (argumentsAt t one) (E (elementSide i))
+
+          Vs : Terms Symbol
+          Vs = substitutes (argumentsAt t two) (E (elementSide j))
+
+          eu : u ≡ app (labelOf t one) Us
+          eu = applied i u p hi
+
+          ev : v ≡ app (labelOf t two) Vs
+          ev = applied j v q hj
+
+          together : (eqb (labelOf t one) (labelOf t two) && sameTerms Us Vs) ≡ true → A i j
+          together z = alike b t symbols names x nodes table few w f g e d i j u v hi hj (ap₂ sameTerm eu ev ∙ z)
+
+          go : (z : Bool) → eqb (labelOf t one) (labelOf t two) ≡ z → Compares (sameNodes r t i j c) (eqb (labelOf t one) (labelOf t two) && sameTerms Us Vs)
+          go true o =
+              rw o
+              (compares-joined (sameChildren r (childCount t one) t i j 0 c) (sameTerms Us Vs) i j
+              (compares-arguments c (table .term one (hi .node p .below) (hi .node p .is) .application (hi .applied p)) (table .term two (hj .node q .below) (hj .node q .is) .application (hj .applied q))
+              (eqb-true (labelOf t one) (labelOf t two) o) (child-means i u p hi) (child-means j v q hj)
+              (λ a y. let s = child-depth t one (E (elementSide i)) (childCount t one) 0 a (omega arith) (omega arith) in let z = ap depth eu in omega arith) h)
+              (λ z. together (rw o z)))
+          go false o = rw o (record { classes = h; answer = refl })
+
+    -- representatives
+
+    -- Two representatives.
+    compares-roots : (r : List ℕ → ℕ → ℕ → Compared) (n : ℕ) → Right r n → (c : List ℕ) (i j : ℕ) (u v : Ground) → M i u → M j v → depth u < suc n → Classes c
+        → Compares (sameRoots r b t x w f g i j c) (sameTerm u v)
+    unfolding sameRoots joinName
+    compares-roots r n right c i j u v hi hj l h = go (eqb i j) refl (isName i) refl (isName j) refl
+      where
+        go : (o : Bool) → eqb i j ≡ o → (y : Bool) → isName i ≡ y → (z : Bool) → isName j ≡ z → Compares (sameRoots r b t x w f g i j c) (sameTerm u v)
+        go true o y p z q =
+            let k = means-once b t symbols names x nodes table few w f g e d j u v (subst (λ (a : ℕ). M a u) (eqb-true i j o) hi) hj in
+            rw o (record { classes = h; answer = sym (ap (sameTerm u) (sym k) ∙ sameTerm-refl u) })
+        go false o true p z q =
+            rw (o, p)
+            (compares-joined (compared c (sameName b t x w f g i j)) (sameTerm u v) i j
+            (record { classes = h; answer = same-name b t symbols names x nodes table few w f g e d i j u v p hi hj })
+            (alike b t symbols names x nodes table few w f g e d i j u v hi hj))
+        go false o false p true q =
+            rw (o, p, q)
+            (compares-joined (compared c (sameName b t x w f g j i)) (sameTerm u v) j i
+            (record { classes = h; answer = same-name b t symbols names x nodes table few w f g e d j i v u q hj hi ∙ sameTerm-swap v u })
+            (λ k. alike b t symbols names x nodes table few w f g e d j i v u hj hi (sameTerm-swap v u ∙ k)))
+        go false o false p false q = rw (o, p, q) (compares-nodes r n right i j c u v p q hi hj l h)
+
+    -- Two elements.
+    compares-elements : (n : ℕ) → Right (sameElements n b t x w f g) n
+    unfolding sameElements
+    compares-elements zero c i j u v hi hj l h = absurd (omega arith)
+    compares-elements (suc n) c i j u v hi hj l h =
+        let p = root-of A alike-self alike-then c i h in
+        let q = root-of A alike-self alike-then (rootOf c i .classes) j (p .forest) in
+        compares-roots (sameElements n b t x w f g) n (compares-elements n) (rootOf (rootOf c i .classes) j .classes) (rootOf c i .root) (rootOf (rootOf c i .classes) j .root) u v
+        (p .related u hi) (q .related v hj) l (q .forest)
+
+  -- atoms
+
+  -- An atom's node, in frame g.
+  pub record AtomIn (m g : ℕ) (e : Environment Symbol) : Type 0 where
+    pub below : m < nodes
+    pub arguments : Arguments t m
+    pub formed : FormedTerms (argumentsAt t m) ds
+    pub frame : Frame ds x w g e (freeTs (argumentsAt t m))
+
+  -- a child of an atom
+  atom-child : (m g : ℕ) (e : Environment Symbol) → AtomIn m g e → (n : ℕ) → n < childCount t m → TermIn b t symbols names x nodes table few w (childOf t m n) g e
+  unfolding argumentsAt
+  atom-child m g e h n l =
+      let q = h .arguments .terms n l in
+      let u = h .below in
+      record {
+        below = omega (arith, q .0);
+        is = q .1;
+        formed = formed-child t ds m (childCount t m) 0 n (h .formed) (omega arith) (omega arith);
+        frame = frame-fewer ds x w g e (freeTs (argumentsAt t m)) (freeT (termAt t (childOf t m n)))
+            (λ v f. free-child t m (childCount t m) 0 n v (omega arith) (omega arith) f) (h .frame);
+      }
+
+  -- joining does not change the answer
+  joined-same : (o : Compared) (i j : ℕ) → joined o i j .same ≡ o .same
+  unfolding joined
+  joined-same o i j = go (o .same) refl
+    where
+      go : (z : Bool) → o .same ≡ z → cond (o .same) (compared (set (o .classes) i j) true) (compared (o .classes) false) .same ≡ o .same
+      go true q = rw q
+      go false q = rw q
+
+  -- the same predicate, and the same arguments
+  abbrev same : ℕ → ℕ → Environment Symbol → Environment Symbol → Bool
+  same k m e d = eqb (labelOf t k) (labelOf t m) && sameTerms (substitutes (argumentsAt t k) e) (substitutes (argumentsAt t m) d)
+
+  module _ (f g : ℕ) (e d : Environment Symbol) where
+    -- the environment of a side
+    abbrev D : ℕ → Environment Symbol
+    D s = environmentOn b t symbols names x nodes table few w f g e d s
+
+    -- an atom on a side
+    abbrev AtomOn : ℕ → Type 0
+    AtomOn i = AtomIn (elementNode i) (frameOn f g (elementSide i)) (D (elementSide i))
+
+    -- its children
+    atom-means : (i : ℕ) → AtomOn i → (a : ℕ) → a < childCount t (elementNode i)
+        → Means b t symbols names x nodes table few w f g e d (elementChild t i a) (substitute (termAt t (childOf t (elementNode i) a)) (D (elementSide i)))
+    unfolding elementChild
+    atom-means i h a l =
+        element-means b t symbols names x nodes table few w f g e d (elementSide i) (childOf t (elementNode i) a) (side-low i)
+        (atom-child (elementNode i) (frameOn f g (elementSide i)) (D (elementSide i)) h a l)
+
+    -- they are not nested too deep
+    atom-depth : (i : ℕ) → AtomOn i → (a : ℕ) → a < childCount t (elementNode i) → depth (substitute (termAt t (childOf t (elementNode i) a)) (D (elementSide i))) < 1023 + length x
+    atom-depth i h a l =
+        let m = childOf t (elementNode i) a in
+        let p = h .arguments .terms a l in
+        let q = h .below in
+        let r = instance-depth b t symbols names x nodes table few w (suc m) m (frameOn f g (elementSide i)) (D (elementSide i)) (omega arith)
+        (atom-child (elementNode i) (frameOn f g (elementSide i)) (D (elementSide i)) h a l) in
+        omega (arith, p .0)
+
+    -- two atoms, whose nodes are on two sides
+    atoms-apart : (i j : ℕ) → (i ≡ j → ⊥) → isName i ≡ false → isName j ≡ false → AtomOn i → AtomOn j
+        → sameElements (suc (1023 + length x)) b t x w f g separate i j .same ≡ same (elementNode i) (elementNode j) (D (elementSide i)) (D (elementSide j))
+    unfolding sameElements sameRoots sameNodes
+    atoms-apart i j z p q h k =
+        rw (sameElements, separate-root i, separate-root j, ne-eqb i j z, p, q) (go (eqb (labelOf t (elementNode i)) (labelOf t (elementNode j))) refl)
+      where
+        r : List ℕ → ℕ → ℕ → Compared
+        r = sameElements (1023 + length x) b t x w f g
+
+        o : Compared
+        o = sameChildren r (childCount t (elementNode i)) t i j 0 separate
+
+        go : (y : Bool) → eqb (labelOf t (elementNode i)) (labelOf t (elementNode j)) ≡ y
+            → cond y (joined o i j) (compared separate false) .same
+            ≡ (y && sameTerms (substitutes (argumentsAt t (elementNode i)) (D (elementSide i))) (substitutes (argumentsAt t (elementNode j)) (D (elementSide j))))
+        go true l =
+            joined-same o i j
+            ∙ compares-arguments f g e d r (1023 + length x) (compares-elements f g e d (1023 + length x)) i j separate (h .arguments) (k .arguments)
+            (eqb-true (labelOf t (elementNode i)) (labelOf t (elementNode j)) l) (atom-means i h) (atom-means j k) (atom-depth i h)
+            (separate-forest (λ a c. Alike b t symbols names x nodes table few w f g e d a c) (alike-self f g e d) (alike-then f g e d)) .answer
+        go false l = refl
+
+  -- Two atoms: the same predicate, and the same arguments.
+  pub same-atoms : (k m f g : ℕ) (e d : Environment Symbol) → AtomIn k f e → AtomIn m g d
+      → sameAtoms b t x w f g k m ≡ (eqb (labelOf t k) (labelOf t m) && sameTerms (substitutes (argumentsAt t k) e) (substitutes (argumentsAt t m) d))
+  unfolding sameAtoms frameOn
+  same-atoms k m f g e d h i =
+      let y = h .below in
+      let z = i .below in
+      let p = node-number k 0 (omega arith) (omega arith) in
+      let q = node-number m 1 (omega arith) (omega arith) in
+      let n : 1024 + length x ≡ suc (1023 + length x) = omega arith in
+      let apart : nodeElement 0 k ≡ nodeElement 1 m → ⊥ = λ o. let r = sym (p .side) ∙ ap elementSide o ∙ q .side in omega arith in
+      ap (λ (o : ℕ). sameElements o b t x w f g separate (nodeElement 0 k) (nodeElement 1 m) .same) n
+      ∙ atoms-apart f g e d (nodeElement 0 k) (nodeElement 1 m) apart (p .kind) (q .kind) (rw (p .node, p .side) h) (rw (q .node, q .side) i)
+      ∙ rw (p .node, p .side, q .node, q .side) refl

@@ -1,0 +1,135 @@
+-- Reads after writes in records of 64 numbers.
+use Prim.Native.Nat.{ℕ, zero, suc, _+_, _*_, _<_, _≤_}
+use native.Mathlib.Omega.{arith}
+use mathlib.Core.Path.{_≡_, refl, sym, ap, _∙_}
+use mathlib.Core.Bool.{Bool, true, false}
+use mathlib.Core.List.{List, [], _∷_}
+use lib.Dec.{eqb}
+use lib.ListN.{length, getD, drop, length-set}
+use lib.Seq.{getD-set-same, getD-set-other, drop-set-lt}
+use borrow.Author.Tests.{eqb-true, eqb-false}
+use Rattle.scanning.specs.Frames.{field, put, putSlot, copyFrame, bindFrame}
+
+-- The buffer has record q.
+abbrev pub Room : ℕ → List ℕ → Type 0
+Room q w = 64 * suc q ≤ length w
+
+-- what was written is read
+pub put-at : (w : List ℕ) (q f a : ℕ) → Room q w → f < 64 → field (put w q f a) q f ≡ a
+unfolding field put
+put-at w q f a h l = getD-set-same w (64 * q + f) a 0 (omega arith)
+
+-- another field is as it was, of any record
+pub put-off : (w : List ℕ) (q f a r g : ℕ) → f < 64 → g < 64 → (g ≡ f → ⊥) → field (put w q f a) r g ≡ field w r g
+unfolding field put
+put-off w q f a r g l m n = getD-set-other w (64 * q + f) (64 * r + g) a 0 (λ e. n (omega arith))
+
+-- Another memory that is the same but for record q.
+pub record Kept (q : ℕ) (w w′ : List ℕ) : Type 0 where
+  pub size : length w′ ≡ length w
+  pub others : (r f : ℕ) → (r ≡ q → ⊥) → f < 64 → field w′ r f ≡ field w r f
+  pub after : drop (64 * suc q) w′ ≡ drop (64 * suc q) w
+
+-- nothing written
+pub kept-self : (q : ℕ) (w : List ℕ) → Kept q w w
+kept-self q w = record { size = refl; others = λ r f h l. refl; after = refl }
+
+-- two writes
+pub kept-then : (q : ℕ) (u v w : List ℕ) → Kept q u v → Kept q v w → Kept q u w
+kept-then q u v w h k = record {
+  size = k .size ∙ h .size;
+  others = λ r f n l. k .others r f n l ∙ h .others r f n l;
+  after = k .after ∙ h .after;
+}
+
+-- one number written
+pub put-kept : (w : List ℕ) (q f a : ℕ) → f < 64 → Kept q w (put w q f a)
+unfolding field put
+put-kept w q f a l = record {
+  size = length-set w (64 * q + f) a;
+  others = λ r g n m. getD-set-other w (64 * q + f) (64 * r + g) a 0 (λ e. n (omega arith));
+  after = drop-set-lt (64 * suc q) w (64 * q + f) a (omega arith);
+}
+
+-- a record is still there
+pub kept-room : (q r : ℕ) (w w′ : List ℕ) → Kept q w w′ → Room r w → Room r w′
+kept-room q r w w′ h l = let e = h .size in omega arith
+
+-- groups of fields
+
+-- Numbers written to record q from field f on.
+unfoldable pub puts : List ℕ → List ℕ → ℕ → ℕ → List ℕ
+puts [] w q f = w
+puts (a ∷ l) w q f = puts l (put w q f a) q (suc f)
+
+-- only record q is written
+pub puts-kept : (l w : List ℕ) (q f : ℕ) → f + length l ≤ 64 → Kept q w (puts l w q f)
+unfolding puts
+puts-kept [] w q f h = kept-self q w
+puts-kept (a ∷ l) w q f h = kept-then q w (put w q f a) (puts l (put w q f a) q (suc f)) (put-kept w q f a (omega arith)) (puts-kept l (put w q f a) q (suc f) (omega arith))
+
+-- fields before them
+pub puts-before : (l w : List ℕ) (q f g : ℕ) → f + length l ≤ 64 → g < f → field (puts l w q f) q g ≡ field w q g
+unfolding puts
+puts-before [] w q f g h k = refl
+puts-before (a ∷ l) w q f g h k =
+    puts-before l (put w q f a) q (suc f) g (omega arith) (omega arith) ∙ put-off w q f a q g (omega arith) (omega arith) (λ e. omega arith)
+
+-- each of them is read
+pub puts-at : (l w : List ℕ) (q f k : ℕ) → Room q w → f + length l ≤ 64 → k < length l → field (puts l w q f) q (f + k) ≡ getD l k 0
+unfolding puts
+puts-at [] w q f k r h m = absurd (omega arith)
+puts-at (a ∷ l) w q f zero r h m =
+    let e : f + 0 ≡ f = omega arith in
+    ap (field (puts l (put w q f a) q (suc f)) q) e ∙ puts-before l (put w q f a) q (suc f) f (omega arith) (omega arith) ∙ put-at w q f a r (omega arith)
+puts-at (a ∷ l) w q f (suc k) r h m =
+    let e : f + suc k ≡ suc f + k = omega arith in
+    ap (field (puts l (put w q f a) q (suc f)) q) e
+    ∙ puts-at l (put w q f a) q (suc f) k (kept-room q q w (put w q f a) (put-kept w q f a (omega arith)) r) (omega arith) (omega arith)
+
+-- frames
+
+-- a place is written
+pub slot-kept : (w : List ℕ) (q v s e : ℕ) → v < 8 → Kept q w (putSlot w q v s e)
+unfolding putSlot
+slot-kept w q v s e l =
+    kept-then q w (put w q (2 * v) s) (put (put w q (2 * v) s) q (2 * v + 1) e) (put-kept w q (2 * v) s (omega arith)) (put-kept (put w q (2 * v) s) q (2 * v + 1) e (omega arith))
+
+-- a frame is copied
+pub copy-kept : (n : ℕ) (w : List ℕ) (q p f : ℕ) → f + n ≤ 64 → Kept q w (copyFrame n w q p f)
+unfolding copyFrame
+copy-kept zero w q p f h = kept-self q w
+copy-kept (suc n) w q p f h =
+    kept-then q w (put w q f (field w p f)) (copyFrame n (put w q f (field w p f)) q p (f + 1))
+    (put-kept w q f (field w p f) (omega arith)) (copy-kept n (put w q f (field w p f)) q p (f + 1) (omega arith))
+
+-- fields before those that are copied
+copy-before : (n : ℕ) (w : List ℕ) (q p f g : ℕ) → f + n ≤ 64 → g < f → field (copyFrame n w q p f) q g ≡ field w q g
+unfolding copyFrame
+copy-before zero w q p f g h k = refl
+copy-before (suc n) w q p f g h k =
+    copy-before n (put w q f (field w p f)) q p (f + 1) g (omega arith) (omega arith) ∙ put-off w q f (field w p f) q g (omega arith) (omega arith) (λ e. omega arith)
+
+-- those that are
+pub copy-at : (n : ℕ) (w : List ℕ) (q p f g : ℕ) → Room q w → (p ≡ q → ⊥) → f + n ≤ 64 → f ≤ g → g < f + n → field (copyFrame n w q p f) q g ≡ field w p g
+unfolding copyFrame
+copy-at zero w q p f g r d h k m = absurd (omega arith)
+copy-at (suc n) w q p f g r d h k m =
+    let a = field w p f in
+    go (eqb f g) refl
+    (λ l. copy-at n (put w q f a) q p (f + 1) g (kept-room q q w (put w q f a) (put-kept w q f a (omega arith)) r) d (omega arith) l (omega arith)
+    ∙ put-kept w q f a (omega arith) .others p g d (omega arith))
+  where
+    go : (z : Bool) → eqb f g ≡ z → (f + 1 ≤ g → field (copyFrame n (put w q f (field w p f)) q p (f + 1)) q g ≡ field w p g)
+        → field (copyFrame n (put w q f (field w p f)) q p (f + 1)) q g ≡ field w p g
+    go true e ih =
+        let i = eqb-true f g e in
+        ap (field (copyFrame n (put w q f (field w p f)) q p (f + 1)) q) (sym i) ∙ copy-before n (put w q f (field w p f)) q p (f + 1) f (omega arith) (omega arith)
+        ∙ put-at w q f (field w p f) r (omega arith) ∙ ap (field w p) i
+    go false e ih = let i = eqb-false f g e in ih (omega arith)
+
+-- a frame is copied and a place changed
+pub bind-kept : (w : List ℕ) (q p v s e : ℕ) → v < 8 → Kept q w (bindFrame w q p v s e)
+unfolding bindFrame
+bind-kept w q p v s e l =
+    kept-then q w (copyFrame 16 w q p 0) (putSlot (copyFrame 16 w q p 0) q v s e) (copy-kept 16 w q p 0 (omega arith)) (slot-kept (copyFrame 16 w q p 0) q v s e l)

@@ -1,0 +1,80 @@
+-- Scanning a term in place: where it ends, and the highest level in it. Names are looked up on the sheet.
+use Prim.Native.Nat.{ℕ, zero, suc, _+_, _-_, min}
+use mathlib.Core.Bool.{Bool, false, cond}
+use mathlib.Core.List.{List}
+use lib.Dec.{eqb, ltb}
+use lib.ListN.{length, getD}
+use Rattle.sheet_format.specs.Bytes.{isNameByte}
+use Rattle.node_table.specs.Layout.{nameStart, nameLength, isFunctionBit, arityOf}
+use Rattle.scanning.specs.declared.Number.the-variants.{Value, Missing}
+use Rattle.scanning.specs.declared.Scan.{Scan}
+use Rattle.scanning.specs.declared.Scan.the-variants.{Term, Malformed}
+use Rattle.scanning.specs.Ranges.{sameRange, readNumber}
+
+-- names
+
+-- Where the name at place i ends.
+unfoldable pub nameFrom : ℕ → List ℕ → ℕ → ℕ
+nameFrom zero x i = i
+nameFrom (suc n) x i = cond (isNameByte (getD x i 0)) (nameFrom n x (i + 1)) i
+
+-- of all bytes that are left
+unfoldable pub nameEnd : List ℕ → ℕ → ℕ
+nameEnd x i = nameFrom (length x - i) x i
+
+-- How many bytes the sheet has of the name of symbol k.
+unfoldable pub nameSize : List ℕ → List ℕ → ℕ → ℕ
+nameSize b t k = min (nameLength t k) (length b - nameStart t k)
+
+-- Symbol k is named by the text from i to e.
+unfoldable pub isNamed : List ℕ → List ℕ → ℕ → List ℕ → ℕ → ℕ → Bool
+isNamed b t k x i e = cond (eqb (e - i) (nameSize b t k)) (sameRange (e - i) x i b (nameStart t k)) false
+
+-- The first symbol from k on, of n symbols, that has the name; the one after them if none has.
+unfoldable pub symbolFrom : ℕ → List ℕ → List ℕ → ℕ → List ℕ → ℕ → ℕ → ℕ
+symbolFrom zero b t k x i e = k
+symbolFrom (suc n) b t k x i e = cond (isNamed b t k x i e) k (symbolFrom n b t (k + 1) x i e)
+
+-- made constants and leftover variables, after their first byte
+
+-- the level
+unfoldable pub scanLevel : List ℕ → ℕ → Scan
+scanLevel x i = elim (readNumber x i) [ Value k e ↦ Term e k | Missing ↦ Malformed ]
+
+-- `@`, then the level
+unfoldable pub scanMark : List ℕ → ℕ → Scan
+scanMark x i = cond (eqb (getD x i 0) 64) (scanLevel x (i + 1)) Malformed
+
+-- the number, `@`, the level
+unfoldable pub scanSymbol : List ℕ → ℕ → Scan
+scanSymbol x i = elim (readNumber x i) [ Value n e ↦ scanMark x e | Missing ↦ Malformed ]
+
+-- applications
+
+-- The higher of two levels.
+unfoldable pub higher : ℕ → ℕ → ℕ
+higher k j = cond (ltb k j) j k
+
+-- n more arguments, the first after the byte c, each other one after a comma, and the closing bracket; r scans a term, k is the
+-- highest level so far.
+unfoldable pub scanMore : (ℕ → Scan) → ℕ → List ℕ → ℕ → ℕ → ℕ → Scan
+scanMore r zero x c i k = cond (eqb (getD x i 0) 41) (Term (i + 1) k) Malformed
+scanMore r (suc n) x c i k =
+    cond (eqb (getD x i 0) c) (elim (r (i + 1)) [ Term e j ↦ scanMore r n x 44 e (higher k j) | Malformed ↦ Malformed ]) Malformed
+
+-- n arguments in brackets
+unfoldable pub scanArguments : (ℕ → Scan) → ℕ → List ℕ → ℕ → Scan
+scanArguments r n x i = cond (eqb n 0) (Term i 0) (scanMore r n x 40 i 0)
+
+-- Symbol k, of so many symbols, and its arguments from i on.
+unfoldable pub scanApplication : (ℕ → Scan) → List ℕ → ℕ → ℕ → List ℕ → ℕ → Scan
+scanApplication r t symbols k x i =
+    cond (ltb k symbols) (cond (eqb (isFunctionBit t k) 1) (scanArguments r (arityOf t k) x i) Malformed) Malformed
+
+-- A term, nested less deep than the rank says.
+unfoldable pub scanTerm : ℕ → List ℕ → List ℕ → ℕ → List ℕ → ℕ → Scan
+scanTerm zero b t symbols x i = Malformed
+scanTerm (suc f) b t symbols x i =
+    cond (eqb (getD x i 0) 33) (scanSymbol x (i + 1))
+    (cond (eqb (getD x i 0) 95) (scanSymbol x (i + 1))
+    (scanApplication (scanTerm f b t symbols x) t symbols (symbolFrom symbols b t 0 x i (nameEnd x i)) x (nameEnd x i)))

@@ -1,0 +1,132 @@
+-- Refusals 6 to 11 with their lines, on small sheets, computed. Limits at and one past are in the tests.
+use Prim.Native.Nat.{ℕ, _+_}
+use Prim.Native.String.{String}
+use mathlib.Core.Path.{_≡_, refl}
+use mathlib.Core.List.{List, [], _∷_, _++_}
+use Rattle.sheet_format.specs.Bytes.{ascii}
+use Rattle.sheet_format.specs.Sheets.{Sheet, Refusal, refusal, Read, sheet, refused}
+use Rattle.sheet_format.proofs.Computing.{computeSheet}
+
+-- number and line, or 0 and 0 for a sheet
+abbrev told : Read → ℕ × ℕ
+told (sheet s) = (0, 0)
+told (refused r) = (r .number, r .line)
+
+unfoldable reads : String → ℕ × ℕ
+unfolding computeSheet
+reads s = told (computeSheet (ascii s))
+
+-- 6: letter, field count, number, name, arity, variable, no LF; an empty line; five nodes
+letter : reads "y\n" ≡ (6, 1)
+unfolding reads
+letter = refl
+
+count : reads "Y\t\n" ≡ (6, 1)
+unfolding reads
+count = refl
+
+leading-zero : reads "P\tp\t00\n" ≡ (6, 1)
+unfolding reads
+leading-zero = refl
+
+over : reads "P\tp\t0\nA\t65536\n" ≡ (6, 2)
+unfolding reads
+over = refl
+
+name : reads "P\t_p\t0\n" ≡ (6, 1)
+unfolding reads
+name = refl
+
+long-name : reads "P\ta234567890123456\t0\nP\ta2345678901234567\t0\n" ≡ (6, 2)
+unfolding reads
+long-name = refl
+
+arity : reads "F\tf\t4\nF\tg\t5\n" ≡ (6, 2)
+unfolding reads
+arity = refl
+
+variable : reads "V\t7\nV\t8\n" ≡ (6, 2)
+unfolding reads
+variable = refl
+
+no-lf : reads "Y\nQ\t0" ≡ (6, 2)
+unfolding reads
+no-lf = refl
+
+empty-line : reads "\n" ≡ (6, 1)
+unfolding reads
+empty-line = refl
+
+five-nodes : reads "A\t0\t1\t2\t3\t4\t5\n" ≡ (6, 1)
+unfolding reads
+five-nodes = refl
+
+-- 8: not yet there, its own number, a name again
+unknown : reads "P\tp\t0\nA\t1\n" ≡ (8, 2)
+unfolding reads
+unknown = refl
+
+own-number : reads "E\t0\t0\n" ≡ (8, 1)
+unfolding reads
+own-number = refl
+
+again : reads "P\tp\t0\nF\tp\t1\n" ≡ (8, 2)
+unfolding reads
+again = refl
+
+-- 9: neither, arity, wrong kind at C and Q; > to what is no atom is no clause
+neither-kind : reads "Y\nV\t0\n&\t0\t1\n" ≡ (9, 3)
+unfolding reads
+neither-kind = refl
+
+wrong-arity : reads "P\tp\t1\nA\t0\n" ≡ (9, 2)
+unfolding reads
+wrong-arity = refl
+
+clause-kind : reads "Y\nC\t0\n" ≡ (9, 2)
+unfolding reads
+clause-kind = refl
+
+goal-kind : reads "V\t0\nQ\t0\n" ≡ (9, 2)
+unfolding reads
+goal-kind = refl
+
+no-rule : reads "P\tp\t0\nA\t0\n&\t0\t0\n>\t0\t1\nC\t2\n" ≡ (9, 5)
+unfolding reads
+no-rule = refl
+
+-- 64 members pass, 65 do not
+members-64 : reads "P\tp\t0\nA\t0\n&\t0\t0\n&\t1\t1\n&\t2\t2\n&\t3\t3\n&\t4\t4\n&\t5\t5\nC\t6\nQ\t0\n" ≡ (0, 0)
+unfolding reads
+members-64 = refl
+
+members-65 : reads "P\tp\t0\nA\t0\n&\t0\t0\n&\t1\t1\n&\t2\t2\n&\t3\t3\n&\t4\t4\n&\t5\t5\n&\t6\t0\nC\t7\nQ\t0\n" ≡ (9, 10)
+unfolding reads
+members-65 = refl
+
+-- a term of 1,024 variables and symbols passes, with one more it does not
+term-1024 : reads "F\tf\t2\nF\tg\t1\nV\t0\nA\t0\t0\t0\nA\t0\t1\t1\nA\t0\t2\t2\nA\t0\t3\t3\nA\t0\t4\t4\nA\t0\t5\t5\nA\t0\t6\t6\nA\t0\t7\t7\nA\t0\t8\t8\nA\t1\t9\nY\nQ\t11\n" ≡ (0, 0)
+unfolding reads
+term-1024 = refl
+
+term-1025 : reads "F\tf\t2\nF\tg\t1\nV\t0\nA\t0\t0\t0\nA\t0\t1\t1\nA\t0\t2\t2\nA\t0\t3\t3\nA\t0\t4\t4\nA\t0\t5\t5\nA\t0\t6\t6\nA\t0\t7\t7\nA\t0\t8\t8\nA\t1\t9\nA\t1\t10\n" ≡ (9, 14)
+unfolding reads
+term-1025 = refl
+
+-- 10: a free variable in a clause; a bound one is none
+open-clause : reads "P\tp\t1\nV\t7\nA\t0\t0\nC\t1\n" ≡ (10, 4)
+unfolding reads
+open-clause = refl
+
+closed : reads "P\tp\t1\nV\t7\nA\t0\t0\nU\t7\t1\nC\t2\nQ\t1\n" ≡ (0, 0)
+unfolding reads
+closed = refl
+
+-- 11: no Q line, bytes after it
+no-goal : reads "Y\n" ≡ (11, 2)
+unfolding reads
+no-goal = refl
+
+surplus : reads "Y\nQ\t0\n?" ≡ (11, 3)
+unfolding reads
+surplus = refl

@@ -1,0 +1,17 @@
+-- One name under which all that reading a sheet computes with unfolds.
+use Prim.Native.Nat.{ℕ}
+use Prim.Native.String.{String}
+use mathlib.Core.List.{List}
+use Rattle.terms.specs.Terms.{size}
+use Rattle.formulas.specs.Formulas.{freeT, freeG, freeC}
+use Rattle.sheet_format.specs.Bytes.{ascii, onLine, linesOf, onField, fields, isDigit, isLetter, isNameByte, digitsFrom, atMost, number, digits, decimal, nameBytes, isName, sameBytes}
+use Rattle.sheet_format.specs.SheetLines.{consNumber, numbers, declared, declaration, noNumber, oneNumber, twoNumbers, withVariable, application, lineOf, ofFields, parseLine}
+use Rattle.sheet_format.specs.Nodes.{neither, memberCount, consTerm, termsOf, sized, termNode, applied, applyNode, goals2, bothClauses, supposed, ruled, with1, with2, consNode, nodesAt, withSymbol, nodeOf, isSome, isSomething}
+use Rattle.sheet_format.specs.Sheets.{Read, isDeclared, takeDeclaration, addNode, takeNode, anyFree, addClause, clauseAt, takeClause, lastGoal, goalAt, takeLine, atEnd, afterGoal, readFrom, readSheet}
+
+unfoldable pub computeSheet : List ℕ → Read
+unfolding ascii onLine linesOf onField fields isDigit isLetter isNameByte digitsFrom atMost number nameBytes isName sameBytes consNumber numbers
+    declared declaration noNumber oneNumber twoNumbers withVariable application lineOf ofFields parseLine neither memberCount consTerm termsOf sized
+    termNode applied applyNode goals2 bothClauses supposed ruled with1 with2 consNode nodesAt withSymbol nodeOf isSome isSomething isDeclared
+    takeDeclaration addNode takeNode anyFree addClause clauseAt takeClause lastGoal goalAt takeLine atEnd afterGoal readFrom readSheet size freeT freeG freeC
+computeSheet bytes = readSheet bytes

@@ -1,0 +1,119 @@
+-- Document 01, "Turned back", refusals 6 to 11: "6 to 10 are tried line by line; 11 gives the line where Q is missing or where the
+-- surplus starts." The sheet that the bytes are, or the refusal with its line, for every string of bytes.
+use Prim.Native.Nat.{ℕ, zero, suc}
+use mathlib.Core.Bool.{Bool, true, false, not, _&&_, _||_, cond}
+use mathlib.Core.List.{List, [], _∷_, _++_}
+use mathlib.Core.Option.{Option, none, some}
+use lib.Dec.{ltb}
+use lib.ListN.{length, getElem?}
+use Rattle.formulas.specs.Formulas.{Goal, Clause, freeC}
+use Rattle.sheet_format.specs.Limits.{variableNames, maxSymbols, maxNodes, maxClauses}
+use Rattle.sheet_format.specs.Bytes.{linesOf, sameBytes}
+use Rattle.sheet_format.specs.SheetLines.{NodeLine, SheetLine, declareLine, nodeLine, clauseLine, goalLine, parseLine}
+use Rattle.sheet_format.specs.Nodes.{Declaration, Node, nodeOf, isSomething}
+
+-- What the engine and the checker work on.
+pub record Sheet : Type 0 where
+  pub symbols : List Declaration
+  pub clauses : List Clause
+  pub goal : Goal
+
+-- A refusal: document 01's number, and the line.
+pub record Refusal : Type 0 where
+  pub number : ℕ
+  pub line : ℕ
+
+abbrev pub refusal : ℕ → ℕ → Refusal
+refusal n l = record { number = n; line = l }
+
+pub data Read : Type 0 where
+  sheet : Sheet → Read
+  refused : Refusal → Read
+
+-- What the lines so far have made, in order.
+pub record Table : Type 0 where
+  pub symbols : List Declaration
+  pub nodes : List Node
+  pub clauses : List Clause
+
+-- A line is taken, refused with a number, or the Q line.
+pub data Taken : Type 0 where
+  next : Table → Taken
+  stop : ℕ → Taken
+  last : Goal → Taken
+
+unfoldable pub isDeclared : List ℕ → List Declaration → Bool
+isDeclared n [] = false
+isDeclared n (d ∷ ds) = sameBytes n (d .name) || isDeclared n ds
+
+-- 7, then 8
+unfoldable pub takeDeclaration : Table → Declaration → Taken
+takeDeclaration t d =
+    cond (not (ltb (length (t .symbols)) maxSymbols)) (stop 7)
+    (cond (isDeclared (d .name) (t .symbols)) (stop 8)
+    (next (record { symbols = t .symbols ++ (d ∷ []); nodes = t .nodes; clauses = t .clauses })))
+
+-- 7, then 8, then 9
+unfoldable pub addNode : Table → Option Node → Taken
+addNode t none = stop 8
+addNode t (some n) = cond (isSomething n) (next (record { symbols = t .symbols; nodes = t .nodes ++ (n ∷ []); clauses = t .clauses })) (stop 9)
+
+unfoldable pub takeNode : Table → NodeLine → Taken
+takeNode t l = cond (not (ltb (length (t .nodes)) maxNodes)) (stop 7) (addNode t (nodeOf (t .symbols) (t .nodes) l))
+
+-- "clauses on C lines have none": some of the n names from v on stands free
+unfoldable pub anyFree : ℕ → ℕ → Clause → Bool
+anyFree zero v c = false
+anyFree (suc n) v c = freeC c v || anyFree n (suc v) c
+
+-- 7, then 8, then 9, then 10
+unfoldable pub addClause : Table → Option Clause → Taken
+addClause t none = stop 9
+addClause t (some c) = cond (anyFree variableNames 0 c) (stop 10) (next (record { symbols = t .symbols; nodes = t .nodes; clauses = t .clauses ++ (c ∷ []) }))
+
+unfoldable pub clauseAt : Table → Option Node → Taken
+clauseAt t none = stop 8
+clauseAt t (some n) = addClause t (n .clause)
+
+unfoldable pub takeClause : Table → ℕ → Taken
+takeClause t n = cond (not (ltb (length (t .clauses)) maxClauses)) (stop 7) (clauseAt t (getElem? (t .nodes) n))
+
+-- 8, then 9
+unfoldable pub lastGoal : Option Goal → Taken
+lastGoal none = stop 9
+lastGoal (some g) = last g
+
+unfoldable pub goalAt : Option Node → Taken
+goalAt none = stop 8
+goalAt (some n) = lastGoal (n .goal)
+
+-- 6, then the rest
+unfoldable pub takeLine : Table → Option SheetLine → Taken
+takeLine t none = stop 6
+takeLine t (some (declareLine k n a)) = takeDeclaration t (record { function = k; name = n; arity = a })
+takeLine t (some (nodeLine l)) = takeNode t l
+takeLine t (some (clauseLine n)) = takeClause t n
+takeLine t (some (goalLine n)) = goalAt (getElem? (t .nodes) n)
+
+-- Bytes after the last LF: a line without LF is malformed. None: the Q line is missing.
+unfoldable pub atEnd : List ℕ → ℕ → Read
+atEnd [] k = refused (refusal 11 k)
+atEnd (c ∷ cs) k = refused (refusal 6 k)
+
+-- After the Q line, which "is the last line".
+unfoldable pub afterGoal : List (List ℕ) → List ℕ → ℕ → Sheet → Read
+afterGoal [] [] k s = sheet s
+afterGoal [] (c ∷ cs) k s = refused (refusal 11 k)
+afterGoal (l ∷ ls) r k s = refused (refusal 11 k)
+
+-- The lines, the bytes after the last LF, the number of the next line, what there is so far.
+unfoldable pub readFrom : List (List ℕ) → List ℕ → ℕ → Table → Read
+readFrom [] r k t = atEnd r k
+readFrom (l ∷ ls) r k t = elim (takeLine t (parseLine l)) [
+  | next u ↦ readFrom ls r (suc k) u
+  | stop n ↦ refused (refusal n k)
+  | last g ↦ afterGoal ls r (suc k) (record { symbols = t .symbols; clauses = t .clauses; goal = g })
+]
+
+unfoldable pub readSheet : List ℕ → Read
+readSheet bytes = let l = linesOf bytes in readFrom (l .whole) (l .rest) 1 (record { symbols = []; nodes = []; clauses = [] })

@@ -1,0 +1,100 @@
+-- The refusals of a sheet's lines are past 5, so past them the lent buffers end as zeros.
+use Prim.Native.Nat.{ℕ, suc, _≤_}
+use native.Mathlib.Omega.{arith}
+use mathlib.Core.Path.{_≡_, subst}
+use mathlib.Core.Bool.{Bool, true, false, not, cond}
+use mathlib.Core.List.{List, [], _∷_}
+use mathlib.Core.Option.{Option, none, some}
+use lib.Dec.{ltb}
+use lib.ListN.{length, getElem?}
+use Rattle.formulas.specs.Formulas.{Goal, Clause}
+use Rattle.sheet_format.specs.Limits.{variableNames, maxSymbols, maxNodes, maxClauses}
+use Rattle.sheet_format.specs.Bytes.{linesOf}
+use Rattle.sheet_format.specs.SheetLines.{SheetLine, declareLine, nodeLine, clauseLine, goalLine, parseLine}
+use Rattle.sheet_format.specs.Nodes.{Node, nodeOf, isSomething}
+use Rattle.sheet_format.specs.Sheets.{Sheet, Refusal, refusal, Read, sheet, refused, Table, Taken, next, stop, last, isDeclared, takeDeclaration, addNode, takeNode, anyFree, addClause, clauseAt, takeClause, lastGoal, goalAt, takeLine, atEnd, afterGoal, readFrom, readSheet}
+
+-- A line that is refused, and a sheet.
+abbrev LateLine : Taken → Type 0
+LateLine (next u) = Unit {0}
+LateLine (stop n) = 6 ≤ n
+LateLine (last g) = Unit {0}
+
+abbrev LateRead : Read → Type 0
+LateRead (sheet s) = Unit {0}
+LateRead (refused r) = 6 ≤ r .number
+
+-- of a test's two sides
+cond-late : (b : Bool) (x y : Taken) → LateLine x → LateLine y → LateLine (cond b x y)
+cond-late true x y h k = h
+cond-late false x y h k = k
+
+-- the kinds of lines
+addNode-late : (t : Table) (o : Option Node) → LateLine (addNode t o)
+unfolding addNode
+addNode-late t none = omega arith
+addNode-late t (some n) = cond-late (isSomething n) _ (stop 9) tt (omega arith)
+
+addClause-late : (t : Table) (o : Option Clause) → LateLine (addClause t o)
+unfolding addClause
+addClause-late t none = omega arith
+addClause-late t (some c) = cond-late (anyFree variableNames 0 c) (stop 10) _ (omega arith) tt
+
+clauseAt-late : (t : Table) (o : Option Node) → LateLine (clauseAt t o)
+unfolding clauseAt
+clauseAt-late t none = omega arith
+clauseAt-late t (some n) = addClause-late t (n .clause)
+
+lastGoal-late : (o : Option Goal) → LateLine (lastGoal o)
+unfolding lastGoal
+lastGoal-late none = omega arith
+lastGoal-late (some g) = tt
+
+goalAt-late : (o : Option Node) → LateLine (goalAt o)
+unfolding goalAt
+goalAt-late none = omega arith
+goalAt-late (some n) = lastGoal-late (n .goal)
+
+-- any line
+takeLine-late : (t : Table) (o : Option SheetLine) → LateLine (takeLine t o)
+unfolding takeLine takeDeclaration takeNode takeClause
+takeLine-late t none = omega arith
+takeLine-late t (some (declareLine k n a)) =
+    cond-late (not (ltb (length (t .symbols)) maxSymbols)) (stop 7) _ (omega arith) (cond-late (isDeclared n (t .symbols)) (stop 8) _ (omega arith) tt)
+takeLine-late t (some (nodeLine l)) =
+    cond-late (not (ltb (length (t .nodes)) maxNodes)) (stop 7) _ (omega arith) (addNode-late t (nodeOf (t .symbols) (t .nodes) l))
+takeLine-late t (some (clauseLine n)) =
+    cond-late (not (ltb (length (t .clauses)) maxClauses)) (stop 7) _ (omega arith) (clauseAt-late t (getElem? (t .nodes) n))
+takeLine-late t (some (goalLine n)) = goalAt-late (getElem? (t .nodes) n)
+
+-- the end of the sheet
+atEnd-late : (r : List ℕ) (k : ℕ) → LateRead (atEnd r k)
+unfolding atEnd
+atEnd-late [] k = omega arith
+atEnd-late (c ∷ cs) k = omega arith
+
+afterGoal-late : (ls : List (List ℕ)) (r : List ℕ) (k : ℕ) (s : Sheet) → LateRead (afterGoal ls r k s)
+unfolding afterGoal
+afterGoal-late [] [] k s = tt
+afterGoal-late [] (c ∷ cs) k s = omega arith
+afterGoal-late (l ∷ ls) r k s = omega arith
+
+-- the lines
+readFrom-late : (ls : List (List ℕ)) (r : List ℕ) (k : ℕ) (t : Table) → LateRead (readFrom ls r k t)
+unfolding readFrom
+readFrom-late [] r k t = atEnd-late r k
+readFrom-late (l ∷ ls) r k t = go (takeLine t (parseLine l)) (takeLine-late t (parseLine l)) (λ u. readFrom-late ls r (suc k) u)
+  where
+    go : (x : Taken) → LateLine x → ((u : Table) → LateRead (readFrom ls r (suc k) u))
+        → LateRead (elim x [
+          | next u ↦ readFrom ls r (suc k) u
+          | stop n ↦ refused (refusal n k)
+          | last g ↦ afterGoal ls r (suc k) (record { symbols = t .symbols; clauses = t .clauses; goal = g })
+        ])
+    go (next u) h ih = ih u
+    go (stop n) h ih = h
+    go (last g) h ih = afterGoal-late ls r (suc k) (record { symbols = t .symbols; clauses = t .clauses; goal = g })
+
+pub refused-late : (bytes : List ℕ) (r : Refusal) → readSheet bytes ≡ refused r → 6 ≤ r .number
+unfolding readSheet
+refused-late bytes r e = subst LateRead e (readFrom-late (linesOf bytes .whole) (linesOf bytes .rest) 1 (record { symbols = []; nodes = []; clauses = [] }))

@@ -1,2 +1,0 @@
--- Symbols: declaring them, and applying them.
-pub mod Symbols

@@ -1,0 +1,2 @@
+-- Laws of the table's making.
+pub mod Laws

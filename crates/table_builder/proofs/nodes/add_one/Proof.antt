@@ -1,0 +1,24 @@
+use Rattle.table_builder.specs.Making.{addOne}
+use borrow.Author.Tests.{le-leb, lt-leb}
+use borrow.Author.Needs.{needs}
+use Rattle.table_builder.proofs.nodes.add_one.Statement.{statement}
+use Rattle.table_builder.proofs.nodes.add_one.Tie as tie
+
+returns : tie.Need-returns
+unfolding addOne
+returns c =
+    simp (addOne, le-leb _ _ (c .if1 .taken))
+
+returns-2 : tie.Need-returns-2
+unfolding addOne
+returns-2 c =
+    simp (addOne, le-leb _ _ (c .if2 .taken), lt-leb _ _ (c .before .before .if1 .left))
+
+returns-3 : tie.Need-returns-3
+unfolding addOne
+returns-3 c =
+    simp (addOne, ← c .before .before .add-node .ensures, lt-leb _ _ (c .before .before .before .before .if2 .left), lt-leb _ _ (c .before .before .before .before .before .before .if1 .left))
+
+pub add-one-spec : {M : Type 1} → statement M
+add-one-spec =
+    tie.close (tie.spec returns returns-2 (λ c. search needs) (λ c κs. search needs) (λ c. search needs) returns-3)

@@ -1,0 +1,96 @@
+-- Laws of specs/Symbols.antt for the code's proofs: writes in a row, and one law for each way through a turn of a loop.
+use Prim.Native.Nat.{ℕ, suc, _+_, _-_, _≤_, _<_}
+use native.Mathlib.Numerals.{add-one}
+use native.Mathlib.Nat.{add-assoc}
+use native.Mathlib.Omega.{arith}
+use mathlib.Core.Bool.{Bool, true, false, cond}
+use mathlib.Core.Path.{_≡_, sym, ap, _∙_}
+use mathlib.Core.List.{List, [], _∷_}
+use lib.Dec.{eqb}
+use lib.ListN.{length, take, drop, getD, set, drop-of-length-le}
+use lib.Seq.{drop-cons, length-take-le}
+use borrow.Author.Tests.{lt-leb, eq-eqb, ne-eqb}
+use Rattle.node_table.specs.Layout.{symbolAt}
+use Rattle.table_builder.specs.declared.node_info.Counts.{Counts}
+use Rattle.table_builder.specs.declared.node_info.Taken.the-variants.{Next, Stop}
+use Rattle.table_builder.specs.Making.{made, counts}
+use Rattle.table_builder.specs.Symbols.{symbolWritten, firstOf, sameAt, nameIs, findFrom, findName, symbolWord, takeDeclaration}
+
+-- writes
+
+pub symbol-puts : (t t₀ t₁ t₂ : List ℕ) (i start len word : ℕ) → t₀ ≡ set t (symbolAt i 0) start → t₁ ≡ set t₀ (symbolAt i 1) len
+    → t₂ ≡ set t₁ (symbolAt i 2) word → t₂ ≡ symbolWritten t i start len word
+unfolding symbolWritten
+symbol-puts t t₀ t₁ t₂ i start len word e₀ e₁ e₂ = rw (e₂, e₁, e₀)
+
+-- names
+
+module _ (s : List ℕ) (at i : ℕ) (name : List ℕ) where
+  same-step : i < length name → sameAt s (at + i) (drop i name) ≡ cond (eqb (getD s (at + i) 0) (getD name i 0)) (sameAt s (at + (i + 1)) (drop (i + 1) name)) false
+  unfolding sameAt
+  same-step h = rw (drop-cons name i 0 h, ← add-assoc at i 1, add-one i)
+
+  pub same-on : (b : ℕ) → i < length name → b ≡ getD s (at + i) 0 → b ≡ getD name i 0 → sameAt s (at + i) (drop i name) ≡ sameAt s (at + (i + 1)) (drop (i + 1) name)
+  same-on b h e f = same-step h ∙ simp (eq-eqb _ _ (sym e ∙ f))
+
+  pub same-off : (b : ℕ) → i < length name → b ≡ getD s (at + i) 0 → (b ≡ getD name i 0 → ⊥) → sameAt s (at + i) (drop i name) ≡ false
+  same-off b h e n = same-step h ∙ simp (ne-eqb _ _ (λ f. n (e ∙ f)))
+
+  pub same-end : length name ≤ i → sameAt s (at + i) (drop i name) ≡ true
+  unfolding sameAt
+  same-end h = rw (drop-of-length-le name h)
+
+pub same-none : (s : List ℕ) (at : ℕ) (name : List ℕ) → sameAt s at name ≡ sameAt s (at + 0) (drop 0 name)
+same-none s at name =
+    let e : at + 0 ≡ at = omega arith in
+    rw e
+
+module _ (s t : List ℕ) (n i : ℕ) (name : List ℕ) where
+  pub find-here : (b : Bool) → i < n → b ≡ nameIs s t i name → b ≡ true → findFrom (n - i) s t i name ≡ true
+  unfolding findFrom
+  find-here b h e f =
+      let z : n - i ≡ suc (n - (i + 1)) = omega arith in
+      rw z (simp (sym e ∙ f))
+
+  pub find-on : (b : Bool) → i < n → b ≡ nameIs s t i name → b ≡ false → findFrom (n - i) s t i name ≡ findFrom (n - (i + 1)) s t (i + 1) name
+  unfolding findFrom
+  find-on b h e f =
+      let z : n - i ≡ suc (n - (i + 1)) = omega arith in
+      rw z (simp (sym e ∙ f))
+
+  pub find-end : n ≤ i → findFrom (n - i) s t i name ≡ false
+  unfolding findFrom
+  find-end h =
+      let z : n - i ≡ 0 = omega arith in
+      rw z
+
+pub find-first : (s t : List ℕ) (n : ℕ) (name : List ℕ) → findName s t n name ≡ findFrom (n - 0) s t 0 name
+unfolding findName
+find-first s t n name =
+    let e : n - 0 ≡ n = omega arith in
+    rw e
+
+-- lines with many steps
+
+-- the first n of four
+pub first-length : (n count a b c d : ℕ) → count ≤ 4 → n ≡ count → n ≡ length (firstOf n a b c d)
+first-length n count a b c d h e = sym (length-take-le n (a ∷ b ∷ c ∷ d ∷ []) (omega arith))
+
+-- the name's bytes as the code lends them
+named-part : (s t : List ℕ) (n start len : ℕ) → findName s t n (take (start + len - start) (drop start s)) ≡ findName s t n (take len (drop start s))
+named-part s t n start len =
+    let e : start + len - start ≡ len = omega arith in
+    ap (λ (z : ℕ). findName s t n (take z (drop start s))) e
+
+pub declaration-found : (s t : List ℕ) (k : Counts) (function : Bool) (start len arity : ℕ) (found : Bool) → k .symbols < 256
+    → found ≡ findName s t (k .symbols) (take (start + len - start) (drop start s)) → found ≡ true → made t (Stop 8) ≡ takeDeclaration s t k function start len arity
+unfolding takeDeclaration
+declaration-found s t k function start len arity found h e f = rw (lt-leb 256 (k .symbols) h, ← named-part s t (k .symbols) start len, ← e, f)
+
+pub declaration-taken : (s t t′ : List ℕ) (k : Counts) (function : Bool) (start len arity word a b : ℕ) (found : Bool) → k .symbols < 256
+    → found ≡ findName s t (k .symbols) (take (start + len - start) (drop start s)) → found ≡ false → word ≡ symbolWord function arity → a ≡ start → b ≡ len
+    → t′ ≡ symbolWritten t (k .symbols) a b word
+    → made t′ (Next (counts (k .symbols + 1) (k .nodes) (k .clauses))) ≡ takeDeclaration s t k function start len arity
+unfolding takeDeclaration
+declaration-taken s t t′ k function start len arity word a b found h e f w x y z =
+    rw (lt-leb 256 (k .symbols) h, ← named-part s t (k .symbols) start len, ← e, f, z, w, x, y)

@@ -1,0 +1,151 @@
+// Filling the table: a parsed V, Y, &, |, >, E or U line makes a node, a C line a clause, or the line is refused with 7, 8, 9 or
+// 10. F, P and A lines: crates symbols and applications.
+use super::node_info::Counts;
+use super::node_info::NodeRecord;
+use super::node_info::Taken;
+use super::node_info::and_info;
+use super::node_info::exists_info;
+use super::node_info::forall_info;
+use super::node_info::implies_info;
+use super::node_info::only_bit;
+use super::node_info::or_info;
+use super::node_info::pack_info;
+use super::nodes::MAX_NODES;
+use super::nodes::add_node;
+use super::nodes::add_one;
+use super::nodes::add_two;
+use memory::put;
+use memory::wide;
+use node_table::is_goal;
+use node_table::mask;
+use node_table::members;
+ghost use mathlib.Core.Path.{_≡_};
+ghost use Prim.Native.Nat.{_<_};
+ghost use Rattle.table_builder.specs.Making.{made, takeVariable, takeTrue, takeAnd, takeOr, takeImplies, takeExists, takeForall, takeClause, takeGoal};
+
+const MAX_CLAUSES: u32 = 128;
+
+// V v
+pub fn take_variable(t: &mut [u32], k: Counts, v: u32) -> Taken
+    requires { ⌜ v < 8 ⌝ }
+    ensures { λ r. ⌜ made (now (t .exit)) r ≡ takeVariable (now (t .entry)) k v ⌝ }
+{
+    if MAX_NODES <= k.nodes {
+        return Taken::Stop(7);
+    }
+    let info = pack_info(only_bit(v), 0, 0, 1);
+    add_node(
+        t,
+        k,
+        NodeRecord {
+            head: 0,
+            label: v,
+            first: 0,
+            second: 0,
+            third: 0,
+            fourth: 0,
+            info,
+        },
+    )
+}
+
+// Y
+pub fn take_true(t: &mut [u32], k: Counts) -> Taken
+    ensures { λ r. ⌜ made (now (t .exit)) r ≡ takeTrue (now (t .entry)) k ⌝ }
+{
+    if MAX_NODES <= k.nodes {
+        return Taken::Stop(7);
+    }
+    add_node(
+        t,
+        k,
+        NodeRecord {
+            head: 3,
+            label: 0,
+            first: 0,
+            second: 0,
+            third: 0,
+            fourth: 0,
+            info: 256,
+        },
+    )
+}
+
+// & a b
+pub fn take_and(t: &mut [u32], k: Counts, a: u32, b: u32) -> Taken
+    ensures { λ r. ⌜ made (now (t .exit)) r ≡ takeAnd (now (t .entry)) k a b ⌝ }
+{
+    let info = and_info(t, a, b);
+    add_two(t, k, 4, a, b, info)
+}
+
+// | a b
+pub fn take_or(t: &mut [u32], k: Counts, a: u32, b: u32) -> Taken
+    ensures { λ r. ⌜ made (now (t .exit)) r ≡ takeOr (now (t .entry)) k a b ⌝ }
+{
+    let info = or_info(t, a, b);
+    add_two(t, k, 5, a, b, info)
+}
+
+// > a b
+pub fn take_implies(t: &mut [u32], k: Counts, a: u32, b: u32) -> Taken
+    ensures { λ r. ⌜ made (now (t .exit)) r ≡ takeImplies (now (t .entry)) k a b ⌝ }
+{
+    let info = implies_info(t, a, b);
+    add_two(t, k, 6, a, b, info)
+}
+
+// E v a
+pub fn take_exists(t: &mut [u32], k: Counts, v: u32, a: u32) -> Taken
+    ensures { λ r. ⌜ made (now (t .exit)) r ≡ takeExists (now (t .entry)) k v a ⌝ }
+{
+    let info = exists_info(t, v, a);
+    add_one(t, k, 7, v, a, info)
+}
+
+// U v a
+pub fn take_forall(t: &mut [u32], k: Counts, v: u32, a: u32) -> Taken
+    ensures { λ r. ⌜ made (now (t .exit)) r ≡ takeForall (now (t .entry)) k v a ⌝ }
+{
+    let info = forall_info(t, v, a);
+    add_one(t, k, 8, v, a, info)
+}
+
+// C n
+pub fn take_clause(t: &mut [u32], k: Counts, n: u32) -> Taken
+    ensures { λ r. ⌜ made (now (t .exit)) r ≡ takeClause (now (t .entry)) k n ⌝ }
+{
+    if MAX_CLAUSES <= k.clauses {
+        return Taken::Stop(7);
+    }
+    if k.nodes <= n {
+        return Taken::Stop(8);
+    }
+    if members(t, n) == 0 {
+        return Taken::Stop(9);
+    }
+    if mask(t, n) == 0 {
+        let i = k.clauses;
+        let w = wide(i);
+        put(t, 7936 + w, n);
+        return Taken::Next(Counts {
+            symbols: k.symbols,
+            nodes: k.nodes,
+            clauses: i + 1,
+        });
+    }
+    Taken::Stop(10)
+}
+
+// Q n
+pub fn take_goal(t: &[u32], k: Counts, n: u32) -> Taken
+    ensures { λ r. ⌜ r ≡ takeGoal (now (t .entry)) k n ⌝ }
+{
+    if k.nodes <= n {
+        return Taken::Stop(8);
+    }
+    if is_goal(t, n) {
+        return Taken::Last(n);
+    }
+    Taken::Stop(9)
+}

@@ -1,0 +1,122 @@
+// Declaring symbols: F and P lines.
+use super::node_info::Counts;
+use super::node_info::Taken;
+use memory::byte;
+use memory::put;
+use memory::wide;
+use node_table::arity;
+use node_table::name_length;
+use node_table::name_start;
+ghost use mathlib.Core.Path.{_≡_};
+ghost use Prim.Native.Nat.{_+_, _*_, _<_, _≤_};
+ghost use lib.ListN.{length, set};
+ghost use Rattle.node_table.specs.Layout.{symbolAt};
+ghost use Rattle.table_builder.specs.Making.{made};
+ghost use Rattle.table_builder.specs.Symbols.{symbolWritten, sameAt, nameIs, findName, symbolWord, takeDeclaration};
+
+const MAX_SYMBOLS: u32 = 256;
+
+fn put_symbol_field(t: &mut [u32], i: u32, f: usize, x: u32)
+    requires { ⌜ f < 3 ⌝ }
+    ensures { λ _. ⌜ now (t .exit) ≡ set (now (t .entry)) (symbolAt i f) x ⌝ }
+{
+    let w = wide(i);
+    put(t, 3 * w + f, x);
+}
+
+fn write_symbol(t: &mut [u32], i: u32, start: u32, len: u32, word: u32)
+    ensures { λ _. ⌜ now (t .exit) ≡ symbolWritten (now (t .entry)) i start len word ⌝ }
+{
+    put_symbol_field(t, i, 0, start);
+    put_symbol_field(t, i, 1, len);
+    put_symbol_field(t, i, 2, word);
+}
+
+// Whether the name stands on the sheet at `at`.
+fn same_at(sheet: &[u8], at: usize, name: &[u8]) -> bool
+    requires { ⌜ at < 4294967296 ⌝ }
+    ensures { λ r. ⌜ r ≡ sameAt (now (sheet .entry)) at (now (name .entry)) ⌝ }
+{
+    let mut i: usize = 0;
+    while i < name.len() {
+        let b = byte(sheet, at + i);
+        if b != name[i] {
+            return false;
+        }
+        i += 1;
+    }
+    true
+}
+
+// Whether symbol i has the name.
+fn name_is(sheet: &[u8], t: &[u32], i: u32, name: &[u8]) -> bool
+    ensures { λ r. ⌜ r ≡ nameIs (now (sheet .entry)) (now (t .entry)) i (now (name .entry)) ⌝ }
+{
+    let n = wide(name_length(t, i));
+    if n != name.len() {
+        return false;
+    }
+    same_at(sheet, wide(name_start(t, i)), name)
+}
+
+// Whether one of the first `count` symbols has the name.
+pub fn find_name(sheet: &[u8], t: &[u32], count: u32, name: &[u8]) -> bool
+    ensures { λ r. ⌜ r ≡ findName (now (sheet .entry)) (now (t .entry)) count (now (name .entry)) ⌝ }
+{
+    let mut i: u32 = 0;
+    while i < count {
+        if name_is(sheet, t, i, name) {
+            return true;
+        }
+        i += 1;
+    }
+    false
+}
+
+// The arity, and whether it is a function symbol.
+fn symbol_word(function: bool, arity: u32) -> u32
+    requires { ⌜ arity ≤ 4 ⌝ }
+    ensures { λ r. ⌜ r ≡ symbolWord function arity ⌝ }
+{
+    if function {
+        return 2 * arity + 1;
+    }
+    2 * arity
+}
+
+// A number that fits 32 bits.
+fn narrow(x: usize) -> u32
+    requires { ⌜ x < 4294967296 ⌝ }
+    ensures { λ r. ⌜ r ≡ x ⌝ }
+{
+    x as u32
+}
+
+// F or P: the name is the `len` bytes of the sheet at `start`.
+pub fn take_declaration(
+    sheet: &[u8],
+    t: &mut [u32],
+    k: Counts,
+    function: bool,
+    start: usize,
+    len: usize,
+    arity: u32,
+) -> Taken
+    requires { ⌜ (start + len ≤ length (now sheet)) × (length (now sheet) ≤ 65535) × (arity ≤ 4) ⌝ }
+    ensures { λ r. ⌜ made (now (t .exit)) r ≡ takeDeclaration (now (sheet .entry)) (now (t .entry)) k function start len arity ⌝ }
+{
+    if MAX_SYMBOLS <= k.symbols {
+        return Taken::Stop(7);
+    }
+    let i = k.symbols;
+    if find_name(sheet, t, i, &sheet[start..start + len]) {
+        return Taken::Stop(8);
+    }
+    let word = symbol_word(function, arity);
+    write_symbol(t, i, narrow(start), narrow(len), word);
+    Taken::Next(Counts {
+        symbols: i + 1,
+        nodes: k.nodes,
+        clauses: k.clauses,
+    })
+}

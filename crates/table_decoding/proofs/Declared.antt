@@ -1,0 +1,201 @@
+-- F and P: the name is found exactly if it is declared, and the symbol is added.
+use Prim.Native.Nat.{ℕ, zero, suc, _+_, _*_, _/_, _%_, _<_, _≤_}
+use native.Mathlib.Numerals.{add-one}
+use native.Mathlib.Omega.{arith}
+use mathlib.Core.Path.{_≡_, refl, sym, ap, ap₂, _∙_, subst}
+use mathlib.Core.Bool.{Bool, true, false, not, _&&_, _||_, cond}
+use mathlib.Core.List.{List, [], _∷_, _++_}
+use lib.Dec.{ltb, leb, eqb}
+use lib.ListN.{length, take, drop, getD, length-drop}
+use lib.Seq.{drop-cons, length-take-le}
+use borrow.Author.Tests.{eqb-true, eqb-false, eq-eqb, ne-eqb, le-ltb, lt-ltb, leb-true, leb-false}
+use Rattle.sheet_format.specs.Bytes.{sameBytes}
+use Rattle.sheet_format.specs.Nodes.{Declaration}
+use Rattle.sheet_format.specs.Sheets.{next, stop, isDeclared}
+use Rattle.sheet_format.specs.Sheets.{takeDeclaration as sheetTakeDeclaration}
+use Rattle.sheet_format.proofs.Bytes.{same-equal}
+use Rattle.node_table.specs.Layout.{nameStart, nameLength, clauseNode}
+use Rattle.node_table.specs.Decoding.{declarationAt, declarationsFrom}
+use Rattle.node_table.specs.WellMade.{IsClause}
+use Rattle.node_table.proofs.Same.{Same, same-kind, same-label, same-start, same-length}
+use Rattle.node_table.proofs.Nodes.{is-term-back, is-goal-back, is-clause-back, is-clause-same, term-same, goal-same, clause-same}
+use Rattle.table_builder.specs.declared.node_info.Counts.{Counts}
+use Rattle.table_builder.specs.declared.node_info.Taken.the-variants.{Next, Stop}
+use Rattle.table_builder.specs.Making.{made, counts}
+use Rattle.table_builder.specs.Symbols.{sameAt, nameIs, findFrom, findName, symbolWord, symbolWritten, takeDeclaration}
+use Rattle.table_decoding.specs.Standing.{tableOf, Stands, Agrees, Follows}
+use Rattle.table_decoding.proofs.Writing.{Rest, rest-symbol, same-but-symbol, clause-kept-symbol, written-start, written-length, written-function, written-arity}
+use Rattle.table_decoding.proofs.Sequences.{from-length, from-more, declarations-list}
+use Rattle.table_decoding.proofs.Adding.{table-agree, nodes-of-stands, symbols-same, nodes-same, clauses-same, below-more}
+
+-- names
+
+eqb-turned : (x y : ℕ) → eqb x y ≡ eqb y x
+eqb-turned x y = go (eqb y x) refl
+  where
+    go : (q : Bool) → eqb y x ≡ q → eqb x y ≡ q
+    go true e = eq-eqb x y (sym (eqb-true y x e))
+    go false e = ne-eqb x y (λ z. eqb-false y x e (sym z))
+
+cond-and : (x y : Bool) → cond x y false ≡ (x && y)
+cond-and true y = refl
+cond-and false y = refl
+
+-- the bytes on the sheet are those of the name
+same-is : (bytes : List ℕ) (at : ℕ) (name : List ℕ) → at + length name ≤ length bytes → sameAt bytes at name ≡ sameBytes name (take (length name) (drop at bytes))
+unfolding sameAt sameBytes
+same-is bytes at [] h = refl
+same-is bytes at (b ∷ l) h =
+    let k : at < length bytes = omega arith in
+    cond-and (eqb (getD bytes at 0) b) (sameAt bytes (at + 1) l)
+    ∙ ap₂ _&&_ (eqb-turned (getD bytes at 0) b) (ap (λ (x : ℕ). sameAt bytes x l) (add-one at) ∙ same-is bytes (suc at) l (omega arith))
+    ∙ ap (λ (x : List ℕ). sameBytes (b ∷ l) (take (suc (length l)) x)) (sym (drop-cons bytes at 0 k))
+
+-- symbol i has the name
+name-is : (bytes t : List ℕ) (i : ℕ) (name : List ℕ) → nameStart t i + nameLength t i ≤ length bytes
+    → nameIs bytes t i name ≡ sameBytes name (take (nameLength t i) (drop (nameStart t i) bytes))
+unfolding nameIs
+name-is bytes t i name h = go (eqb (nameLength t i) (length name)) refl
+  where
+    other : (b : Bool) → (nameLength t i ≡ length name → ⊥) → sameBytes name (take (nameLength t i) (drop (nameStart t i) bytes)) ≡ b → false ≡ b
+    other true d e =
+        absurd (d (sym (length-take-le (nameLength t i) (drop (nameStart t i) bytes) (simp length-drop (omega arith))) ∙ ap length (sym (same-equal name _ e))))
+    other false d e = refl
+
+    go : (b : Bool) → eqb (nameLength t i) (length name) ≡ b
+        → cond b (sameAt bytes (nameStart t i) name) false ≡ sameBytes name (take (nameLength t i) (drop (nameStart t i) bytes))
+    go true e =
+        let q = eqb-true (nameLength t i) (length name) e in
+        same-is bytes (nameStart t i) name (omega arith) ∙ ap (λ (x : ℕ). sameBytes name (take x (drop (nameStart t i) bytes))) (sym q)
+    go false e = other (sameBytes name (take (nameLength t i) (drop (nameStart t i) bytes))) (eqb-false (nameLength t i) (length name) e) refl
+
+cond-or : (x y : Bool) → cond x true y ≡ (x || y)
+cond-or true y = refl
+cond-or false y = refl
+
+-- a name is found among the symbols exactly if it is declared
+found : (bytes t : List ℕ) (c i : ℕ) (name : List ℕ) → ((j : ℕ) → i ≤ j → j < i + c → nameStart t j + nameLength t j ≤ length bytes)
+    → findFrom c bytes t i name ≡ isDeclared name (declarationsFrom bytes t c i)
+unfolding findFrom isDeclared declarationsFrom declarationAt
+found bytes t zero i name h = refl
+found bytes t (suc c) i name h =
+    cond-or (nameIs bytes t i name) (findFrom c bytes t (i + 1) name)
+    ∙ ap₂ _||_ (name-is bytes t i name (h i (omega arith) (omega arith)))
+    (ap (λ (x : ℕ). findFrom c bytes t x name) (add-one i) ∙ found bytes t c (suc i) name (λ j k l. h j (omega arith) (omega arith)))
+
+-- the symbol
+
+word-function : (function : Bool) (arity : ℕ) → eqb (symbolWord function arity % 2) 1 ≡ function
+unfolding symbolWord
+word-function true arity = eq-eqb ((2 * arity + 1) % 2) 1 (omega arith)
+word-function false arity = ne-eqb (2 * arity % 2) 1 (λ e. omega arith)
+
+word-arity : (function : Bool) (arity : ℕ) → symbolWord function arity / 2 ≡ arity
+unfolding symbolWord
+word-arity true arity = omega arith
+word-arity false arity = omega arith
+
+module _ (bytes t : List ℕ) (k : Counts) (st : Stands bytes t k) (function : Bool) (start len arity : ℕ) (fits : start + len ≤ length bytes) where
+  abbrev i : ℕ
+  i = k .symbols
+
+  abbrev u : List ℕ
+  u = symbolWritten t (k .symbols) start len (symbolWord function arity)
+
+  abbrev k′ : Counts
+  k′ = counts (k .symbols + 1) (k .nodes) (k .clauses)
+
+  abbrev declared : Declaration
+  declared = record { function = function; name = take len (drop start bytes); arity = arity }
+
+  module _ (l : k .symbols < 256) where
+    same-table : Same t u i (k .nodes)
+    same-table = same-but-symbol t i start len (symbolWord function arity) l (k .nodes)
+
+    new-declaration : declarationAt bytes u i ≡ declared
+    unfolding declarationAt
+    new-declaration =
+        rw (
+          written-start t i start len (symbolWord function arity) l (st .long),
+          written-length t i start len (symbolWord function arity) l (st .long),
+          written-function t i start len (symbolWord function arity) l (st .long),
+          written-arity t i start len (symbolWord function arity) l (st .long),
+          word-function function arity,
+          word-arity function arity,
+        )
+
+    stands-symbol : Stands bytes u k′
+    unfolding Rest
+    stands-symbol =
+        let m = nodes-of-stands bytes t k st in
+        let rest = rest-symbol t i start len (symbolWord function arity) l in
+        let long = rest .0 in
+        let old = st .long in
+        record {
+          long = omega arith;
+          fewSymbols = omega arith;
+          fewNodes = st .fewNodes;
+          fewClauses = st .fewClauses;
+          names = below-more (λ j. nameStart u j + nameLength u j ≤ length bytes) i
+              (λ j p.
+              let a = same-start t u i (k .nodes) same-table j p in
+              let b = same-length t u i (k .nodes) same-table j p in
+              let c = st .names j p in
+              omega arith)
+              (let a = written-start t i start len (symbolWord function arity) l (st .long) in
+              let b = written-length t i start len (symbolWord function arity) l (st .long) in
+              omega arith);
+          named = λ n p q r.
+              let e = same-kind t u i (k .nodes) same-table n p in
+              let f = same-label t u i (k .nodes) same-table n p in
+              let g = st .named n p (omega arith) (omega arith) in
+              omega arith;
+          term = λ n p q. term-same t u i (k .nodes) same-table m (st .named) n p (is-term-back t u i (k .nodes) same-table n p q);
+          goal = λ n p q. goal-same t u i (k .nodes) same-table m (st .named) n p (is-goal-back t u i (k .nodes) same-table n p q);
+          clause = λ n p q. clause-same t u i (k .nodes) same-table m (st .named) n p (is-clause-back t u i (k .nodes) same-table n p q);
+          clauses = λ j p.
+              let c = st .clauses j p in
+              subst (λ (x : ℕ). (x < k .nodes) × IsClause u x) (sym (clause-kept-symbol t i start len (symbolWord function arity) l j))
+              (c .0, is-clause-same t u i (k .nodes) same-table (clauseNode t j) (c .0) (c .1));
+        }
+
+    table-symbol : tableOf bytes u k′ ≡ record {
+      symbols = tableOf bytes t k .symbols ++ (declared ∷ []);
+      nodes = tableOf bytes t k .nodes;
+      clauses = tableOf bytes t k .clauses;
+    }
+    unfolding tableOf
+    table-symbol =
+        let m = nodes-of-stands bytes t k st in
+        table-agree _ _ _ _ _ _
+        (ap (λ (c : ℕ). declarationsFrom bytes u c 0) (add-one i) ∙ declarations-list bytes u (suc i) 0 ∙ from-more (declarationAt bytes u) i 0
+        ∙ ap₂ (λ (x : List Declaration) (d : Declaration). x ++ (d ∷ [])) (sym (declarations-list bytes u i 0) ∙ symbols-same bytes t u i (k .nodes) same-table)
+        (let e : 0 + i ≡ i = omega arith in ap (declarationAt bytes u) e ∙ new-declaration))
+        (nodes-same bytes t u i (k .nodes) same-table m)
+        (clauses-same bytes t u i (k .nodes) same-table m (k .clauses) (st .clauses) (λ j p. clause-kept-symbol t i start len (symbolWord function arity) l j))
+
+  symbols-length : length (tableOf bytes t k .symbols) ≡ k .symbols
+  unfolding tableOf
+  symbols-length = ap length (declarations-list bytes t (k .symbols) 0) ∙ from-length (declarationAt bytes t) (k .symbols) 0
+
+  is-found : findName bytes t (k .symbols) (take len (drop start bytes)) ≡ isDeclared (take len (drop start bytes)) (tableOf bytes t k .symbols)
+  unfolding findName tableOf
+  is-found = found bytes t (k .symbols) 0 (take len (drop start bytes)) (λ j p q. st .names j (omega arith))
+
+  pub declaration-follows : Follows bytes t k (takeDeclaration bytes t k function start len arity) (sheetTakeDeclaration (tableOf bytes t k) declared)
+  unfolding takeDeclaration sheetTakeDeclaration Agrees Rest
+  declaration-follows = rw (symbols-length, ← is-found) (room (leb 256 i) refl)
+    where
+      name : (x : Bool) → i < 256
+          → Follows bytes t k (cond x (made t (Stop 8)) (made u (Next k′)))
+          (cond x (stop 8) (next (record { symbols = tableOf bytes t k .symbols ++ (declared ∷ []); nodes = tableOf bytes t k .nodes; clauses = tableOf bytes t k .clauses })))
+      name true l = record { agrees = refl; long = refl; rest = refl }
+      name false l =
+          let rest = rest-symbol t i start len (symbolWord function arity) l in
+          record { agrees = (ap next (sym (table-symbol l)), stands-symbol l); long = rest .0; rest = rest .1 }
+
+      room : (x : Bool) → leb 256 i ≡ x
+          → Follows bytes t k (cond x (made t (Stop 7)) (cond (findName bytes t i (take len (drop start bytes))) (made t (Stop 8)) (made u (Next k′))))
+          (cond (not (ltb i 256)) (stop 7) (cond (findName bytes t i (take len (drop start bytes))) (stop 8) (next (record { symbols = tableOf bytes t k .symbols ++ (declared ∷ []); nodes = tableOf bytes t k .nodes; clauses = tableOf bytes t k .clauses }))))
+      room true e = let p = leb-true 256 i e in rw (le-ltb i 256 p) (record { agrees = refl; long = refl; rest = refl })
+      room false e = let p = leb-false 256 i e in rw (lt-ltb i 256 p) (name (findName bytes t i (take len (drop start bytes))) p)

@@ -1,5 +1,0 @@
--- Laws of the table's definitions.
-pub mod Same
-pub mod Decoding
-pub mod Nodes
-pub mod Bits

@@ -1,0 +1,61 @@
+-- Calls on the state of a writing, in the words of its pen and its bounds.
+use Prim.Native.Nat.{ℕ, _-_, _+_, _≤_, _<_}
+use native.Mathlib.Omega.{arith}
+use mathlib.Core.Path.{_≡_, _∙_, ap, subst}
+use mathlib.Core.List.{List, [], _∷_}
+use lib.ListN.{getD}
+use Rattle.printing.specs.declared.Pen.{Pen}
+use Rattle.printing.specs.Marks.{Page, page, seek}
+use Rattle.printing.specs.WriteTerms.{emitTo, argumentsBy, writeTerm}
+use Rattle.term_printer.specs.State.{Bounds, stateOf, penIn, boundsIn}
+
+-- A call took the pen, and its pen was put back.
+module _ (s s′ : List ℕ) (q : Pen) (e : s′ ≡ stateOf q (boundsIn s)) where
+  pub pen-put : (f : ℕ → Page → Page) (w w′ out out′ : List ℕ) (p : Pen) → p ≡ penIn s → page w′ out′ q ≡ f (getD s 4 0) (page w out p) → page w′ out′ (penIn s′) ≡ f (boundsIn s .limit) (page w out (penIn s))
+  unfolding penIn boundsIn stateOf
+  pen-put f w w′ out out′ p ep ef = ap (λ (l : List ℕ). page w′ out′ (penIn l)) e ∙ ef ∙ ap (λ (x : Pen). f (getD s 4 0) (page w out x)) ep
+
+  pub bounds-kept : boundsIn s′ ≡ boundsIn s
+  unfolding boundsIn stateOf
+  bounds-kept = ap boundsIn e
+
+-- The pen is taken out of the state.
+pub pen-taken : (w out s : List ℕ) (q : Pen) (u : Page) → q ≡ penIn s → page w out (penIn s) ≡ u → page w out q ≡ u
+pen-taken w out s q u e h = ap (λ (x : Pen). page w out x) e ∙ h
+
+-- The state is made of a pen and bounds.
+pub state-made : (p : Pen) (turns limit rank : ℕ) (sheet t w out : List ℕ) (a : ℕ) (u : Page) → (let s : List ℕ = p .at ∷ p .variables ∷ p .constants ∷ turns ∷ limit ∷ [] in u ≡ writeTerm rank sheet t (boundsIn s .turns) (boundsIn s .limit) (page w out (penIn s)) a) → u ≡ writeTerm rank sheet t turns limit (page w out p) a
+unfolding boundsIn penIn
+state-made p turns limit rank sheet t w out a u h = h
+
+-- What the code reads of the state.
+module _ (s : List ℕ) where
+  pub past : getD s 4 0 < getD s 0 0 → boundsIn s .limit < penIn s .at
+  unfolding penIn boundsIn
+  past h = h
+
+  pub within : getD s 0 0 ≤ getD s 4 0 → penIn s .at ≤ boundsIn s .limit
+  unfolding penIn boundsIn
+  within h = h
+
+  pub sought : (w : List ℕ) (a b : ℕ) → b ≡ seek (getD s 3 0) w a → b ≡ seek (boundsIn s .turns) w a
+  unfolding boundsIn
+  sought w a b h = h
+
+-- The same at equal bounds.
+module _ (k k′ : Bounds) (e : k ≡ k′) where
+  pub emit-same : (g u : Page) (b : ℕ) → u ≡ emitTo (k .limit) g b → u ≡ emitTo (k′ .limit) g b
+  emit-same g u b h = subst (λ (i : Bounds). u ≡ emitTo (i .limit) g b) e h
+
+  pub term-same : (rank : ℕ) (sheet t : List ℕ) (g u : Page) (a : ℕ) → u ≡ writeTerm rank sheet t (k .turns) (k .limit) g a → u ≡ writeTerm rank sheet t (k′ .turns) (k′ .limit) g a
+  term-same rank sheet t g u a h = subst (λ (i : Bounds). u ≡ writeTerm rank sheet t (i .turns) (i .limit) g a) e h
+
+  pub arguments-same : (rank : ℕ) (sheet t : List ℕ) (c n f j : ℕ) (g : Page) → argumentsBy (writeTerm rank sheet t (k .turns) (k .limit)) t (k .limit) c n f j g ≡ argumentsBy (writeTerm rank sheet t (k′ .turns) (k′ .limit)) t (k′ .limit) c n f j g
+  arguments-same rank sheet t c n f j g = ap (λ (i : Bounds). argumentsBy (writeTerm rank sheet t (i .turns) (i .limit)) t (i .limit) c n f j g) e
+
+  pub small-same : k .limit ≤ 65535 → k′ .limit ≤ 65535
+  small-same h = subst (λ (i : Bounds). i .limit ≤ 65535) e h
+
+  -- The measure falls where the position has not fallen and the rank is one less.
+  pub less : (at to rank m : ℕ) → k .limit - at + rank ≡ m → (rank ≡ 0 → ⊥) → at ≤ to → k′ .limit - to + (rank - 1) < m
+  less at to rank m h n l = subst (λ (i : Bounds). i .limit - to + (rank - 1) < m) e (omega arith)

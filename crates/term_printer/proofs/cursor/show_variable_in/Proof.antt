@@ -1,0 +1,14 @@
+use Rattle.term_printer.proofs.cursor.States.{bounds-kept, pen-put}
+use Rattle.printing.specs.Marks.{showVariable}
+use borrow.Author.Needs.{needs}
+use Rattle.term_printer.proofs.cursor.show_variable_in.Statement.{statement}
+use Rattle.term_printer.proofs.cursor.show_variable_in.Tie as tie
+
+returns : tie.Need-returns
+returns c = (pen-put _ _ _ (c .put-pen .ensures) (λ l g. showVariable l g (c .before .before .before .before .before .before .before .before .before .before .before .before .before .before .args .x)) _ _ _ _ _ (c .before .before .before .before .before .before .before .pen-in .ensures) (c .before .before .before .before .before .before .show-variable .ensures), bounds-kept _ _ _ (c .put-pen .ensures))
+
+pub show-variable-in-spec : {M : Type 1} → statement M
+show-variable-in-spec =
+    tie.close
+    (tie.spec (λ c. search needs) (λ c κs. search needs) (λ c κs. search needs) (λ c κs. search needs) (λ c. search needs)
+    (λ c. search needs) returns)

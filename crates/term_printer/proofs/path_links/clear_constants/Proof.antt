@@ -1,0 +1,25 @@
+use Rattle.term_printer.proofs.path_links.Laws.{constants-end, constants-on}
+use Rattle.printing.specs.Links.{clearConstants}
+use borrow.Author.Needs.{needs}
+use lib.ListN.{length}
+use mathlib.Core.Path.{_∙_, _≡_, sym}
+use Rattle.term_printer.proofs.path_links.clear_constants.Statement.{statement}
+use Rattle.term_printer.proofs.path_links.clear_constants.Tie as tie
+
+abbrev Inv-loop : tie.InvT-loop
+Inv-loop n w₀ left₀ w left = (length w ≡ length w₀) × (clearConstants n w₀ ≡ clearConstants left w)
+
+abbrev μ-loop : tie.MeasureT-loop
+μ-loop n w₀ left₀ w left = left
+
+loop-again : tie.Need-loop-again Inv-loop μ-loop
+loop-again c = (c .before .before .put-field .kept .0 ∙ c .before .before .before .before .before .loop .inv .0, c .before .before .before .before .before .loop .inv .1 ∙ constants-on _ _ _ (c .before .before .before .before .loop-test .taken) (c .before .before .put-field .ensures))
+
+returns : tie.Need-returns Inv-loop μ-loop
+returns c = sym (c .before .loop .inv .1 ∙ constants-end _ _ (c .loop-test .left))
+
+pub clear-constants-spec : {M : Type 1} → statement M
+clear-constants-spec =
+    tie.close
+    (tie.spec Inv-loop μ-loop (λ c. search needs) (λ c. search needs) (λ c κs. search needs) (λ c. search needs) loop-again
+    (λ c. search needs) returns)

@@ -1,0 +1,22 @@
+-- Five numbers: the position, how many variables and how many constants are numbered, the turns and the limit.
+use Prim.Native.Nat.{ℕ}
+use mathlib.Core.List.{List, [], _∷_}
+use lib.ListN.{getD}
+use Rattle.printing.specs.declared.Pen.{Pen}
+
+-- The pen is the first three.
+unfoldable pub penIn : List ℕ → Pen
+penIn s = record { at = getD s 0 0; variables = getD s 1 0; constants = getD s 2 0 }
+
+-- How many bindings are looked through at a time, and the last position that is written.
+pub record Bounds : Type 0 where
+  pub turns : ℕ
+  pub limit : ℕ
+
+-- The bounds are the last two.
+unfoldable pub boundsIn : List ℕ → Bounds
+boundsIn s = record { turns = getD s 3 0; limit = getD s 4 0 }
+
+-- The five numbers of a pen and of bounds.
+unfoldable pub stateOf : Pen → Bounds → List ℕ
+stateOf p k = p .at ∷ p .variables ∷ p .constants ∷ k .turns ∷ k .limit ∷ []

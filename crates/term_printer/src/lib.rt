@@ -1,0 +1,96 @@
+// The printer of terms: names from the lent sheet, arguments in brackets. Each function is a definition of the crate printing,
+// and its contract says so.
+pub mod cursor;
+pub mod numbering;
+pub mod output;
+pub mod path_links;
+mod symbols;
+
+use cursor::emit_in;
+use cursor::pen_in;
+use cursor::separator;
+use cursor::show_constant_in;
+use cursor::show_variable_in;
+use cursor::write_name_in;
+use machine_memory::words::frame_of;
+use machine_memory::words::name_of;
+use machine_memory::words::node_of;
+use machine_memory::words::tag_of;
+use machine_memory::words::up;
+use machine_memory::words::word_of;
+use node_table::child;
+use node_table::child_count;
+use node_table::label;
+use numbering::seek;
+use printing::Pen;
+ghost use mathlib.Core.Path.{_≡_};
+ghost use Prim.Native.Nat.{_≤_};
+ghost use Rattle.printing.specs.Marks.{page};
+ghost use Rattle.printing.specs.WriteTerms.{separator, writeTerm, termTo};
+ghost use Rattle.term_printer.specs.State.{penIn, boundsIn};
+
+// The term of word a: its name, and its arguments in brackets by calls of itself. It ends since the remaining answer bytes plus the
+// rank fall. The sheet and the table are lent as references to slices: a slice itself is a pair, which each level would copy.
+pub fn write_term(
+    rank: u32,
+    sheet: &&[u8],
+    t: &&[u32],
+    w: &mut [u32],
+    out: &mut [u8],
+    s: &mut [u32; 5],
+    a: u32,
+)
+    requires { ⌜ boundsIn (now s) .limit ≤ 65535 ⌝ }
+    ensures { λ _. ⌜ (page (now (w .exit)) (now (out .exit)) (penIn (now (s .exit))) ≡ writeTerm rank (now (now (sheet .entry))) (now (now (t .entry))) (boundsIn (now (s .entry)) .turns) (boundsIn (now (s .entry)) .limit) (page (now (w .entry)) (now (out .entry)) (penIn (now (s .entry)))) a) × (boundsIn (now (s .exit)) ≡ boundsIn (now (s .entry))) ⌝ }
+{
+    if rank == 0 {
+        return;
+    }
+    if s[4] < s[0] {
+        return;
+    }
+    let b = seek(s[3], w, a);
+    let tag = tag_of(b);
+    if tag == 1 {
+        show_variable_in(w, out, s, name_of(b));
+        return;
+    }
+    if tag == 2 {
+        show_constant_in(w, out, s, name_of(b));
+        return;
+    }
+    let n = node_of(b);
+    write_name_in(*sheet, *t, out, s, label(*t, n));
+    let c = child_count(*t, n);
+    if c == 0 {
+        return;
+    }
+    let f = frame_of(b);
+    let mut j: u32 = 0;
+    while j < c {
+        emit_in(out, s, separator(j));
+        let x = word_of(*t, w, child(*t, n, j), f);
+        write_term(rank - 1, sheet, t, w, out, s, x);
+        j += 1;
+    }
+    emit_in(out, s, b')');
+}
+
+// The same, at a rank that suffices.
+pub fn term_to(
+    sheet: &[u8],
+    t: &[u32],
+    turns: u32,
+    limit: u32,
+    w: &mut [u32],
+    out: &mut [u8],
+    p: Pen,
+    a: u32,
+) -> Pen
+    requires { ⌜ limit ≤ 65535 ⌝ }
+    ensures { λ q. ⌜ page (now (w .exit)) (now (out .exit)) q ≡ termTo (now (sheet .entry)) (now (t .entry)) turns limit (page (now (w .entry)) (now (out .entry)) p) a ⌝ }
+{
+    let mut s = [p.at, p.variables, p.constants, turns, limit];
+    write_term(up(limit), &sheet, &t, w, out, &mut s, a);
+    pen_in(&s)
+}

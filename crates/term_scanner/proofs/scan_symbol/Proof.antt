@@ -1,0 +1,15 @@
+use Rattle.term_scanner.proofs.Laws.{symbol-none, symbol-some}
+use borrow.Author.Needs.{needs}
+use Rattle.term_scanner.proofs.scan_symbol.Statement.{statement}
+use Rattle.term_scanner.proofs.scan_symbol.Tie as tie
+
+returns : tie.Need-returns
+returns c = symbol-some _ _ _ _ _ _ (c .before .before .before .before .read-number .ensures) (c .before .before .e .given .1) (c .scan-mark .ensures)
+
+returns-2 : tie.Need-returns-2
+returns-2 c = symbol-none _ _ _ (c .before .before .read-number .ensures) (c .enum-told .given .1)
+
+pub scan-symbol-spec : {M : Type 1} → statement M
+scan-symbol-spec =
+    tie.close
+    (tie.spec (λ c κs. search needs) (λ c. search needs) (λ c κs. search needs) (λ c. search needs) returns returns-2)

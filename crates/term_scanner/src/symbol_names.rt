@@ -1,0 +1,47 @@
+// The sheet's symbols by name, as an answer text spells them.
+use super::ranges::monus;
+use super::ranges::same_range;
+use memory::wide;
+use node_table::name_length;
+use node_table::name_start;
+ghost use mathlib.Core.Path.{_≡_};
+ghost use mathlib.Core.Bool.{false};
+ghost use Prim.Native.Nat.{_+_, _-_, _<_};
+ghost use Rattle.scanning.specs.Scanning.{nameSize, isNamed, symbolFrom};
+
+// How many bytes the sheet has of the name of symbol k.
+pub fn name_size(sheet: &[u8], t: &[u32], k: u32) -> usize
+    ensures { λ r. ⌜ (r ≡ nameSize (now (sheet .entry)) (now (t .entry)) k) × (r < 4294967296) ⌝ }
+{
+    let n = wide(name_length(t, k));
+    let room = monus(sheet.len(), wide(name_start(t, k)));
+    if n < room {
+        return n;
+    }
+    room
+}
+
+// Whether symbol k is named by the text from i to e.
+fn is_named(sheet: &[u8], t: &[u32], k: u32, text: &[u8], i: usize, e: usize) -> bool
+    ensures { λ r. ⌜ r ≡ isNamed (now (sheet .entry)) (now (t .entry)) k (now (text .entry)) i e ⌝ }
+{
+    let n = name_size(sheet, t, k);
+    if monus(e, i) == n {
+        return same_range(n, text, i, sheet, wide(name_start(t, k)));
+    }
+    false
+}
+
+// The first of so many symbols that has the name from i to e; their number if none has.
+pub fn symbol_from(symbols: u32, sheet: &[u8], t: &[u32], text: &[u8], i: usize, e: usize) -> u32
+    ensures { λ r. ⌜ r ≡ symbolFrom symbols (now (sheet .entry)) (now (t .entry)) 0 (now (text .entry)) i e ⌝ }
+{
+    let mut k: u32 = 0;
+    while k < symbols {
+        if is_named(sheet, t, k, text, i, e) {
+            return k;
+        }
+        k += 1;
+    }
+    k
+}

@@ -1,0 +1,41 @@
+use Prim.Native.Nat.{_-_, _≤_}
+use native.Mathlib.Omega.{arith}
+use mathlib.Core.Path.{_≡_, sym}
+use lib.ListN.{length}
+use Rattle.scanning.specs.Ranges.{lineEnd}
+use Rattle.line_checking.specs.Judging.{judgeText}
+use Rattle.text_checker.proofs.Laws.{Rest, end-after, text-start, text-ends, text-breaks, text-on}
+use borrow.Author.Needs.{needs}
+use Rattle.text_checker.proofs.judge_text.Statement.{statement}
+use Rattle.text_checker.proofs.judge_text.Tie as tie
+
+abbrev Inv-loop : tie.InvT-loop
+Inv-loop sheet t symbols clauses goal text w₀ r₀ q₀ i₀ e₀ w r q i e = (length w ≡ length w₀) × (i ≤ length text) × (q ≤ i) × (e ≡ lineEnd text i) × Rest (judgeText sheet t symbols clauses goal text w₀) sheet t symbols clauses goal text w r q i
+
+abbrev μ-loop : tie.MeasureT-loop
+μ-loop sheet t symbols clauses goal text w₀ r₀ q₀ i₀ e₀ w r q i e = length text - i
+
+loop-holds : tie.Need-loop-holds Inv-loop μ-loop
+loop-holds c = (search needs, search needs, search needs, (c .line-end .ensures), text-start _ _ _ _ _ _ _ _ (c .before .start .ensures))
+
+judge-line-requires : tie.Need-judge-line-requires Inv-loop μ-loop
+judge-line-requires c κs = (search needs, omega (arith, end-after (c .before .before .before .before .before .before .before .before .before .args .text .now) _ _ (c .before .before .loop .inv .3)), omega (arith, end-after (c .before .before .before .before .before .before .before .before .before .args .text .now) _ _ (c .before .before .loop .inv .3)), search needs)
+
+returns : tie.Need-returns Inv-loop μ-loop
+returns c = sym (text-breaks _ _ _ _ _ _ _ _ _ _ _ _ (c .before .before .before .before .before .before .loop .inv .1) (c .before .before .before .before .before .before .loop .inv .3) _ _ (c .before .before .before .judge-line .ensures) (c .before .before .before .before .before .loop-test .taken) (c .before .before .before .before .before .before .loop .inv .4) (c .if1 .taken))
+
+loop-less : tie.Need-loop-less Inv-loop μ-loop
+loop-less c = omega (arith, end-after (c .before .before .before .before .before .before .before .before .before .before .before .before .before .before .args .text .now) _ _ (c .before .before .before .before .before .before .before .loop .inv .3))
+
+loop-again : tie.Need-loop-again Inv-loop μ-loop
+loop-again c = (search needs, search needs, omega (arith, end-after (c .before .before .before .before .before .before .before .before .before .before .before .before .before .before .args .text .now) _ _ (c .before .before .before .before .before .before .before .loop .inv .3)), (c .line-end2 .ensures), text-on _ _ _ _ _ _ _ _ _ _ _ _ (c .before .before .before .before .before .before .before .loop .inv .1) (c .before .before .before .before .before .before .before .loop .inv .3) _ _ (c .before .before .before .before .judge-line .ensures) (c .before .before .before .before .before .before .loop-test .taken) (c .before .before .before .before .before .before .before .loop .inv .4) (c .before .if1 .left))
+
+returns-2 : tie.Need-returns-2 Inv-loop μ-loop
+returns-2 c = sym (text-ends _ _ _ _ _ _ _ _ _ _ _ _ (c .before .before .loop .inv .1) (c .before .before .loop .inv .3) _ (c .before .before .loop .inv .4) (c .before .loop-test .left) (c .end-verdict .ensures))
+
+pub judge-text-spec : {M : Type 1} → statement M
+judge-text-spec =
+    tie.close
+    (tie.spec Inv-loop μ-loop (λ c κs. search needs) (λ c κs. search needs) loop-holds judge-line-requires (λ c. search needs)
+    (λ c. search needs) returns (λ c. search needs) (λ c. search needs) (λ c κs. search needs) loop-less loop-again
+    (λ c κs. search needs) (λ c. search needs) returns-2)

@@ -1,0 +1,91 @@
+// A D line, by the goal of the sequent that is due. Each function is a definition of the crate line_checking, and its contract
+// says so.
+use line_checking::Registers;
+use line_rules::clause_rules::clause_line;
+use line_rules::connective_rules::and_line;
+use line_rules::connective_rules::assume_line;
+use line_rules::connective_rules::or_line;
+use line_rules::connective_rules::true_line;
+use line_rules::quantifier_rules::all_line;
+use line_rules::quantifier_rules::some_line;
+use node_table::kind;
+ghost use mathlib.Core.Path.{_≡_};
+ghost use Prim.Native.Nat.{_+_, _<_};
+ghost use lib.ListN.{length};
+ghost use Rattle.line_checking.specs.Sequents.{made};
+ghost use Rattle.line_checking.specs.Judging.{quantifierLine, connectiveLine, sequentLine};
+
+// The goal is E or U.
+pub fn quantifier_line(
+    sheet: &[u8],
+    t: &[u32],
+    symbols: u32,
+    text: &[u8],
+    w: &mut [u32],
+    r: Registers,
+    q: u32,
+    i: usize,
+    e: usize,
+) -> Registers
+    requires { ⌜ (i + 7 < 4294967296) × (e < 4294967296) ⌝ }
+    ensures { λ s. ⌜ made (now (w .exit)) s ≡ quantifierLine (now (sheet .entry)) (now (t .entry)) symbols (now (text .entry)) (now (w .entry)) r q i e ⌝ }
+{
+    if kind(t, r.node) == 7 {
+        return some_line(sheet, t, symbols, text, w, r, q, i, e);
+    }
+    all_line(t, text, w, r, q, i, e)
+}
+
+// The goal is no atom and not Y.
+pub fn connective_line(
+    sheet: &[u8],
+    t: &[u32],
+    symbols: u32,
+    text: &[u8],
+    w: &mut [u32],
+    r: Registers,
+    q: u32,
+    i: usize,
+    e: usize,
+) -> Registers
+    requires { ⌜ (q + 1 < 4294967296) × (i + 7 < 4294967296) × (e < 4294967296) ⌝ }
+    ensures { λ s. ⌜ made (now (w .exit)) s ≡ connectiveLine (now (sheet .entry)) (now (t .entry)) symbols (now (text .entry)) (now (w .entry)) r q i e ⌝ }
+{
+    let sort = kind(t, r.node);
+    if sort == 4 {
+        return and_line(t, text, w, r, q, i, e);
+    }
+    if sort == 5 {
+        return or_line(t, text, r, i, e);
+    }
+    if sort == 6 {
+        return assume_line(t, text, w, r, q, i, e);
+    }
+    quantifier_line(sheet, t, symbols, text, w, r, q, i, e)
+}
+
+// A D line, by the kind of the goal that is due.
+pub fn sequent_line(
+    sheet: &[u8],
+    t: &[u32],
+    symbols: u32,
+    clauses: u32,
+    text: &[u8],
+    w: &mut [u32],
+    r: Registers,
+    q: u32,
+    i: usize,
+    e: usize,
+) -> Registers
+    requires { ⌜ (length (now text) < 4294967296) × (q + 1 < 4294967296) × (i + 7 < 4294967296) × (e < 4294967296) ⌝ }
+    ensures { λ s. ⌜ made (now (w .exit)) s ≡ sequentLine (now (sheet .entry)) (now (t .entry)) symbols clauses (now (text .entry)) (now (w .entry)) r q i e ⌝ }
+{
+    let sort = kind(t, r.node);
+    if sort == 2 {
+        return clause_line(sheet, t, symbols, clauses, text, w, r, q, i, e);
+    }
+    if sort == 3 {
+        return true_line(text, w, r, i, e);
+    }
+    connective_line(sheet, t, symbols, text, w, r, q, i, e)
+}

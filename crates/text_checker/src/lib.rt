@@ -1,0 +1,136 @@
+// Judging an answer text line by line: the first line that breaks, or valid. Each function is a definition of the crate
+// line_checking, and its contract says so.
+mod derivation_lines;
+
+use checker_state::registers::broken;
+use checker_state::registers::on_counts;
+use checker_state::registers::start;
+use derivation_lines::sequent_line;
+use line_checking::Registers;
+use line_rules::binding_lines::bind_line;
+use line_rules::result_lines::open_line;
+use numbering_check::show_from;
+use scanning::Shown;
+use term_scanner::ranges::line_end;
+ghost use mathlib.Core.Path.{_≡_};
+ghost use mathlib.Core.List.{List};
+ghost use Prim.Native.Nat.{ℕ, _+_, _<_, _≤_};
+ghost use lib.ListN.{length};
+ghost use Rattle.line_checking.specs.Sequents.{made};
+ghost use Rattle.line_checking.specs.Judging.{stageLine, countLine, orderLine, judgeLine, judged, endVerdict, judgeText};
+
+// A line, by the stage; where no line is due it is a surplus one.
+pub fn stage_line(
+    sheet: &[u8],
+    t: &[u32],
+    symbols: u32,
+    clauses: u32,
+    goal: u32,
+    text: &[u8],
+    w: &mut [u32],
+    r: Registers,
+    q: u32,
+    i: usize,
+    e: usize,
+) -> Registers
+    requires { ⌜ (length (now text) < 4294967296) × (q + 1 < 4294967296) × (i + 7 < 4294967296) × (e < 4294967296) ⌝ }
+    ensures { λ s. ⌜ made (now (w .exit)) s ≡ stageLine (now (sheet .entry)) (now (t .entry)) symbols clauses goal (now (text .entry)) (now (w .entry)) r q i e ⌝ }
+{
+    let stage = r.stage;
+    if stage == 0 {
+        return open_line(t, goal, text, r, i, e);
+    }
+    if stage == 1 {
+        return bind_line(sheet, t, symbols, goal, text, w, r, q, i, e);
+    }
+    if stage == 2 {
+        return sequent_line(sheet, t, symbols, clauses, text, w, r, q, i, e);
+    }
+    broken(r)
+}
+
+// The symbols in the line are numbered by first showing.
+pub fn count_line(text: &[u8], r: Registers, i: usize, e: usize) -> Registers
+    ensures { λ s. ⌜ ((w : List ℕ) → made w s ≡ countLine (now (text .entry)) (made w r) i e) ⌝ }
+{
+    match show_from(text, i, e, r.made, r.leftover) {
+        Shown::Counts(m, l) => on_counts(r, m, l),
+        Shown::Misnumbered => broken(r),
+    }
+}
+
+// Unless the line has broken already.
+pub fn order_line(text: &[u8], r: Registers, i: usize, e: usize) -> Registers
+    ensures { λ s. ⌜ ((w : List ℕ) → made w s ≡ orderLine (now (text .entry)) (made w r) i e) ⌝ }
+{
+    let stage = r.stage;
+    if stage == 4 {
+        return r;
+    }
+    count_line(text, r, i, e)
+}
+
+// Line q, from i to e: at its stage, then its numbering.
+pub fn judge_line(
+    sheet: &[u8],
+    t: &[u32],
+    symbols: u32,
+    clauses: u32,
+    goal: u32,
+    text: &[u8],
+    w: &mut [u32],
+    r: Registers,
+    q: u32,
+    i: usize,
+    e: usize,
+) -> Registers
+    requires { ⌜ (length (now text) < 4294967296) × (q + 1 < 4294967296) × (i + 7 < 4294967296) × (e < 4294967296) ⌝ }
+    ensures { λ s. ⌜ made (now (w .exit)) s ≡ judgeLine (now (sheet .entry)) (now (t .entry)) symbols clauses goal (now (text .entry)) (now (w .entry)) r q i e ⌝ }
+{
+    let s = stage_line(sheet, t, symbols, clauses, goal, text, w, r, q, i, e);
+    order_line(text, s, i, e)
+}
+
+// No LF from i on: right if no byte is left and no line is due.
+pub fn end_verdict(text: &[u8], r: Registers, q: u32, i: usize) -> u32
+    requires { ⌜ q + 1 < 4294967296 ⌝ }
+    ensures { λ v. ⌜ v ≡ endVerdict (now (text .entry)) r q i ⌝ }
+{
+    if i == text.len() {
+        if r.stage == 3 {
+            return 0;
+        }
+        return q + 1;
+    }
+    q + 1
+}
+
+// The verdict on the whole text: 0 for valid, or the number of the line that breaks, counted from 1.
+pub fn judge_text(
+    sheet: &[u8],
+    t: &[u32],
+    symbols: u32,
+    clauses: u32,
+    goal: u32,
+    text: &[u8],
+    w: &mut [u32],
+) -> u32
+    requires { ⌜ length (now text) + 7 ≤ 4294967296 ⌝ }
+    ensures { λ v. ⌜ judged (now (w .exit)) v ≡ judgeText (now (sheet .entry)) (now (t .entry)) symbols clauses goal (now (text .entry)) (now (w .entry)) ⌝ }
+{
+    let mut r = start();
+    let mut q: u32 = 0;
+    let mut i: usize = 0;
+    let mut e = line_end(text, 0);
+    while e < text.len() {
+        r = judge_line(sheet, t, symbols, clauses, goal, text, w, r, q, i, e);
+        let stage = r.stage;
+        if stage == 4 {
+            return q + 1;
+        }
+        q += 1;
+        i = e + 1;
+        e = line_end(text, i);
+    }
+    end_verdict(text, r, q, i)
+}
