@@ -12,7 +12,6 @@ warnings=(-Wall -Wextra -Wpedantic -Werror)
 example=examples/c/rules_example.c
 "${CC:-cc}" -std=c99 "${warnings[@]}" -O2 -I include -o "$work/c" $example "$library"
 "${CXX:-c++}" -std=c++11 "${warnings[@]}" -O2 -I include -o "$work/cxx" -x c++ $example -x none "$library"
-(cd bindings/rust && cargo fmt --check)
 RULES_LIBRARY=$library cargo build --release --offline --quiet --manifest-path bindings/rust/Cargo.toml --example answer
 cp bindings/rust/target/release/examples/answer "$work/rust"
 

@@ -1,8 +1,8 @@
 //! A call of the library and of the independent implementation, compared in everything that can be seen afterwards.
 
-use reference::generate::{CheckCall, RunCall};
-use reference::perform::After;
-use reference::{interface, perform};
+use calls::generate::{CheckCall, RunCall};
+use calls::perform::After;
+use reference::interface;
 
 /// What the library leaves, if it is what the independent implementation leaves; otherwise what differs.
 pub fn compare_run(call: &RunCall) -> Result<After, String> {
@@ -86,4 +86,4 @@ fn shown(bytes: &[u8]) -> String {
     format!("{}{cut}", bytes[..bytes.len().min(most)].escape_ascii()).replace("\\n", "\n")
 }
 
-pub use perform::{Check, Run};
+pub use calls::perform::{Check, Run};

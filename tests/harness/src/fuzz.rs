@@ -1,8 +1,8 @@
 //! Calls with bytes that nobody planned, on buffers between forbidden pages.
 
-use reference::generate::{changed_text, damaged, noise, runs_of, sheet, special_text, CheckCall, RunCall};
-use reference::perform::After;
-use reference::random::Random;
+use calls::generate::{changed_text, damaged, noise, runs_of, sheet, special_text, CheckCall, RunCall};
+use calls::perform::After;
+use calls::random::Random;
 use reference::{answer, interface};
 
 use crate::guard::{Against, Guarded};

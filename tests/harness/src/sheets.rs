@@ -1,6 +1,6 @@
 //! Sheets with much to search, for figures and tests.
 
-use reference::generate::builder::Builder;
+use calls::generate::builder::Builder;
 
 /// A name for the figures, and the sheet.
 pub type Named = (&'static str, Vec<u8>);

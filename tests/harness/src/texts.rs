@@ -1,6 +1,6 @@
 //! Texts that are hard to check, as long as wanted: the checker's worst cases.
 
-use reference::generate::builder::Builder;
+use calls::generate::builder::Builder;
 
 /// A sheet and a text for it that is valid.
 pub struct Hard {

@@ -1,32 +1,7 @@
 //! The stored cases and the rehearsed sheets of document 01, through the Rust bindings.
 
-use std::fs;
-use std::path::PathBuf;
-
+use calls::stored::{cases, stored};
 use rules::{check, run, Outcome, Refusal, Run, Verdict};
-
-fn folder() -> PathBuf {
-    PathBuf::from(env!("CARGO_MANIFEST_DIR")).join("../cases")
-}
-
-/// The names of the stored cases.
-fn names() -> Vec<String> {
-    let entries = fs::read_dir(folder()).expect("the folder of cases");
-    let names = entries.map(|entry| {
-        entry
-            .expect("an entry")
-            .file_name()
-            .into_string()
-            .expect("a plain name")
-    });
-    names
-        .filter_map(|name| name.strip_suffix(".sheet").map(str::to_string))
-        .collect()
-}
-
-fn stored(name: &str, ending: &str) -> Vec<u8> {
-    fs::read(folder().join(format!("{name}.{ending}"))).expect("a stored file")
-}
 
 /// A run with buffers that are as long as they must be.
 fn answer(sheet: &[u8], budget: u32, answer_bytes: usize) -> (Run, Vec<u8>) {
@@ -45,10 +20,9 @@ fn verdict(sheet: &[u8], text: &[u8]) -> Verdict {
 
 #[test]
 fn stored_cases() {
-    let names = names();
-    assert!(names.len() > 100);
-    for name in names {
-        let sheet = stored(&name, "sheet");
+    let cases = cases();
+    assert!(cases.len() > 100);
+    for (name, sheet) in cases {
         for (budget, answer_bytes) in [(256, 16_384), (50_000, 65_535)] {
             let (ended, text) = answer(&sheet, budget, answer_bytes);
             let printed = match ended.outcome {

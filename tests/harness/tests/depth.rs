@@ -7,11 +7,11 @@
 
 use std::thread;
 
+use calls::generate::{CheckCall, RunCall};
+use calls::perform::After;
 use harness::compare::{compare_check, compare_run};
 use harness::{sheets, texts};
 use reference::api::work_demanded;
-use reference::generate::{CheckCall, RunCall};
-use reference::perform::After;
 use reference::{answer, Outcome};
 
 const STACK: usize = 8 * 1024 * 1024;

@@ -1,9 +1,9 @@
 //! Long searches and texts that are hard to check, compared with the independent implementation in full.
 
+use calls::generate::{CheckCall, RunCall};
 use harness::compare::{compare_check, compare_run, describe_check, describe_run};
 use harness::{sheets, texts};
 use reference::api::work_demanded;
-use reference::generate::{CheckCall, RunCall};
 use reference::{check, Verdict};
 
 fn whole_run(sheet: Vec<u8>, budget: u32) -> RunCall {

@@ -2,10 +2,10 @@
 //! and every number of every buffer afterwards, with soiled buffers that are exact, longer than needed or one too
 //! short.
 
+use calls::generate::{runs, sheet};
 use harness::compare::{compare_run, describe_run, run_name};
 use harness::options;
 use harness::tally::over_seeds;
-use reference::generate::{runs, sheet};
 
 #[test]
 fn generated_sheets() {

@@ -1,10 +1,10 @@
 //! The proved checker beside the independent implementation on texts: proofs, changed proofs, other sheets' texts,
 //! texts made for one part of the checker; verdict, line, refusal, and every number of every buffer afterwards.
 
+use calls::generate::{checks, sheet};
 use harness::compare::{check_name, compare_check, describe_check};
 use harness::options;
 use harness::tally::over_seeds;
-use reference::generate::{checks, sheet};
 
 #[test]
 fn generated_texts() {

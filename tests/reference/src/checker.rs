@@ -6,8 +6,7 @@
 use std::collections::HashMap;
 use std::rc::Rc;
 
-use crate::fault::Fault;
-use crate::field::{fields, is_name, is_name_byte, lines, number, Line};
+use crate::field::{fields, is_name_byte, lines, number, Line};
 use crate::formula::{Member, Members, Node, Shape};
 use crate::limits::LARGEST_BUDGET;
 use crate::list::List;
@@ -15,21 +14,17 @@ use crate::sheet::Sheet;
 use crate::term::Environment;
 
 /// Says "valid", or the first line that breaks.
-pub fn check(sheet: &Sheet, text: &[u8], fault: Option<Fault>) -> Result<(), u32> {
+pub fn check(sheet: &Sheet, text: &[u8]) -> Result<(), u32> {
     let mut checker = Checker {
         sheet,
-        lines: lines(text, fault),
+        lines: lines(text),
         read: 0,
         terms: Terms::new(),
         variables: Numbering::new(),
         constants: Numbering::new(),
-        fault,
     };
-    // What a line leaves to be done is judged by the lines after it, so a fault is always one of the line read last.
-    checker.text().ok_or_else(|| match fault {
-        Some(Fault::MissingNamesLast) => checker.read.min(checker.lines.len()) as u32,
-        _ => checker.read as u32,
-    })
+    // What a line leaves to be done is judged by the lines after it, so what breaks is always the line read last.
+    checker.text().ok_or(checker.read as u32)
 }
 
 /// A term of the text. Equal terms have equal numbers, so comparing never unfolds them.
@@ -77,7 +72,7 @@ impl Terms {
     }
 
     /// Whether two terms are the same. Both sides are sheet terms of bounded size, or terms of the text.
-    fn equal(&self, left: Instance, right: Instance, fault: Option<Fault>) -> bool {
+    fn equal(&self, left: Instance, right: Instance) -> bool {
         let mut pairs = vec![(left, right)];
         while let Some((left, right)) = pairs.pop() {
             if let (Instance::Text(left), Instance::Text(right)) = (&left, &right) {
@@ -92,9 +87,6 @@ impl Terms {
             };
             if left_symbol != right_symbol {
                 return false;
-            }
-            if fault == Some(Fault::ArgumentsOfTermsUncompared) {
-                continue;
             }
             pairs.extend(left.into_iter().zip(right));
         }
@@ -143,20 +135,12 @@ impl Numbering {
     }
 
     /// Whether number and level may stand here: known with this level, or the next number.
-    fn shows(&mut self, number: u32, level: u32, fault: Option<Fault>) -> bool {
-        if fault == Some(Fault::NumberingPerLevel) {
-            let next = self.0.iter().filter(|&&shown| shown == level).count() as u32;
-            if number == next {
-                self.0.push(level);
-            }
-            return number <= next;
-        }
+    fn shows(&mut self, number: u32, level: u32) -> bool {
         let next = self.0.len() as u32;
         if number == next {
             self.0.push(level);
         }
-        let known = |number: u32| self.0[number as usize] == level || fault == Some(Fault::LevelOfNumberForgotten);
-        number <= next && known(number)
+        number <= next && self.0[number as usize] == level
     }
 }
 
@@ -164,8 +148,6 @@ impl Numbering {
 struct Clause {
     members: Members,
     environment: Environment<TermId>,
-    /// The level at which it was assumed; only a fault asks for it.
-    level: u32,
 }
 
 /// A sequent: program (assumptions, latest first, and the sheet's clauses), goal and level.
@@ -185,40 +167,31 @@ struct Checker<'a> {
     terms: Terms,
     variables: Numbering,
     constants: Numbering,
-    fault: Option<Fault>,
 }
 
 impl<'a> Checker<'a> {
     /// None: the line read last breaks.
     fn text(&mut self) -> Option<()> {
         match self.line()?[..] {
-            [b"R", outcome, units] if outcome == b"proved" || self.fault == Some(Fault::OutcomeUnchecked) => {
-                let in_range = |units: &u32| (1..=LARGEST_BUDGET).contains(units);
-                let unchecked = self.fault == Some(Fault::UnitsUnchecked);
-                number(units, self.fault).filter(|units| in_range(units) || unchecked)?;
-            }
+            [b"R", b"proved", units] => number(units).filter(|units| (1..=LARGEST_BUDGET).contains(units))?,
             _ => return None,
-        }
+        };
         let mut environment = Environment::empty();
         for free in self.sheet.goal.free.ascending() {
             match self.line()?[..] {
-                [b"B", v, term] if number(v, self.fault) == Some(u32::from(free)) => {
-                    let highest = match self.fault {
-                        Some(Fault::AnswerLevelUnchecked) => u32::MAX,
-                        _ => 0,
-                    };
-                    let term = self.term_up_to(term, highest)?;
+                [b"B", v, term] if number(v) == Some(u32::from(free)) => {
+                    let term = self.term_up_to(term, 0)?;
                     environment = environment.with(free, term);
                 }
                 _ => return None,
             }
         }
+        let sheet = Clause {
+            members: self.sheet.program.clone(),
+            environment: Environment::empty(),
+        };
         let mut open = List::empty().with(Sequent {
-            program: List::empty().with(Clause {
-                members: self.sheet.program.clone(),
-                environment: Environment::empty(),
-                level: 0,
-            }),
+            program: List::empty().with(sheet),
             goal: self.sheet.goal.clone(),
             environment,
             level: 0,
@@ -227,7 +200,7 @@ impl<'a> Checker<'a> {
             let (sequent, rest) = (sequent.clone(), rest.clone());
             open = self.step(sequent, rest)?;
         }
-        if self.read < self.lines.len() && self.fault != Some(Fault::SurplusAccepted) {
+        if self.read < self.lines.len() {
             self.read += 1;
             return None;
         }
@@ -264,14 +237,10 @@ impl<'a> Checker<'a> {
                 })
             }
             (Shape::Every(v, goal), b"all", [constant]) => {
-                let level = sequent.level + 1;
-                let constant = self.made_constant(constant, level)?;
+                let constant = self.made_constant(constant, sequent.level + 1)?;
                 rest.with(Sequent {
                     environment: sequent.environment.with(*v, constant),
-                    level: match self.fault {
-                        Some(Fault::LevelNotRaised) => sequent.level,
-                        _ => level,
-                    },
+                    level: sequent.level + 1,
                     ..part(goal)
                 })
             }
@@ -279,32 +248,20 @@ impl<'a> Checker<'a> {
                 let assumed = Clause {
                     members: self.sheet.members[clause.number].clone(),
                     environment: sequent.environment.clone(),
-                    level: sequent.level,
                 };
-                let beside = match self.fault {
-                    Some(Fault::AssumptionKept) => rest.map(|beside| Sequent {
-                        program: beside.program.with(assumed.clone()),
-                        ..beside.clone()
-                    }),
-                    _ => rest,
-                };
-                beside.with(Sequent {
+                rest.with(Sequent {
                     program: sequent.program.with(assumed),
                     ..part(goal)
                 })
             }
             (Shape::Atom(..), b"clause", [place, terms @ ..]) => {
-                let (clause, member) = self.member_at(&sequent, number(place, self.fault)?)?;
+                let (clause, member) = member_at(&sequent.program, number(place)?)?;
                 if terms.len() != member.prefix.len() {
                     return None;
                 }
-                let highest = match self.fault {
-                    Some(Fault::PrefixLevelOfAssumption) => clause.level,
-                    _ => sequent.level,
-                };
                 let terms = terms
                     .iter()
-                    .map(|term| self.term_up_to(term, highest))
+                    .map(|term| self.term_up_to(term, sequent.level))
                     .collect::<Option<Vec<TermId>>>()?;
                 let environment = clause.environment.with_all(&member.prefix, &terms);
                 if !self.equal_atoms(&sequent.goal, &sequent.environment, &member.head, &environment) {
@@ -329,54 +286,25 @@ impl<'a> Checker<'a> {
         head: &Rc<Node>,
         head_environment: &Environment<TermId>,
     ) -> bool {
-        let compared = match self.fault {
-            Some(Fault::HeadUncompared) => 0,
-            Some(Fault::FirstArgumentCompared) => 1,
-            _ => goal.arguments().len(),
-        };
-        let mut arguments = goal.arguments().iter().zip(head.arguments()).take(compared);
+        let mut arguments = goal.arguments().iter().zip(head.arguments());
         goal.symbol() == head.symbol()
             && arguments.all(|(left, right)| {
                 let left = Instance::new(left, goal_environment);
-                self.terms
-                    .equal(left, Instance::new(right, head_environment), self.fault)
+                self.terms.equal(left, Instance::new(right, head_environment))
             })
-    }
-
-    /// The member at a place, counted from 1 in trying order.
-    fn member_at(&self, sequent: &Sequent, place: u32) -> Option<(Clause, Rc<Member>)> {
-        match self.fault {
-            Some(Fault::AssumptionsLast) => member_at(&sequent.program.reversed(), place),
-            Some(Fault::PlacesAmongMatching) => {
-                let members = sequent.program.iter().flat_map(|clause| clause.members.iter());
-                let mut places = members
-                    .zip(1..)
-                    .filter(|(member, _)| member.head.symbol() == sequent.goal.symbol());
-                let (_, place) = places.nth((place as usize).checked_sub(1)?)?;
-                member_at(&sequent.program, place)
-            }
-            _ => member_at(&sequent.program, place),
-        }
     }
 
     /// "U any made constant of level I + 1"
     fn made_constant(&mut self, field: &[u8], level: u32) -> Option<TermId> {
-        let known = self.terms.spelled.len();
         let term = self.term(field)?;
-        let right = match self.terms.spelled[term] {
-            Spelled::Constant(_, made_at) => made_at == level || self.fault == Some(Fault::ConstantLevelUnchecked),
-            Spelled::Variable(_, shown) => shown == level && self.fault == Some(Fault::LeftoverForEvery),
-            Spelled::Application(..) => false,
-        };
-        let new = term >= known || self.fault != Some(Fault::ConstantMustBeNew);
-        (right && new).then_some(term)
+        let right = matches!(self.terms.spelled[term], Spelled::Constant(_, made_at) if made_at == level);
+        right.then_some(term)
     }
 
     /// A term "whose symbols have level at most" the given one.
     fn term_up_to(&mut self, field: &[u8], level: u32) -> Option<TermId> {
         let term = self.term(field)?;
-        let in_range = self.terms.levels[term] <= level || self.fault == Some(Fault::WitnessLevelUnchecked);
-        in_range.then_some(term)
+        (self.terms.levels[term] <= level).then_some(term)
     }
 
     /// "A term is written as its name and, in round brackets, its arguments parted by commas, a constant as the bare
@@ -388,8 +316,8 @@ impl<'a> Checker<'a> {
         loop {
             let mut read = match rest.first()? {
                 kind @ (b'_' | b'!') => {
-                    let (number, after) = self.digits(&rest[1..])?;
-                    let (level, after) = self.digits(after.strip_prefix(b"@")?)?;
+                    let (number, after) = digits(&rest[1..])?;
+                    let (level, after) = digits(after.strip_prefix(b"@")?)?;
                     rest = after;
                     self.numbered(*kind == b'!', number, level)?
                 }
@@ -402,9 +330,6 @@ impl<'a> Checker<'a> {
                         rest = rest.strip_prefix(b"(")?;
                         open.push((symbol, Vec::new()));
                         continue;
-                    }
-                    if self.fault == Some(Fault::EmptyBrackets) {
-                        rest = rest.strip_prefix(b"()").unwrap_or(rest);
                     }
                     self.terms.id(Spelled::Application(symbol, Vec::new()))
                 }
@@ -431,7 +356,7 @@ impl<'a> Checker<'a> {
         } else {
             &mut self.variables
         };
-        if self.fault != Some(Fault::WrongNumberAccepted) && !numbering.shows(number, level, self.fault) {
+        if !numbering.shows(number, level) {
             return None;
         }
         Some(self.terms.id(if constant {
@@ -443,17 +368,16 @@ impl<'a> Checker<'a> {
 
     /// The function symbol of that name; predicates are no terms.
     fn function(&self, name: &[u8]) -> Option<usize> {
-        let found = self.sheet.symbols.iter().position(|symbol| symbol.name == name)?;
-        let function = !self.sheet.symbols[found].predicate || self.fault == Some(Fault::PredicateInTerm);
-        (is_name(name, self.fault) && function).then_some(found)
+        let mut symbols = self.sheet.symbols.iter();
+        symbols.position(|symbol| symbol.name == name && !symbol.predicate)
     }
+}
 
-    /// A number at the start of the bytes, and what follows it.
-    fn digits<'b>(&self, bytes: &'b [u8]) -> Option<(u32, &'b [u8])> {
-        let length = bytes.iter().take_while(|byte| byte.is_ascii_digit()).count();
-        let (digits, after) = bytes.split_at(length);
-        Some((number(digits, self.fault)?, after))
-    }
+/// A number at the start of the bytes, and what follows it.
+fn digits(bytes: &[u8]) -> Option<(u32, &[u8])> {
+    let length = bytes.iter().take_while(|byte| byte.is_ascii_digit()).count();
+    let (digits, after) = bytes.split_at(length);
+    Some((number(digits)?, after))
 }
 
 /// The member at a place, counted from 1 in trying order.

@@ -1,7 +1,6 @@
 //! The forms that sheets and answer texts share: lines, fields, numbers and names.
 
-use crate::fault::Fault;
-use crate::limits::{limit, Limit};
+use crate::limits::{LARGEST_NUMBER, NAME_BYTES};
 
 /// A line without its LF; `closed` says whether the LF is there.
 #[derive(Clone, Copy)]
@@ -11,14 +10,14 @@ pub struct Line<'a> {
 }
 
 /// The lines of a byte string; only the last can lack its LF, and an empty rest is no line.
-pub fn lines(bytes: &[u8], fault: Option<Fault>) -> Vec<Line<'_>> {
+pub fn lines(bytes: &[u8]) -> Vec<Line<'_>> {
     let mut lines: Vec<Line> = bytes
         .split(|&byte| byte == b'\n')
         .map(|bytes| Line { bytes, closed: true })
         .collect();
     let mut rest = lines.pop().expect("a split has at least one part");
     if !rest.bytes.is_empty() {
-        rest.closed = fault == Some(Fault::ClosingLfNotAsked);
+        rest.closed = false;
         lines.push(rest);
     }
     lines
@@ -30,21 +29,21 @@ pub fn fields(line: &[u8]) -> Vec<&[u8]> {
 }
 
 /// "Numbers are in base ten, without sign or leading zeros, up to 65,535."
-pub fn number(field: &[u8], fault: Option<Fault>) -> Option<u32> {
+pub fn number(field: &[u8]) -> Option<u32> {
     let digits = field.iter().all(u8::is_ascii_digit);
-    let leading_zero = field.len() > 1 && field[0] == b'0' && fault != Some(Fault::LeadingZeros);
+    let leading_zero = field.len() > 1 && field[0] == b'0';
     if field.is_empty() || field.len() > 5 || !digits || leading_zero {
         return None;
     }
     let value = field
         .iter()
         .fold(0, |value, digit| 10 * value + u32::from(digit - b'0'));
-    (value as usize <= limit(Limit::Number, fault)).then_some(value)
+    (value <= LARGEST_NUMBER).then_some(value)
 }
 
 /// "Names are 1 to 16 of a to z, 0 to 9 and `_`, a letter first."
-pub fn is_name(field: &[u8], fault: Option<Fault>) -> bool {
-    (1..=limit(Limit::NameBytes, fault)).contains(&field.len())
+pub fn is_name(field: &[u8]) -> bool {
+    (1..=NAME_BYTES).contains(&field.len())
         && field[0].is_ascii_lowercase()
         && field.iter().all(|&byte| is_name_byte(byte))
 }

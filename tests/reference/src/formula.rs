@@ -5,8 +5,7 @@
 
 use std::rc::Rc;
 
-use crate::fault::Fault;
-use crate::limits::{limit, Limit};
+use crate::limits::{MEMBERS, TERM_SIZE};
 
 /// A function symbol or a predicate; both share one numbering.
 #[derive(Clone, PartialEq, Eq, Debug)]
@@ -74,7 +73,7 @@ pub struct Node {
 
 impl Node {
     /// Document 01, "The sheet": the kinds of a node. None if it is neither term, goal nor clause (refusal 9).
-    pub fn new(number: usize, shape: Shape, fault: Option<Fault>) -> Option<Node> {
+    pub fn new(number: usize, shape: Shape) -> Option<Node> {
         let mut node = Node {
             number,
             is_term: false,
@@ -91,7 +90,7 @@ impl Node {
             }
             Shape::Application(_, arguments) => {
                 let size = 1 + arguments.iter().map(|term| term.size).sum::<usize>();
-                if arguments.iter().all(|term| term.is_term) && size <= limit(Limit::TermSize, fault) {
+                if arguments.iter().all(|term| term.is_term) && size <= TERM_SIZE {
                     node.is_term = true;
                     node.size = size;
                 }
@@ -106,8 +105,7 @@ impl Node {
             Shape::And(left, right) => {
                 node.is_goal = left.is_goal && right.is_goal;
                 node.members = match (left.members, right.members) {
-                    (Some(left), Some(right)) if left + right <= limit(Limit::Members, fault) => Some(left + right),
-                    (Some(_), Some(_)) if fault == Some(Fault::ManyMembersNoGoal) => return None,
+                    (Some(left), Some(right)) if left + right <= MEMBERS => Some(left + right),
                     _ => None,
                 };
             }
@@ -174,7 +172,7 @@ pub type Members = Rc<[Rc<Member>]>;
 
 /// The members of a clause node, from those of the nodes before it (`known`, by node number); none for other nodes.
 /// "U adds its variable to the prefix of each member in which it stands free."
-pub fn members(node: &Rc<Node>, known: &[Members], fault: Option<Fault>) -> Members {
+pub fn members(node: &Rc<Node>, known: &[Members]) -> Members {
     if !node.is_clause() {
         return Rc::new([]);
     }
@@ -190,31 +188,24 @@ pub fn members(node: &Rc<Node>, known: &[Members], fault: Option<Fault>) -> Memb
         Shape::Atom(..) => single(node, None),
         Shape::Implies(body, head) => single(head, Some(body)),
         Shape::And(left, right) => {
-            let (first, second) = match fault {
-                Some(Fault::MembersRightFirst) => (right, left),
-                _ => (left, right),
-            };
-            let (first, second) = (&known[first.number], &known[second.number]);
-            first.iter().chain(second.iter()).cloned().collect()
+            let (left, right) = (&known[left.number], &known[right.number]);
+            left.iter().chain(right.iter()).cloned().collect()
         }
         Shape::Every(variable, part) => known[part.number]
             .iter()
-            .map(|member| member.under(*variable, fault))
+            .map(|member| member.under(*variable))
             .collect(),
         _ => unreachable!("no other shape is a clause"),
     }
 }
 
 impl Member {
-    fn under(self: &Rc<Member>, variable: u8, fault: Option<Fault>) -> Rc<Member> {
-        if !self.free.holds(variable) && fault != Some(Fault::PrefixOfIdle) {
+    fn under(self: &Rc<Member>, variable: u8) -> Rc<Member> {
+        if !self.free.holds(variable) {
             return self.clone();
         }
         let mut prefix = self.prefix.clone();
-        match fault {
-            Some(Fault::PrefixInnermostFirst) => prefix.push(variable),
-            _ => prefix.insert(0, variable),
-        }
+        prefix.insert(0, variable);
         Rc::new(Member {
             prefix,
             head: self.head.clone(),

@@ -8,17 +8,12 @@
 
 pub mod api;
 pub mod checker;
-pub mod dirt;
-pub mod fault;
 pub mod field;
 pub mod formula;
-pub mod generate;
 pub mod interface;
 pub mod limits;
 pub mod list;
 pub mod map;
-pub mod perform;
-pub mod random;
 pub mod refusal;
 pub mod search;
 pub mod sheet;
@@ -27,5 +22,4 @@ pub mod text;
 pub mod unification;
 
 pub use api::{answer, check, check_text, engine_run, runner, Outcome, Run, Verdict};
-pub use fault::Fault;
 pub use refusal::Refusal;

@@ -1,9 +1,7 @@
 //! The numbers document 01 fixes, each with the paragraph it stands in.
 
-use crate::fault::Fault;
-
 /// "Numbers are in base ten, ... up to 65,535."
-pub const LARGEST_NUMBER: usize = 65_535;
+pub const LARGEST_NUMBER: u32 = 65_535;
 /// "The sheet": arity 0 to 4.
 pub const LARGEST_ARITY: usize = 4;
 /// "The sheet": variables 0 to 7.
@@ -36,46 +34,3 @@ pub const CLAUSES: usize = 128;
 pub const RUNNER_BUDGET: u32 = 256;
 /// The sheet runner's answer buffer.
 pub const RUNNER_ANSWER: usize = 16_384;
-
-/// The limits by name, for programs in which one of them is wrong.
-#[derive(Clone, Copy, PartialEq, Eq, Debug)]
-pub enum Limit {
-    Number,
-    Arity,
-    Variables,
-    NameBytes,
-    TermSize,
-    Members,
-    SheetBytes,
-    Budget,
-    /// Of the text that the checker reads.
-    ReadBytes,
-    /// Of the text that the engine writes.
-    WrittenBytes,
-    Symbols,
-    Nodes,
-    Clauses,
-}
-
-/// A limit as a program with that fault has it.
-pub fn limit(limit: Limit, fault: Option<Fault>) -> usize {
-    let right = match limit {
-        Limit::Number => LARGEST_NUMBER,
-        Limit::Arity => LARGEST_ARITY,
-        Limit::Variables => VARIABLES,
-        Limit::NameBytes => NAME_BYTES,
-        Limit::TermSize => TERM_SIZE,
-        Limit::Members => MEMBERS,
-        Limit::SheetBytes => SHEET_BYTES,
-        Limit::Budget => LARGEST_BUDGET as usize,
-        Limit::ReadBytes | Limit::WrittenBytes => TEXT_BYTES,
-        Limit::Symbols => SYMBOLS,
-        Limit::Nodes => NODES,
-        Limit::Clauses => CLAUSES,
-    };
-    match fault {
-        Some(Fault::LimitHigh(wrong)) if wrong == limit => right + 1,
-        Some(Fault::LimitLow(wrong)) if wrong == limit => right - 1,
-        _ => right,
-    }
-}

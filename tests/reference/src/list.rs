@@ -30,23 +30,6 @@ impl<T> List<T> {
     }
 }
 
-impl<T: Clone> List<T> {
-    pub fn reversed(&self) -> List<T> {
-        self.iter()
-            .fold(List::empty(), |list, element| list.with(element.clone()))
-    }
-
-    /// The list with each element changed, in the same order.
-    pub fn map(&self, change: impl Fn(&T) -> T) -> List<T> {
-        let changed: Vec<T> = self.iter().map(change).collect();
-        let mut list = List::empty();
-        for element in changed.into_iter().rev() {
-            list = list.with(element);
-        }
-        list
-    }
-}
-
 pub struct Iter<'a, T>(&'a List<T>);
 
 impl<'a, T> Iterator for Iter<'a, T> {

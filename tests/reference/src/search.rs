@@ -2,20 +2,17 @@
 
 use std::rc::Rc;
 
-use crate::fault::Fault;
 use crate::formula::{Member, Members, Node, Shape};
 use crate::list::List;
 use crate::sheet::Sheet;
 use crate::term::{Constant, Environment, Fresh, Variable};
-use crate::unification::{unify, Atom, OutOfUnits, Store, Units};
+use crate::unification::{unify, Applied, OutOfUnits, Store, Units};
 
 /// A clause of a program: its members in the environment it was assumed in.
 #[derive(Clone)]
 struct Clause {
     members: Members,
     environment: Environment<Fresh>,
-    /// The level at which it was assumed; only a fault asks for it.
-    level: u32,
 }
 
 /// The left side of a sequent: assumptions, latest first; at the end, as one, the sheet's clauses.
@@ -93,32 +90,19 @@ pub struct Ended {
     pub units: u32,
 }
 
-pub fn search(sheet: &Sheet, budget: u32, fault: Option<Fault>) -> Ended {
+pub fn search(sheet: &Sheet, budget: u32) -> Ended {
     let mut walk = Walk {
         sheet,
-        units: Units::new(match fault {
-            Some(Fault::SpentAtOnce) => 0,
-            Some(Fault::SpentOneEarly) => budget - 1,
-            Some(Fault::SpentOneLate) => budget + 1,
-            _ => budget,
-        }),
-        fault,
+        units: Units::new(budget),
         variables: 0,
         constants: 0,
         alternatives: Vec::new(),
     };
-    let ended = |proof: Option<Proof>, walk: &Walk| Ended {
-        end: match proof {
-            Some(proof) if fault != Some(Fault::NoForEverySheet) => End::Proved(proof),
-            _ => End::No,
-        },
-        units: match fault {
-            Some(Fault::UnitsOffByOne) => walk.units.taken + 1,
-            _ => walk.units.taken,
-        },
-    };
     match walk.run() {
-        Ok(proof) => ended(proof, &walk),
+        Ok(proof) => Ended {
+            end: proof.map_or(End::No, End::Proved),
+            units: walk.units.taken,
+        },
         Err(OutOfUnits) => Ended {
             end: End::Spent,
             units: budget,
@@ -130,7 +114,6 @@ pub fn search(sheet: &Sheet, budget: u32, fault: Option<Fault>) -> Ended {
 struct Walk<'a> {
     sheet: &'a Sheet,
     units: Units,
-    fault: Option<Fault>,
     /// Variables made so far, in all branches.
     variables: u32,
     /// Made constants so far, in all branches.
@@ -144,167 +127,115 @@ impl Walk<'_> {
     fn run(&mut self) -> Result<Option<Proof>, OutOfUnits> {
         let free = self.sheet.goal.free.ascending();
         let answers: Vec<(u8, Variable)> = free.iter().map(|&v| (v, self.fresh_variable(0))).collect();
-        let environment = answers
-            .iter()
-            .fold(Environment::empty(), |environment, &(v, variable)| {
-                environment.with(v, Fresh::Variable(variable))
-            });
-        let goal = Goal {
-            formula: self.sheet.goal.clone(),
-            environment,
-            program: List::empty().with(Clause {
-                members: self.sheet.program.clone(),
-                environment: Environment::empty(),
-                level: 0,
-            }),
-            level: 0,
-        };
         let mut state = State {
-            goals: List::empty().with(goal),
+            goals: List::empty().with(self.first_goal(&answers)),
             store: Store::empty(),
             steps: List::empty(),
         };
-        loop {
-            let Some((goal, rest)) = state.goals.split() else {
-                let mut steps: Vec<Rc<Step>> = state.steps.iter().cloned().collect();
-                steps.reverse();
-                return Ok(Some(Proof {
-                    answers,
-                    steps,
-                    store: state.store.clone(),
-                }));
+        while let Some((goal, rest)) = state.goals.split() {
+            let (goal, goals) = (goal.clone(), rest.clone());
+            let next = match self.take(goal, State { goals, ..state })? {
+                None => self.take_up_latest()?,
+                next => next,
             };
-            let (goal, rest) = (goal.clone(), rest.clone());
-            let mut failed = state.store.clone();
-            let mut next = self.take(goal, State { goals: rest, ..state }, &mut failed)?;
-            while next.is_none() {
-                let Some(alternative) = self.alternatives.pop() else {
-                    return Ok(None);
-                };
-                next = self.take_up(alternative, &mut failed)?;
+            match next {
+                None => return Ok(None),
+                Some(next) => state = next,
             }
-            state = next.expect("the loop above ends with a state");
+        }
+        let mut steps: Vec<Rc<Step>> = state.steps.iter().cloned().collect();
+        steps.reverse();
+        Ok(Some(Proof {
+            answers,
+            steps,
+            store: state.store,
+        }))
+    }
+
+    fn first_goal(&self, answers: &[(u8, Variable)]) -> Goal {
+        let sheet = Clause {
+            members: self.sheet.program.clone(),
+            environment: Environment::empty(),
+        };
+        let environment = Environment::empty();
+        Goal {
+            formula: self.sheet.goal.clone(),
+            environment: answers.iter().fold(environment, |environment, &(v, variable)| {
+                environment.with(v, Fresh::Variable(variable))
+            }),
+            program: List::empty().with(sheet),
+            level: 0,
         }
     }
 
-    /// Takes a goal; `after` is the state without it. None is a failure, and `failed` then has the store it left.
-    fn take(&mut self, goal: Goal, after: State, failed: &mut Store) -> Result<Option<State>, OutOfUnits> {
+    /// Takes a goal; `after` is the state without it. None is a failure.
+    fn take(&mut self, goal: Goal, after: State) -> Result<Option<State>, OutOfUnits> {
         self.units.act()?;
-        let with_part = |part: &Rc<Node>| Goal {
-            formula: part.clone(),
+        let part = |formula: &Rc<Node>| Goal {
+            formula: formula.clone(),
             ..goal.clone()
         };
-        let next = match &goal.formula.shape {
+        Ok(Some(match &goal.formula.shape {
             Shape::True => after.with_step(Step::True),
-            Shape::And(left, right) => {
-                let goals = after.goals.with(with_part(right)).with(with_part(left));
-                State {
-                    goals,
-                    ..after.with_step(Step::And)
-                }
-            }
+            Shape::And(left, right) => after.with_step(Step::And).with_goal(part(right)).with_goal(part(left)),
             Shape::Or(left, right) => {
-                let side = |part: &Rc<Node>, step: Step| State {
-                    goals: after.goals.with(with_part(part)),
-                    ..after.with_step(step)
-                };
-                let (mut first, mut second) = (side(left, Step::Left), side(right, Step::Right));
-                if self.fault == Some(Fault::RightFirst) {
-                    (first, second) = (second, first);
-                }
-                self.alternatives.push(Alternative::Side(second));
-                first
+                let other = after.with_step(Step::Right).with_goal(part(right));
+                self.alternatives.push(Alternative::Side(other));
+                after.with_step(Step::Left).with_goal(part(left))
             }
-            Shape::Some(v, part) => {
+            Shape::Some(v, formula) => {
                 let variable = self.fresh_variable(goal.level);
-                let next = Goal {
+                after.with_step(Step::Some(variable)).with_goal(Goal {
                     environment: goal.environment.with(*v, Fresh::Variable(variable)),
-                    ..with_part(part)
-                };
-                State {
-                    goals: after.goals.with(next),
-                    ..after.with_step(Step::Some(variable))
-                }
+                    ..part(formula)
+                })
             }
-            Shape::Every(v, part) => {
-                let constant = self.made_constant(&goal);
-                let next = Goal {
+            Shape::Every(v, formula) => {
+                let constant = self.made_constant(goal.level + 1);
+                after.with_step(Step::All(constant)).with_goal(Goal {
                     environment: goal.environment.with(*v, Fresh::Constant(constant)),
-                    level: match self.fault {
-                        Some(Fault::LevelNotRaised) => goal.level,
-                        _ => constant.level,
-                    },
-                    ..with_part(part)
-                };
-                let beside = match self.fault {
-                    Some(Fault::LevelRaisedBeside) => after.goals.map(|beside| Goal {
-                        level: beside.level.max(constant.level),
-                        ..beside.clone()
-                    }),
-                    _ => after.goals.clone(),
-                };
-                State {
-                    goals: beside.with(next),
-                    ..after.with_step(Step::All(constant))
-                }
+                    level: constant.level,
+                    ..part(formula)
+                })
             }
-            Shape::Implies(clause, part) => {
+            Shape::Implies(clause, formula) => {
                 let assumed = Clause {
                     members: self.sheet.members[clause.number].clone(),
                     environment: goal.environment.clone(),
-                    level: goal.level,
                 };
-                let beside = match self.fault {
-                    Some(Fault::AssumptionKept) => after.goals.map(|beside| Goal {
-                        program: beside.program.with(assumed.clone()),
-                        ..beside.clone()
-                    }),
-                    _ => after.goals.clone(),
-                };
-                let next = Goal {
+                after.with_step(Step::Assume).with_goal(Goal {
                     program: goal.program.with(assumed),
-                    ..with_part(part)
-                };
-                State {
-                    goals: beside.with(next),
-                    ..after.with_step(Step::Assume)
-                }
+                    ..part(formula)
+                })
             }
             Shape::Atom(..) => {
                 let candidates = Candidates {
-                    clauses: match self.fault {
-                        Some(Fault::AssumptionsLast) => goal.program.reversed(),
-                        _ => goal.program.clone(),
-                    },
+                    clauses: goal.program.clone(),
                     next: 0,
                     place: 0,
                 };
-                return self.try_members(goal, candidates, after, failed);
+                return self.try_members(goal, candidates, after);
             }
             Shape::Variable(_) | Shape::Application(..) => unreachable!("a term is no goal"),
-        };
-        Ok(Some(next))
+        }))
     }
 
-    /// Goes back to a choice point. Neither the "or" nor the atom is taken again.
-    fn take_up(&mut self, alternative: Alternative, failed: &mut Store) -> Result<Option<State>, OutOfUnits> {
-        if self.fault == Some(Fault::AlternativePaid) {
-            self.units.act()?;
-        }
-        match alternative {
-            Alternative::Side(state) => Ok(Some(State {
-                store: state.store.restored(failed, self.fault),
-                ..state
-            })),
-            Alternative::Members {
-                goal,
-                candidates,
-                state,
-            } => {
-                let store = state.store.restored(failed, self.fault);
-                self.try_members(goal, candidates, State { store, ..state }, failed)
+    /// Goes back to the latest choice point that does not fail. Neither the "or" nor the atom is taken again.
+    fn take_up_latest(&mut self) -> Result<Option<State>, OutOfUnits> {
+        while let Some(alternative) = self.alternatives.pop() {
+            let next = match alternative {
+                Alternative::Side(state) => Some(state),
+                Alternative::Members {
+                    goal,
+                    candidates,
+                    state,
+                } => self.try_members(goal, candidates, state)?,
+            };
+            if next.is_some() {
+                return Ok(next);
             }
         }
+        Ok(None)
     }
 
     /// "atom: members are tried in turn"
@@ -312,58 +243,28 @@ impl Walk<'_> {
         &mut self,
         goal: Goal,
         mut candidates: Candidates,
-        mut after: State,
-        failed: &mut Store,
+        after: State,
     ) -> Result<Option<State>, OutOfUnits> {
         while let Some((clause, member)) = candidates.next_member() {
-            let same_predicate = member.head.symbol() == goal.formula.symbol();
-            if same_predicate || self.fault != Some(Fault::OtherPredicateFree) {
-                self.units.act()?;
-            }
-            if same_predicate || self.fault != Some(Fault::PlacesAmongMatching) {
-                candidates.place += 1;
-            }
-            if candidates.place > 1 && self.fault == Some(Fault::OnlyFirstMember) {
-                continue;
-            }
-            let prefix_level = match self.fault {
-                Some(Fault::PrefixLevelOfAssumption) => clause.level,
-                _ => goal.level,
-            };
+            self.units.act()?;
+            candidates.place += 1;
             let prefix: Vec<Fresh> = member
                 .prefix
                 .iter()
-                .map(|_| Fresh::Variable(self.fresh_variable(prefix_level)))
+                .map(|_| Fresh::Variable(self.fresh_variable(goal.level)))
                 .collect();
             let environment = clause.environment.with_all(&member.prefix, &prefix);
             let mut store = after.store.clone();
-            let matched = unify(
-                Atom {
-                    node: &goal.formula,
-                    environment: &goal.environment,
-                },
-                Atom {
-                    node: &member.head,
-                    environment: &environment,
-                },
-                &mut store,
-                &mut self.units,
-                self.fault,
-            )?;
-            if !matched {
-                after.store = after.store.restored(&store, self.fault);
+            let atom = Applied::new(&goal.formula, &goal.environment);
+            let head = Applied::new(&member.head, &environment);
+            if !unify(atom, head, &mut store, &mut self.units)? {
                 continue;
             }
-            let step = Step::Clause {
-                place: candidates.place,
-                prefix,
-            };
-            let mut next = State {
-                store,
-                ..after.with_step(step)
-            };
+            let place = candidates.place;
+            let mut next = after.with_step(Step::Clause { place, prefix });
+            next.store = store;
             if let Some(body) = &member.body {
-                next.goals = next.goals.with(Goal {
+                next = next.with_goal(Goal {
                     formula: body.clone(),
                     environment,
                     ..goal.clone()
@@ -376,7 +277,6 @@ impl Walk<'_> {
             });
             return Ok(Some(next));
         }
-        *failed = after.store;
         Ok(None)
     }
 
@@ -388,20 +288,11 @@ impl Walk<'_> {
         }
     }
 
-    fn made_constant(&mut self, goal: &Goal) -> Constant {
-        if self.fault == Some(Fault::ConstantsBeforehand) {
-            return Constant {
-                id: goal.formula.number as u32,
-                level: 0,
-            };
-        }
+    fn made_constant(&mut self, level: u32) -> Constant {
         self.constants += 1;
         Constant {
-            id: match self.fault {
-                Some(Fault::ConstantsByLevel) => goal.level,
-                _ => self.constants - 1,
-            },
-            level: goal.level + 1,
+            id: self.constants - 1,
+            level,
         }
     }
 }
@@ -411,6 +302,14 @@ impl State {
         State {
             steps: self.steps.with(Rc::new(step)),
             ..self.clone()
+        }
+    }
+
+    /// The state with a goal in front of the others.
+    fn with_goal(self, goal: Goal) -> State {
+        State {
+            goals: self.goals.with(goal),
+            ..self
         }
     }
 }

@@ -2,10 +2,9 @@
 
 use std::rc::Rc;
 
-use crate::fault::Fault;
-use crate::field::{fields, is_name, lines, number, Line};
+use crate::field::{fields, is_name, lines, number};
 use crate::formula::{members, Members, Node, Shape, Symbol, VariableSet};
-use crate::limits::{limit, Limit};
+use crate::limits::{CLAUSES, LARGEST_ARITY, NODES, SYMBOLS, VARIABLES};
 use crate::refusal::Refusal;
 
 /// A sheet that was read to its end.
@@ -41,72 +40,37 @@ enum Form<'a> {
 }
 
 pub fn read(bytes: &[u8]) -> Result<Sheet, Refusal> {
-    read_with(None, bytes)
-}
-
-/// `read` with a fault.
-pub fn read_with(fault: Option<Fault>, bytes: &[u8]) -> Result<Sheet, Refusal> {
-    let mut reader = Reader {
-        fault,
-        symbols: Vec::new(),
-        nodes: Vec::new(),
-        members: Vec::new(),
-        clauses: Vec::new(),
-        goal: None,
-    };
-    let lines = lines(bytes, fault);
-    let formed = |line: Line<'_>| line.closed && form(line.bytes, fault).is_some();
-    if fault == Some(Fault::FormsFirst) {
-        if let Some(malformed) = lines.iter().position(|&line| !formed(line)) {
-            return Err(Refusal::new(6, malformed as u32 + 1));
-        }
-    }
+    let mut reader = Reader::default();
     let mut line_number = 0;
-    for line in lines {
+    for line in lines(bytes) {
         line_number += 1;
         if reader.goal.is_some() {
             return Err(Refusal::new(11, line_number));
         }
-        let form = if line.closed { form(line.bytes, fault) } else { None };
-        let read = match form {
-            Some(form) => reader.line(form),
-            None => Err(6),
-        };
+        let form = if line.closed { form(line.bytes) } else { None };
+        let read = form.ok_or(6).and_then(|form| reader.line(form));
         read.map_err(|number| Refusal::new(number, line_number))?;
     }
-    match reader.goal {
-        Some(goal) => Ok(Sheet {
-            program: reader
-                .clauses
-                .iter()
-                .flat_map(|&node| reader.members[node].iter().cloned())
-                .collect(),
-            symbols: reader.symbols,
-            members: reader.members,
-            goal,
-        }),
-        None => Err(Refusal::new(11, line_number + 1)),
-    }
+    reader.sheet().ok_or(Refusal::new(11, line_number + 1))
 }
 
 /// Refusal 6: "letter, field count, number, name, arity, variable".
-fn form(line: &[u8], fault: Option<Fault>) -> Option<Form<'_>> {
+fn form(line: &[u8]) -> Option<Form<'_>> {
     let fields = fields(line);
-    let node = |field: &[u8]| number(field, fault).map(|number| number as usize);
+    let node = |field: &[u8]| number(field).map(|number| number as usize);
     let variable = |field: &[u8]| {
         node(field)
-            .filter(|&number| number < limit(Limit::Variables, fault))
+            .filter(|&number| number < VARIABLES)
             .map(|number| number as u8)
     };
-    let largest_arity = limit(Limit::Arity, fault);
     Some(match fields[..] {
-        [letter @ (b"F" | b"P"), name, arity] if is_name(name, fault) => Form::Symbol {
+        [letter @ (b"F" | b"P"), name, arity] if is_name(name) => Form::Symbol {
             name,
-            arity: node(arity).filter(|&arity| arity <= largest_arity)?,
+            arity: node(arity).filter(|&arity| arity <= LARGEST_ARITY)?,
             predicate: letter == b"P",
         },
         [b"V", v] => Form::Variable(variable(v)?),
-        [b"A", symbol, ref nodes @ ..] if nodes.len() <= largest_arity => Form::Applied {
+        [b"A", symbol, ref nodes @ ..] if nodes.len() <= LARGEST_ARITY => Form::Applied {
             symbol: node(symbol)?,
             nodes: nodes.iter().map(|field| node(field)).collect::<Option<_>>()?,
         },
@@ -122,8 +86,8 @@ fn form(line: &[u8], fault: Option<Fault>) -> Option<Form<'_>> {
     })
 }
 
+#[derive(Default)]
 struct Reader {
-    fault: Option<Fault>,
     symbols: Vec<Symbol>,
     nodes: Vec<Rc<Node>>,
     members: Vec<Members>,
@@ -133,58 +97,76 @@ struct Reader {
 }
 
 impl Reader {
+    /// The sheet, if its Q line was read.
+    fn sheet(self) -> Option<Sheet> {
+        let clauses = self.clauses.iter();
+        Some(Sheet {
+            program: clauses.flat_map(|&node| self.members[node].iter().cloned()).collect(),
+            symbols: self.symbols,
+            members: self.members,
+            goal: self.goal?,
+        })
+    }
+
     /// Refusals 7 to 10, in this order.
     fn line(&mut self, form: Form) -> Result<(), u32> {
         match form {
-            Form::Symbol { name, arity, predicate } => {
-                if self.symbols.len() == limit(Limit::Symbols, self.fault) {
-                    return Err(7);
-                }
-                let per_kind = self.fault == Some(Fault::NamesPerKind);
-                let again = |symbol: &Symbol| symbol.name == name && (symbol.predicate == predicate || !per_kind);
-                if self.symbols.iter().any(again) {
-                    return Err(8);
-                }
-                self.symbols.push(Symbol {
-                    name: name.to_vec(),
-                    arity,
-                    predicate,
-                });
-                Ok(())
-            }
-            Form::Clause(clause) => {
-                if self.clauses.len() == limit(Limit::Clauses, self.fault) {
-                    return Err(7);
-                }
-                let node = self.node(clause)?;
-                if !node.is_clause() {
-                    return Err(9);
-                }
-                if node.free != VariableSet::EMPTY {
-                    return Err(10);
-                }
-                self.clauses.push(clause);
-                Ok(())
-            }
-            Form::Goal(goal) => {
-                let node = self.node(goal)?;
-                if !node.is_goal {
-                    return Err(9);
-                }
-                self.goal = Some(node);
-                Ok(())
-            }
-            form => {
-                if self.nodes.len() == limit(Limit::Nodes, self.fault) {
-                    return Err(7);
-                }
-                let shape = self.shape(form)?;
-                let node = Rc::new(Node::new(self.nodes.len(), shape, self.fault).ok_or(9u32)?);
-                self.members.push(members(&node, &self.members, self.fault));
-                self.nodes.push(node);
-                Ok(())
-            }
+            Form::Symbol { name, arity, predicate } => self.declare(name, arity, predicate),
+            Form::Clause(clause) => self.clause(clause),
+            Form::Goal(goal) => self.goal(goal),
+            form => self.make(form),
         }
+    }
+
+    fn declare(&mut self, name: &[u8], arity: usize, predicate: bool) -> Result<(), u32> {
+        if self.symbols.len() == SYMBOLS {
+            return Err(7);
+        }
+        if self.symbols.iter().any(|symbol| symbol.name == name) {
+            return Err(8);
+        }
+        self.symbols.push(Symbol {
+            name: name.to_vec(),
+            arity,
+            predicate,
+        });
+        Ok(())
+    }
+
+    fn clause(&mut self, clause: usize) -> Result<(), u32> {
+        if self.clauses.len() == CLAUSES {
+            return Err(7);
+        }
+        let node = self.node(clause)?;
+        if !node.is_clause() {
+            return Err(9);
+        }
+        if node.free != VariableSet::EMPTY {
+            return Err(10);
+        }
+        self.clauses.push(clause);
+        Ok(())
+    }
+
+    fn goal(&mut self, goal: usize) -> Result<(), u32> {
+        let node = self.node(goal)?;
+        if !node.is_goal {
+            return Err(9);
+        }
+        self.goal = Some(node);
+        Ok(())
+    }
+
+    /// The line of a node.
+    fn make(&mut self, form: Form) -> Result<(), u32> {
+        if self.nodes.len() == NODES {
+            return Err(7);
+        }
+        let shape = self.shape(form)?;
+        let node = Rc::new(Node::new(self.nodes.len(), shape).ok_or(9u32)?);
+        self.members.push(members(&node, &self.members));
+        self.nodes.push(node);
+        Ok(())
     }
 
     fn shape(&self, form: Form) -> Result<Shape, u32> {

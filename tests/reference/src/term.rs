@@ -52,11 +52,6 @@ impl<T: Copy> Environment<T> {
         Environment(Rc::new(entries))
     }
 
-    /// Whether both are one and the same.
-    pub fn is(&self, other: &Environment<T>) -> bool {
-        Rc::ptr_eq(&self.0, &other.0)
-    }
-
     /// Every variable of a formula that is reached stands for something: it is free in the goal, or bound above.
     pub fn get(&self, variable: u8) -> T {
         self.0[usize::from(variable)].expect("a variable without a value")

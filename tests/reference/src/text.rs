@@ -3,25 +3,23 @@
 use std::collections::HashMap;
 use std::rc::Rc;
 
-use crate::fault::Fault;
 use crate::formula::Node;
 use crate::search::{End, Ended, Proof, Step};
 use crate::sheet::Sheet;
-use crate::term::{Fresh, Term};
+use crate::term::{Constant, Environment, Fresh, Term, Variable};
 
 /// The text would be longer than the limit (refusal 12).
 #[derive(Debug)]
 pub struct TooLong;
 
 /// The answer text, if it has at most `limit` bytes. Terms can unfold without end, so writing stops at the limit.
-pub fn answer_text(sheet: &Sheet, ended: &Ended, limit: usize, fault: Option<Fault>) -> Result<Vec<u8>, TooLong> {
+pub fn answer_text(sheet: &Sheet, ended: &Ended, limit: usize) -> Result<Vec<u8>, TooLong> {
     let mut writer = Writer {
         sheet,
         bytes: Vec::new(),
         limit,
-        variables: Numbering::new(),
-        constants: Numbering::new(),
-        fault,
+        variables: Numbering::default(),
+        constants: Numbering::default(),
     };
     let outcome = match ended.end {
         End::Proved(_) => "proved",
@@ -36,30 +34,13 @@ pub fn answer_text(sheet: &Sheet, ended: &Ended, limit: usize, fault: Option<Fau
 }
 
 /// The numbers of one kind, "numbered from 0 by first showing".
-struct Numbering {
-    numbers: HashMap<u32, u32>,
-    /// How many are shown of each level, for the fault that numbers each level apart.
-    shown: HashMap<u32, u32>,
-}
+#[derive(Default)]
+struct Numbering(HashMap<u32, u32>);
 
 impl Numbering {
-    fn new() -> Numbering {
-        Numbering {
-            numbers: HashMap::new(),
-            shown: HashMap::new(),
-        }
-    }
-
-    fn number(&mut self, id: u32, level: u32, fault: Option<Fault>) -> u32 {
-        let counted_with = match fault {
-            Some(Fault::NumberingPerLevel) => level,
-            _ => 0,
-        };
-        *self.numbers.entry(id).or_insert_with(|| {
-            let shown = self.shown.entry(counted_with).or_insert(0);
-            *shown += 1;
-            *shown - 1
-        })
+    fn number(&mut self, id: u32) -> u32 {
+        let next = self.0.len() as u32;
+        *self.0.entry(id).or_insert(next)
     }
 }
 
@@ -69,7 +50,6 @@ struct Writer<'a> {
     limit: usize,
     variables: Numbering,
     constants: Numbering,
-    fault: Option<Fault>,
 }
 
 /// What is left to be written of a term.
@@ -128,36 +108,12 @@ impl Writer<'_> {
         while let Some(next) = rest.pop() {
             match next {
                 Rest::Bytes(bytes) => self.put(bytes.as_bytes())?,
-                Rest::Term(term) => match store.look(term, self.fault) {
-                    Term::Fresh(Fresh::Variable(variable)) => {
-                        let level = match self.fault {
-                            Some(Fault::LevelAsMade) => variable.born,
-                            _ => store.level(variable),
-                        };
-                        let number = match self.fault {
-                            Some(Fault::NumberingAsMade) => variable.id,
-                            _ => self.variables.number(variable.id, level, self.fault),
-                        };
-                        self.put(format!("_{number}@{level}").as_bytes())?;
-                    }
-                    Term::Fresh(Fresh::Constant(constant)) => {
-                        let number = match self.fault {
-                            Some(Fault::NumberingOfBothKinds) => self.variables.number(!constant.id, 0, None),
-                            _ => self.constants.number(constant.id, constant.level, self.fault),
-                        };
-                        self.put(format!("!{number}@{}", constant.level).as_bytes())?;
-                    }
+                Rest::Term(term) => match store.look(term) {
+                    Term::Fresh(Fresh::Variable(variable)) => self.variable(variable, store.level(variable))?,
+                    Term::Fresh(Fresh::Constant(constant)) => self.constant(constant)?,
                     Term::Application(node, environment) => {
                         self.name(&node)?;
-                        let arguments = node.arguments();
-                        if arguments.is_empty() {
-                            continue;
-                        }
-                        rest.push(Rest::Bytes(")"));
-                        for (place, argument) in arguments.iter().enumerate().rev() {
-                            rest.push(Rest::Term(Term::new(argument, &environment)));
-                            rest.push(Rest::Bytes(if place == 0 { "(" } else { "," }));
-                        }
+                        push_arguments(&mut rest, node.arguments(), &environment);
                     }
                 },
             }
@@ -165,9 +121,31 @@ impl Writer<'_> {
         Ok(())
     }
 
+    fn variable(&mut self, variable: Variable, level: u32) -> Result<(), TooLong> {
+        let number = self.variables.number(variable.id);
+        self.put(format!("_{number}@{level}").as_bytes())
+    }
+
+    fn constant(&mut self, constant: Constant) -> Result<(), TooLong> {
+        let number = self.constants.number(constant.id);
+        self.put(format!("!{number}@{}", constant.level).as_bytes())
+    }
+
     fn name(&mut self, node: &Rc<Node>) -> Result<(), TooLong> {
         let sheet = self.sheet;
         let symbol = node.symbol().expect("an application has a symbol");
         self.put(&sheet.symbols[symbol].name)
+    }
+}
+
+/// The arguments in round brackets, parted by commas, so that the first is popped first; a constant has no brackets.
+fn push_arguments(rest: &mut Vec<Rest>, arguments: &[Rc<Node>], environment: &Environment<Fresh>) {
+    if arguments.is_empty() {
+        return;
+    }
+    rest.push(Rest::Bytes(")"));
+    for (place, argument) in arguments.iter().enumerate().rev() {
+        rest.push(Rest::Term(Term::new(argument, environment)));
+        rest.push(Rest::Bytes(if place == 0 { "(" } else { "," }));
     }
 }

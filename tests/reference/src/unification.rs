@@ -2,10 +2,9 @@
 
 use std::rc::Rc;
 
-use crate::fault::Fault;
-use crate::formula::{Node, VariableSet};
+use crate::formula::Node;
 use crate::map::Map;
-use crate::term::{Constant, Environment, Fresh, Term, Variable};
+use crate::term::{Environment, Fresh, Term, Variable};
 
 /// The units of a walk: its inference steps, each act being one, counted against the budget.
 pub struct Units {
@@ -58,7 +57,7 @@ impl Store {
 
     /// The term looked through its bindings. A long chain of variables is shortened on the way: the first one is bound
     /// to the end of the chain, which it stands for in any case.
-    pub fn look(&mut self, term: Term, fault: Option<Fault>) -> Term {
+    pub fn look(&mut self, term: Term) -> Term {
         let Term::Fresh(Fresh::Variable(first)) = term else {
             return term;
         };
@@ -69,9 +68,6 @@ impl Store {
                 None => break Term::Fresh(Fresh::Variable(last)),
                 Some(Term::Fresh(Fresh::Variable(next))) => last = *next,
                 Some(term) => break term.clone(),
-            }
-            if fault == Some(Fault::OneBindingFollowed) {
-                break Term::Fresh(Fresh::Variable(last));
             }
             passed += 1;
         };
@@ -88,85 +84,70 @@ impl Store {
     fn lower(&mut self, variable: Variable, level: u32) {
         self.lowered = self.lowered.with(variable.id, level);
     }
+}
 
-    /// The store to go on with after a failure: the one kept, whatever `failed` came to.
-    pub fn restored(&self, failed: &Store, fault: Option<Fault>) -> Store {
-        Store {
-            bindings: match fault {
-                Some(Fault::BindingsNotRestored) => failed.bindings.clone(),
-                _ => self.bindings.clone(),
-            },
-            lowered: match fault {
-                Some(Fault::LevelsNotRestored) => failed.lowered.clone(),
-                _ => self.lowered.clone(),
-            },
-        }
+/// An atom or an application of the sheet, in its environment.
+pub struct Applied<'a> {
+    node: &'a Rc<Node>,
+    environment: &'a Environment<Fresh>,
+}
+
+impl<'a> Applied<'a> {
+    pub fn new(node: &'a Rc<Node>, environment: &'a Environment<Fresh>) -> Applied<'a> {
+        Applied { node, environment }
     }
 }
 
-/// An atom of the sheet in its environment.
-pub struct Atom<'a> {
-    pub node: &'a Rc<Node>,
-    pub environment: &'a Environment<Fresh>,
-}
+/// Pairs to be compared, goal side and clause side; the next one last.
+type Pairs = Vec<(Term, Term)>;
 
 /// Matches a goal atom with a member's head. Says whether they match; if they do not, the store is of no more use.
-pub fn unify(
-    goal: Atom,
-    head: Atom,
-    store: &mut Store,
-    units: &mut Units,
-    fault: Option<Fault>,
-) -> Result<bool, OutOfUnits> {
+pub fn unify(goal: Applied, head: Applied, store: &mut Store, units: &mut Units) -> Result<bool, OutOfUnits> {
     if goal.node.symbol() != head.node.symbol() {
         return Ok(false);
     }
-    let (goal, head) = match fault {
-        Some(Fault::SidesExchanged) => (head, goal),
-        _ => (goal, head),
-    };
-    let mut pairs = Vec::new();
+    let mut pairs = Pairs::new();
     push_arguments(&mut pairs, goal, head);
     while let Some((goal, clause)) = pairs.pop() {
-        units.act()?;
-        let matched = match (store.look(goal, fault), store.look(clause, fault)) {
-            (Term::Fresh(goal), Term::Fresh(clause)) if goal == clause => true,
-            (Term::Fresh(Fresh::Variable(variable)), other) | (other, Term::Fresh(Fresh::Variable(variable))) => {
-                let in_range = range_check(variable, other.clone(), store, units, fault)?;
-                if in_range {
-                    store.bind(variable, other);
-                }
-                in_range
-            }
-            (Term::Application(goal, goal_environment), Term::Application(clause, clause_environment)) => {
-                let same = goal.symbol() == clause.symbol();
-                let itself = Rc::ptr_eq(&goal, &clause) && goal_environment.is(&clause_environment);
-                if same && !(itself && fault == Some(Fault::SameNodeSkipped)) {
-                    push_arguments(
-                        &mut pairs,
-                        Atom {
-                            node: &goal,
-                            environment: &goal_environment,
-                        },
-                        Atom {
-                            node: &clause,
-                            environment: &clause_environment,
-                        },
-                    );
-                }
-                same
-            }
-            _ => false,
-        };
-        if !matched {
+        if !compare(goal, clause, &mut pairs, store, units)? {
             return Ok(false);
         }
     }
     Ok(true)
 }
 
+/// Compares a pair. The arguments of two applications are the next pairs.
+fn compare(
+    goal: Term,
+    clause: Term,
+    pairs: &mut Pairs,
+    store: &mut Store,
+    units: &mut Units,
+) -> Result<bool, OutOfUnits> {
+    units.act()?;
+    match (store.look(goal), store.look(clause)) {
+        (Term::Fresh(goal), Term::Fresh(clause)) if goal == clause => Ok(true),
+        (Term::Fresh(Fresh::Variable(variable)), other) | (other, Term::Fresh(Fresh::Variable(variable))) => {
+            let in_range = range_check(variable, other.clone(), store, units)?;
+            if in_range {
+                store.bind(variable, other);
+            }
+            Ok(in_range)
+        }
+        (Term::Application(goal, goal_environment), Term::Application(clause, clause_environment)) => {
+            let same = goal.symbol() == clause.symbol();
+            if same {
+                let goal = Applied::new(&goal, &goal_environment);
+                push_arguments(pairs, goal, Applied::new(&clause, &clause_environment));
+            }
+            Ok(same)
+        }
+        _ => Ok(false),
+    }
+}
+
 /// The pairs of arguments, so that the first is popped first.
-fn push_arguments(pairs: &mut Vec<(Term, Term)>, goal: Atom, clause: Atom) {
+fn push_arguments(pairs: &mut Pairs, goal: Applied, clause: Applied) {
     let arguments = goal.node.arguments().iter().zip(clause.node.arguments());
     for (left, right) in arguments.rev() {
         pairs.push((Term::new(left, goal.environment), Term::new(right, clause.environment)));
@@ -174,37 +155,25 @@ fn push_arguments(pairs: &mut Vec<(Term, Term)>, goal: Atom, clause: Atom) {
 }
 
 /// The range check: occurs check and level check in one, lowering the variables of the term on the way.
-fn range_check(
-    variable: Variable,
-    term: Term,
-    store: &mut Store,
-    units: &mut Units,
-    fault: Option<Fault>,
-) -> Result<bool, OutOfUnits> {
+fn range_check(variable: Variable, term: Term, store: &mut Store, units: &mut Units) -> Result<bool, OutOfUnits> {
     let level = store.level(variable);
     let mut left = vec![term];
-    let mut first = true;
     while let Some(term) = left.pop() {
-        if !first || fault != Some(Fault::FirstLookFree) {
-            units.act()?;
-        }
-        first = false;
-        match store.look(term, fault) {
+        units.act()?;
+        match store.look(term) {
             Term::Fresh(Fresh::Variable(met)) => {
-                if met == variable && fault != Some(Fault::NoOccursCheck) {
+                if met == variable {
                     return Ok(false);
                 }
-                if store.level(met) > level && fault != Some(Fault::LevelsNotLowered) {
+                if store.level(met) > level {
                     store.lower(met, level);
                 }
             }
-            Term::Fresh(Fresh::Constant(Constant { level: made_at, .. })) => {
-                if made_at > level {
+            Term::Fresh(Fresh::Constant(constant)) => {
+                if constant.level > level {
                     return Ok(false);
                 }
             }
-            Term::Application(node, _)
-                if node.free == VariableSet::EMPTY && fault == Some(Fault::GroundTermSkipped) => {}
             Term::Application(node, environment) => {
                 let arguments = node.arguments().iter().rev();
                 left.extend(arguments.map(|argument| Term::new(argument, &environment)));

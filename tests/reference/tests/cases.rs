@@ -1,8 +1,6 @@
 //! The stored cases: the runner's output and the text with 50,000 units, byte for byte; the checker on these texts.
 
-mod common;
-
-use common::{cases, stored};
+use calls::stored::{cases, stored};
 use reference::{answer, check, runner, Outcome, Verdict};
 
 #[test]

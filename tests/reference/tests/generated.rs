@@ -4,9 +4,9 @@ mod common;
 
 use std::collections::BTreeMap;
 
+use calls::generate::{checks, damaged, sheet};
+use calls::random::Random;
 use common::naive::Judge;
-use reference::generate::{checks, damaged, sheet};
-use reference::random::Random;
 use reference::{answer, check, check_text, engine_run, Outcome, Refusal, Verdict};
 
 const SHEETS: u64 = 6_000;

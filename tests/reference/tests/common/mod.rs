@@ -1,10 +1,8 @@
 //! What the tests share.
+// Each test is a crate of its own and uses a part of this.
 #![allow(dead_code)]
 
 pub mod naive;
-
-use std::fs;
-use std::path::PathBuf;
 
 use reference::{Outcome, Refusal};
 
@@ -34,43 +32,13 @@ pub fn outcome(sheet: &[u8]) -> Outcome {
     reference::answer(sheet, 256, 65_535).0
 }
 
-/// The stored cases: name and sheet.
-pub fn cases() -> Vec<(String, Vec<u8>)> {
-    let mut names: Vec<String> = fs::read_dir(cases_folder())
-        .expect("the folder of cases")
-        .map(|entry| {
-            entry
-                .expect("an entry")
-                .file_name()
-                .into_string()
-                .expect("a plain name")
-        })
-        .filter_map(|name| name.strip_suffix(".sheet").map(str::to_string))
-        .collect();
-    names.sort();
-    names
-        .into_iter()
-        .map(|name| {
-            let sheet = stored(&name, "sheet");
-            (name, sheet)
-        })
-        .collect()
+/// The nodes of a clause of the given number of members, p each time, joined by &; the last one is the clause.
+pub fn members(count: usize) -> String {
+    let joined: String = (0..count - 1).map(|node| format!("; & {node} 0")).collect();
+    format!("P p 0; A 0{joined}")
 }
 
-pub fn stored(name: &str, ending: &str) -> Vec<u8> {
-    fs::read(cases_folder().join(format!("{name}.{ending}"))).expect("a stored file")
-}
-
-fn cases_folder() -> PathBuf {
-    PathBuf::from(env!("CARGO_MANIFEST_DIR")).join("../cases")
-}
-
-/// A clause of the given number of members, p each time: nodes from `A 0` on, joined by &.
+/// A sheet with that clause.
 pub fn clause_of_members(count: usize) -> String {
-    let mut sheet = String::from("P p 0; A 0");
-    for node in 0..count - 1 {
-        sheet.push_str(&format!("; & {node} 0"));
-    }
-    sheet.push_str(&format!("; C {}; Q 0", count - 1));
-    sheet
+    format!("{}; C {}; Q 0", members(count), count - 1)
 }

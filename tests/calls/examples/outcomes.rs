@@ -2,7 +2,8 @@
 
 use std::collections::BTreeMap;
 
-use reference::{answer, generate, Outcome};
+use calls::generate;
+use reference::{answer, Outcome};
 
 fn main() {
     let count: u64 = std::env::args()

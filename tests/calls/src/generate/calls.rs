@@ -1,11 +1,13 @@
 //! The calls of engine and checker that are tried for a seed: sheet or text, budget, lengths of the lent buffers, and
 //! what these hold before.
 
+use reference::api::work_demanded;
+use reference::limits::{LARGEST_BUDGET, TABLE_NUMBERS, TEXT_BYTES, WORK_NUMBERS};
+use reference::{answer, Outcome};
+
 use super::special::special_text;
 use super::texts::changed_text;
 use super::{damaged, sheet, Family, FAMILIES};
-use crate::api::{answer, work_demanded, Outcome};
-use crate::limits::{LARGEST_BUDGET, TABLE_NUMBERS, TEXT_BYTES, WORK_NUMBERS};
 use crate::random::Random;
 
 /// A call of the engine. Buffers are given by their lengths.

@@ -1,8 +1,9 @@
 //! Sheets at a limit of document 01 or one past it.
 
+use reference::limits::{SHEET_BYTES, TEXT_BYTES};
+use reference::{answer, Outcome};
+
 use super::builder::Builder;
-use crate::api::{answer, Outcome};
-use crate::limits::{SHEET_BYTES, TEXT_BYTES};
 use crate::random::Random;
 
 pub fn limits(random: &mut Random) -> Vec<u8> {

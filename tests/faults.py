@@ -1,0 +1,171 @@
+#!/usr/bin/env python3
+"""Whether the calls by which the proved library is judged tell each wrong program from the right one: faults.py [EDIT...]
+
+A wrong program is the independent implementation (tests/reference) with an edit of tests/faults applied to a copy. Edits are written
+as the must-fail edits of the crates: what is wrong, the file, pairs of an old text, which must stand there once, and a new one. An
+edit `engine_...` or `checker_...` is in that program alone; any other is in both, and each must be told apart. The calls and what
+they should leave come from the implementation as it stands (tests/calls)."""
+import concurrent.futures
+import glob
+import os
+import shutil
+import subprocess
+import sys
+import tempfile
+
+TESTS = os.path.dirname(os.path.abspath(__file__))
+BUILT = os.path.join(TESTS, "target", "release")
+MAIN = "\nfn main() {\n    calls::apart::report(interface::run, interface::check)\n}\n"
+
+# The most seeds by which a wrong program must be told apart.
+SEEDS = 20_000
+# An edit must make a program that answers; one that runs longer is taken to have no end.
+SECONDS = 300
+
+# Matching treats both sides alike but for two different variables. Which of them is bound to the other shows neither in the units, as
+# the check of one node is paid in both cases, nor in the text, as the one left has the lower of the two levels and its number by first
+# showing. So document 01 cannot tell this program from the right one.
+NOT_TOLD_APART = {"engine_sides_exchanged"}
+
+# The wrong programs of document 01 itself ("What a hurried programmer would do", "What the desk may rely on", c), and two that show in
+# the text alone: the stored cases must tell them apart too.
+LISTED = {
+    "engine_spent_at_once",
+    "engine_units_off_by_one",
+    "engine_no_for_every_sheet",
+    "engine_only_first_member",
+    "engine_constants_beforehand",
+    "engine_levels_not_lowered",
+    "engine_assumption_kept",
+    "engine_levels_not_restored",
+    "engine_no_occurs_check",
+    "engine_places_among_matching",
+    "engine_numbering_per_level",
+}
+
+# These find proofs where there are none, and the checker must turn them down. Without the occurs check a false proof holds an endless
+# term, so that its text is refused under 12.
+UNSOUND = {"engine_constants_beforehand", "engine_levels_not_lowered", "engine_assumption_kept"}
+
+# The files in which an edit can make the engine find such proofs.
+SEARCH = {"src/formula.rs", "src/search.rs", "src/unification.rs"}
+
+
+class Failure(Exception):
+    pass
+
+
+def run(command, what, **options):
+    done = subprocess.run(command, capture_output=True, text=True, **options)
+    if done.returncode != 0:
+        raise Failure(f"{what}\n{done.stdout}{done.stderr}")
+    return done.stdout
+
+
+def read(path):
+    """The file that an edit is for, and its pairs."""
+    with open(path) as f:
+        what, file, *lines = f.read().splitlines()
+    pairs = list(zip(lines[::2], lines[1::2]))
+    formed = what and file.startswith("file: ") and pairs and len(lines) % 2 == 0
+    if not formed or not all(old.startswith("old: ") and new.startswith("new: ") for old, new in pairs):
+        raise Failure("is not of the form of an edit")
+    return file[len("file: ") :], [(old[len("old: ") :], new[len("new: ") :]) for old, new in pairs]
+
+
+def applied(text, pairs):
+    for old, new in pairs:
+        if text.count(old) != 1:
+            raise Failure(f"does not apply: `{old}` stands {text.count(old)} times")
+        text = text.replace(old, new)
+    return text
+
+
+def build(file, pairs, copy):
+    """The wrong program, in a copy of the implementation with a main function."""
+    shutil.copytree(os.path.join(TESTS, "reference", "src"), os.path.join(copy, "src"))
+    with open(os.path.join(copy, file), "r+") as f:
+        text = applied(f.read(), pairs)
+        f.seek(0)
+        f.truncate()
+        f.write(text)
+    root = os.path.join(copy, "src", "lib.rs")
+    with open(root, "a") as f:
+        f.write(MAIN)
+    program = os.path.join(copy, "program")
+    libraries = ["--extern", f"calls={BUILT}/libcalls.rlib", "-L", f"dependency={BUILT}/deps"]
+    # An edit may leave something unused. Most programs are told apart so soon that a fast one is not worth its compilation.
+    options = ["--edition", "2021", "--crate-type", "bin", "--cap-lints", "allow", "-C", "codegen-units=1"]
+    run(["rustc", *options, *libraries, "-o", program, root], "does not compile")
+    return program
+
+
+def tried(path):
+    """What each way of telling the program apart comes to (calls::apart), empty if it does not."""
+    name = name_of(path)
+    file, pairs = read(path)
+    ways = []
+    if not name.startswith("checker_"):
+        ways += ["runs", "cases"]
+        if file in SEARCH:
+            ways.append("proofs")
+    if not name.startswith("engine_"):
+        ways.append("checks")
+    seeds = SEEDS // 4 if name in NOT_TOLD_APART else SEEDS
+    with tempfile.TemporaryDirectory() as copy:
+        program = build(file, pairs, copy)
+        try:
+            printed = run([program, str(seeds), *ways], "breaks off", timeout=SECONDS)
+        except subprocess.TimeoutExpired:
+            raise Failure(f"does not end within {SECONDS} seconds")
+    return dict(line.split("\t") for line in printed.splitlines())
+
+
+def judge(path):
+    """The line to print for an edit; a failure if the program is not told apart as it should be."""
+    name = name_of(path)
+    told = tried(path)
+    if name in NOT_TOLD_APART:
+        if any(told.values()):
+            raise Failure(f"is told apart after all: {told}")
+        return f"{name}: not told apart, as it should be"
+    for way in ("runs", "checks"):
+        if told.get(way) == "":
+            raise Failure(f"is not told apart by the {way} of {SEEDS} seeds")
+    if name in LISTED and not told["cases"]:
+        raise Failure("is not told apart by the stored cases")
+    if name in UNSOUND and not told["proofs"]:
+        raise Failure("finds no false proof")
+    return f"{name}: " + ", ".join(f"{way} {value}" for way, value in told.items() if value)
+
+
+def name_of(path):
+    return os.path.basename(path)[: -len(".edit")]
+
+
+def build_calls():
+    manifest = os.path.join(TESTS, "Cargo.toml")
+    target = os.path.join(TESTS, "target")
+    cargo = ["cargo", "build", "--release", "--offline", "--quiet", "-p", "calls"]
+    subprocess.run([*cargo, "--manifest-path", manifest, "--target-dir", target], check=True)
+
+
+def main():
+    build_calls()
+    everything = sorted(glob.glob(os.path.join(TESTS, "faults", "*.edit")))
+    missing = (NOT_TOLD_APART | LISTED | UNSOUND) - set(map(name_of, everything))
+    failures = [f"{name} is not there" for name in sorted(missing)]
+    edits = sys.argv[1:] or everything
+    with concurrent.futures.ThreadPoolExecutor(os.cpu_count()) as pool:
+        for path, judged in [(path, pool.submit(judge, path)) for path in edits]:
+            try:
+                print(judged.result(), flush=True)
+            except Failure as failure:
+                failures.append(f"{name_of(path)} {failure}")
+    if failures:
+        sys.exit("faults: " + "\nfaults: ".join(failures))
+    apart = [path for path in edits if name_of(path) not in NOT_TOLD_APART]
+    print(f"faults: {len(edits)} wrong programs, {len(apart)} told apart, {len(edits) - len(apart)} that document 01 cannot tell apart")
+
+
+main()
