@@ -3,6 +3,15 @@
 // than is allowed, so that refusals 1 and 4 arise.
 use libc::STDOUT_FILENO;
 use outcomes::Verdict;
+use sheet_format::limits;
+
+const SHEET_BYTES: usize = limits::MAX_SHEET_BYTES + 1;
+
+const TEXT_BYTES: usize = limits::MAX_TEXT_BYTES as usize + 1;
+
+const LINES: usize = 2048;
+
+const WORK_NUMBERS: usize = limits::NUMBERS_PER_UNIT * LINES;
 
 fn print_number(n: u32) {
     io::write_all(STDOUT_FILENO, b"\t");
@@ -55,22 +64,22 @@ fn is_whole(fd: i32, n: usize, size: usize) -> bool {
 // The work buffer has 64 numbers for each of 2,048 lines: a run of 2,000 units writes fewer. A text of more lines gets refusal 5.
 // A larger buffer would not leave enough of a stack of 8 MB for the deepest term that a text can begin.
 fn check_bytes(sheet: &[u8], text: &[u8]) {
-    let mut table = [0u32; 8192];
-    let mut work = [0u32; 131072];
+    let mut table = [0u32; limits::TABLE_NUMBERS];
+    let mut work = [0u32; WORK_NUMBERS];
     let verdict = checker::check(sheet, text, &mut table, &mut work);
     print_verdict(verdict);
 }
 
 fn check_files(sheet_file: i32, text_file: i32) {
-    let mut sheet = [0u8; 16385];
+    let mut sheet = [0u8; SHEET_BYTES];
     let n = io::read_full(sheet_file, &mut sheet);
     let mut text = io::large_buffer();
     let m = io::read_full(text_file, &mut text);
-    if !is_whole(sheet_file, n, 16385) {
+    if !is_whole(sheet_file, n, SHEET_BYTES) {
         os::fail(b"sheet");
         return;
     }
-    if !is_whole(text_file, m, 65536) {
+    if !is_whole(text_file, m, TEXT_BYTES) {
         os::fail(b"text");
         return;
     }

@@ -2,7 +2,10 @@
 // says so.
 use super::line_parts::bytes_to;
 use super::line_parts::number_to;
+use machine::fields;
 use machine_memory::cells::field;
+use machine_memory::words::TAGS;
+use machine_memory::words::VARIABLE_TAG;
 use machine_memory::words::narrow;
 use memory::wide;
 use printing::Pen;
@@ -33,7 +36,16 @@ pub fn prefix_to(
     let mut q = p;
     while 0 < left {
         let e = emit_to(limit, out, q, b'\t');
-        q = term_to(sheet, t, turns, limit, w, out, e, narrow(4 * next + 1));
+        q = term_to(
+            sheet,
+            t,
+            turns,
+            limit,
+            w,
+            out,
+            e,
+            narrow(TAGS * next + VARIABLE_TAG),
+        );
         next += 1;
         left -= 1;
     }
@@ -54,9 +66,9 @@ pub fn clause_to(
     requires { ⌜ limit ≤ 65535 ⌝ }
     ensures { λ q. ⌜ page (now (w .exit)) (now (out .exit)) q ≡ clauseTo (now (sheet .entry)) (now (t .entry)) turns limit (page (now (w .entry)) (now (out .entry)) p) u ⌝ }
 {
-    let place = field(w, u, 41);
-    let count = field(w, u, 42);
-    let first = wide(field(w, u, 43));
+    let place = field(w, u, fields::USE_PLACE);
+    let count = field(w, u, fields::USE_COUNT);
+    let first = wide(field(w, u, fields::VARIABLES));
     let mut q = bytes_to(limit, out, p, b"D\tclause\t");
     q = number_to(limit, out, q, place);
     q = prefix_to(sheet, t, turns, limit, count, w, out, q, first);

@@ -12,6 +12,7 @@ use machine::Registers;
 use node_table::mask;
 use path_lines::lines_to;
 use printing::Pen;
+use sheet_format::limits;
 use short_texts::text_limit;
 use term_printer::numbering::on_at;
 use term_printer::path_links::clear_constants;
@@ -42,7 +43,18 @@ pub fn proof_pass(
 {
     let bits = mask(t, goal);
     let mut q = result_to(limit, out, p, b"R\tproved\t", units);
-    q = bindings_to(sheet, t, turns, limit, 8, bits, 0, w, out, q);
+    q = bindings_to(
+        sheet,
+        t,
+        turns,
+        limit,
+        limits::VARIABLE_NAMES,
+        bits,
+        0,
+        w,
+        out,
+        q,
+    );
     lines_to(sheet, t, turns, limit, turns, w, out, q, e)
 }
 
@@ -98,7 +110,7 @@ pub fn write_proof(
     };
     let g = proof_pass(sheet, t, acts, limit, goal, units, e, w, &mut out[..0], p);
     if limit < g.at {
-        return 65536;
+        return printing::NO_ROOM;
     }
     write_pass(sheet, t, acts, limit, goal, units, e, w, g, out)
 }

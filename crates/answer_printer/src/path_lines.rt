@@ -3,6 +3,8 @@
 use super::clause_lines::clause_to;
 use super::line_parts::bytes_to;
 use super::line_parts::term_line;
+use machine::fields;
+use machine::lines;
 use machine_memory::cells::field;
 use machine_memory::cells::record_of;
 use machine_memory::words::constant_word;
@@ -18,16 +20,16 @@ ghost use Rattle.printing.specs.WriteLines.{bytesTo, plainBytes, lineTo, linesT
 pub fn plain_to(limit: u32, out: &mut [u8], p: Pen, k: u32) -> Pen
     ensures { λ q. ⌜ ((m : List ℕ) → page m (now (out .exit)) q ≡ bytesTo limit (page m (now (out .entry)) p) (plainBytes k)) ⌝ }
 {
-    if k == 0 {
+    if k == lines::TRUE {
         return bytes_to(limit, out, p, b"D\ttrue\n");
     }
-    if k == 1 {
+    if k == lines::AND {
         return bytes_to(limit, out, p, b"D\tand\n");
     }
-    if k == 2 {
+    if k == lines::LEFT {
         return bytes_to(limit, out, p, b"D\tleft\n");
     }
-    if k == 3 {
+    if k == lines::RIGHT {
         return bytes_to(limit, out, p, b"D\tright\n");
     }
     bytes_to(limit, out, p, b"D\tassume\n")
@@ -48,14 +50,14 @@ pub fn line_to(
     requires { ⌜ limit ≤ 65535 ⌝ }
     ensures { λ q. ⌜ page (now (w .exit)) (now (out .exit)) q ≡ lineTo (now (sheet .entry)) (now (t .entry)) turns limit (page (now (w .entry)) (now (out .entry)) p) u k ⌝ }
 {
-    if k < 5 {
+    if k < lines::SOME {
         return plain_to(limit, out, p, k);
     }
-    if k == 5 {
-        let a = variable_word(field(w, u, 43));
+    if k == lines::SOME {
+        let a = variable_word(field(w, u, fields::VARIABLES));
         return term_line(sheet, t, turns, limit, w, out, p, b"D\tsome\t", a);
     }
-    if k == 6 {
+    if k == lines::ALL {
         let a = constant_word(u);
         return term_line(sheet, t, turns, limit, w, out, p, b"D\tall\t", a);
     }
@@ -81,13 +83,23 @@ pub fn lines_to(
     let mut link = e;
     let mut q = p;
     while 0 < left {
-        let pointer = link / 8;
+        let pointer = link / printing::LINE_CODES;
         if pointer == 0 {
             return q;
         }
         let u = record_of(pointer);
-        let next = field(w, u, 62);
-        q = line_to(sheet, t, turns, limit, w, out, q, u, link % 8);
+        let next = field(w, u, printing::fields::NEXT_LINE);
+        q = line_to(
+            sheet,
+            t,
+            turns,
+            limit,
+            w,
+            out,
+            q,
+            u,
+            link % printing::LINE_CODES,
+        );
         link = next;
         left -= 1;
     }

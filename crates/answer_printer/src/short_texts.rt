@@ -1,4 +1,5 @@
 // The texts of no and spent, in two passes. Each function is a definition of the crate printing, and its contract says so.
+use sheet_format::limits;
 use term_printer::output::emit;
 use term_printer::output::write_bytes;
 use term_printer::output::write_number;
@@ -7,14 +8,16 @@ ghost use Prim.Native.Nat.{_<_, _≤_};
 ghost use Rattle.printing.specs.Output.{written};
 ghost use Rattle.printing.specs.Writer.{textLimit, shortPass, writeShort, writeNo, writeSpent};
 
+const MAX_BYTES: usize = limits::MAX_TEXT_BYTES as usize;
+
 // The most bytes that fit.
 pub fn text_limit(out: &[u8]) -> u32
     ensures { λ r. ⌜ (r ≡ textLimit (now (out .entry))) × (r ≤ 65535) ⌝ }
 {
-    if out.len() < 65535 {
+    if out.len() < MAX_BYTES {
         return out.len() as u32;
     }
-    65535
+    limits::MAX_TEXT_BYTES
 }
 
 // The texts of no and spent: bs are the bytes before the units.
@@ -32,7 +35,7 @@ pub fn write_short(bs: &[u8], units: u32, out: &mut [u8]) -> u32
     let limit = text_limit(out);
     let length = short_pass(bs, units, &mut out[..0], limit);
     if limit < length {
-        return 65536;
+        return printing::NO_ROOM;
     }
     short_pass(bs, units, out, limit)
 }

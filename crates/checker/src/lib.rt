@@ -2,6 +2,10 @@
 use memory::zero_front;
 use outcomes::Refusal;
 use outcomes::Verdict;
+use outcomes::refusals;
+use sheet_format::limits;
+use sheet_format::limits::NUMBERS_PER_UNIT;
+use sheet_format::limits::TABLE_NUMBERS;
 use sheet_reader::sheet_lines::Read;
 ghost use mathlib.Core.Path.{_≡_};
 ghost use Prim.Native.Nat.{_≤_};
@@ -13,6 +17,8 @@ ghost use Rattle.checker_spec.specs.CheckText.{countLf, checkSheet};
 ghost use Rattle.checker_spec.specs.Promises.{handedBack, CheckContract};
 ghost use Rattle.checker_spec.specs.Handed.{handed};
 ghost use Rattle.checker_spec.specs.Checking.{earlyNumber, refusedCheck, verdictAt};
+
+const MAX_BYTES: usize = limits::MAX_TEXT_BYTES as usize;
 
 // How many LF bytes the text has. The work buffer has 64 numbers for each.
 fn count_lf(text: &[u8]) -> usize
@@ -33,14 +39,14 @@ fn count_lf(text: &[u8]) -> usize
 fn early(sheet: usize, table: usize, text: usize) -> u32
     ensures { λ r. ⌜ r ≡ earlyNumber sheet table text ⌝ }
 {
-    if 16384 < sheet {
-        return 1;
+    if limits::MAX_SHEET_BYTES < sheet {
+        return refusals::SHEET_TOO_LONG;
     }
-    if table < 8192 {
-        return 2;
+    if table < TABLE_NUMBERS {
+        return refusals::TABLE_TOO_SHORT;
     }
-    if 65535 < text {
-        return 4;
+    if MAX_BYTES < text {
+        return refusals::TEXT_TOO_LONG;
     }
     0
 }
@@ -98,9 +104,9 @@ pub fn check(sheet: &[u8], text: &[u8], table: &mut [u32], work: &mut [u32]) -> 
     if number != 0 {
         return refused(number, 0);
     }
-    let m = 64 * count_lf(text);
+    let m = NUMBERS_PER_UNIT * count_lf(text);
     if work.len() < m {
-        return refused(5, 0);
+        return refused(refusals::WORK_TOO_SHORT, 0);
     }
-    inside(sheet, text, &mut table[..8192], &mut work[..m])
+    inside(sheet, text, &mut table[..TABLE_NUMBERS], &mut work[..m])
 }

@@ -11,7 +11,7 @@ use lib.Seq.{length-take-le}
 use borrow.Author.Tests.{ltb-false, lt-ltb, le-ltb, le-leb, lt-leb}
 use Rattle.outcomes.specs.declared.Verdict.{Verdict}
 use Rattle.outcomes.specs.Outcomes.{verdictCode, verdictLine, verdictNumber}
-use Rattle.sheet_format.specs.Limits.{maxSheetBytes, tableNumbers, maxTextBytes}
+use Rattle.sheet_format.specs.Limits.{maxSheetBytes, tableNumbers, maxTextBytes, numbersPerUnit}
 use Rattle.sheet_format.specs.Buffers.{demanded, zeroed}
 use Rattle.sheet_format.specs.Sheets.{refusal, Read, sheet, refused, readSheet}
 use Rattle.checker_spec.specs.CheckText.{Checked, turnedBack, countLf, checkSheet, turnBackIf, checkText, isEarly, tableAfter, workAfter}
@@ -83,27 +83,27 @@ check-refused bytes text table work n v q h e =
     turned-back bytes text table work n v (g .0) (g .1) e
 
 -- Refusal 5.
-pub check-short : (bytes text table work : List ℕ) (n m : ℕ) (v : Verdict) → n ≡ earlyNumber (length bytes) (length table) (length text) → n ≡ 0 → m ≡ countLf text → length work < 64 * m
+pub check-short : (bytes text table work : List ℕ) (n m : ℕ) (v : Verdict) → n ≡ earlyNumber (length bytes) (length table) (length text) → n ≡ 0 → m ≡ countLf text → length work < numbersPerUnit * m
     → v ≡ refusedCheck 5 0 → CheckContract bytes text table work table work (handed v)
 unfolding turnBackIf demanded
 check-short bytes text table work n m v q z em h e =
     let p = early-passed bytes text (length table) (sym q ∙ z) in
     let g : checkText bytes text (length table) (length work) ≡ turnedBack (refusal 5 0) =
-    rw (passed-checks bytes text (length table) (length work) p, ← em, lt-ltb (length work) (64 * m) h) in
+    rw (passed-checks bytes text (length table) (length work) p, ← em, lt-ltb (length work) (numbersPerUnit * m) h) in
     turned-back bytes text table work 5 v g (omega arith) e
 
 -- None: the parts lent end as zeros.
-pub check-passed : (bytes text table work t w : List ℕ) (n m : ℕ) (v : Verdict) → n ≡ earlyNumber (length bytes) (length table) (length text) → n ≡ 0 → m ≡ countLf text → 64 * m ≤ length work
-    → handed v ≡ handedBack (checkSheet text (readSheet bytes)) → t ≡ replicate (length (take 8192 table)) 0 → w ≡ replicate (length (take (64 * m) work)) 0
-    → CheckContract bytes text table work (t ++ drop 8192 table) (w ++ drop (64 * m) work) (handed v)
+pub check-passed : (bytes text table work t w : List ℕ) (n m : ℕ) (v : Verdict) → n ≡ earlyNumber (length bytes) (length table) (length text) → n ≡ 0 → m ≡ countLf text → numbersPerUnit * m ≤ length work
+    → handed v ≡ handedBack (checkSheet text (readSheet bytes)) → t ≡ replicate (length (take 8192 table)) 0 → w ≡ replicate (length (take (numbersPerUnit * m) work)) 0
+    → CheckContract bytes text table work (t ++ drop 8192 table) (w ++ drop (numbersPerUnit * m) work) (handed v)
 unfolding turnBackIf tableAfter workAfter zeroed demanded
 check-passed bytes text table work t w n m v q z em h i et ew =
     let p = early-passed bytes text (length table) (sym q ∙ z) in
     let g : checkText bytes text (length table) (length work) ≡ checkSheet text (readSheet bytes) =
-    rw (passed-checks bytes text (length table) (length work) p, ← em, le-ltb (length work) (64 * m) h) in
+    rw (passed-checks bytes text (length table) (length work) p, ← em, le-ltb (length work) (numbersPerUnit * m) h) in
     let l = late bytes text in
     record {
       value = rw g i;
       tableEnd = rw (g, l, et, length-take-le 8192 table (p .tableFits));
-      workEnd = rw (g, l, ew, ← em, length-take-le (64 * m) work h);
+      workEnd = rw (g, l, ew, ← em, length-take-le (numbersPerUnit * m) work h);
     }

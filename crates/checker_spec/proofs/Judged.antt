@@ -5,6 +5,7 @@ use mathlib.Core.Path.{_≡_, refl, _∙_, ap, subst}
 use mathlib.Core.List.{List}
 use lib.ListN.{length}
 use borrow.Author.Tests.{ne-eqb}
+use Rattle.sheet_format.specs.Limits.{numbersPerUnit}
 use Rattle.outcomes.specs.declared.Refusal.{Refusal}
 use Rattle.outcomes.specs.declared.Verdict.{Verdict}
 use Rattle.outcomes.specs.Outcomes.{verdictCode, verdictLine, verdictNumber}
@@ -39,7 +40,7 @@ unfolding readOf WellRead checkSheet demanded
 text-judged bytes text t t′ x k goal w w′ n v c e room d q =
     let z = subst (ReadContract bytes t t′) e c in
     let s = decodeSheet bytes t′ (k .symbols) (k .clauses) goal in
-    let h : 64 * lineFeeds text ≤ length w = subst (λ (i : ℕ). 64 * i ≤ length w) (countLf-lines text) room in
+    let h : numbersPerUnit * lineFeeds text ≤ length w = subst (λ (i : ℕ). numbersPerUnit * i ≤ length w) (countLf-lines text) room in
     let g = simulates bytes s (z .read) t′ (k .symbols) (k .nodes) (k .clauses) goal (z .wellMade) refl text w h in
     let j : judgementOf n ≡ judge s text = ap (λ (a : Judged). judgementOf (a .verdict)) d ∙ g .verdict in
     rw (q, z .read, ← j) (verdict-handed n)

@@ -5,6 +5,8 @@ use super::registers::on_stage;
 use instances::frames::field;
 use instances::frames::put_field;
 use line_checking::Registers;
+use line_checking::text_stages;
+use scanning::fields;
 ghost use mathlib.Core.Path.{_≡_};
 ghost use Prim.Native.Nat.{_-_};
 ghost use Rattle.line_checking.specs.Sequents.{putSequent, dueSequent, proceed, putHypothesis};
@@ -21,22 +23,22 @@ pub fn put_sequent(
 )
     ensures { λ _. ⌜ now (w .exit) ≡ putSequent (now (w .entry)) q node frame hypotheses level next ⌝ }
 {
-    put_field(w, q, 16, node);
-    put_field(w, q, 17, frame);
-    put_field(w, q, 18, hypotheses);
-    put_field(w, q, 19, level);
-    put_field(w, q, 20, next);
+    put_field(w, q, fields::SEQUENT_NODE, node);
+    put_field(w, q, fields::SEQUENT_FRAME, frame);
+    put_field(w, q, fields::SEQUENT_HYPOTHESES, hypotheses);
+    put_field(w, q, fields::SEQUENT_LEVEL, level);
+    put_field(w, q, fields::SEQUENT_NEXT, next);
 }
 
 // It is due.
 pub fn due_sequent(w: &[u32], r: Registers, q: u32) -> Registers
     ensures { λ s. ⌜ s ≡ dueSequent (now (w .entry)) r q ⌝ }
 {
-    let node = field(w, q, 16);
-    let frame = field(w, q, 17);
-    let hypotheses = field(w, q, 18);
-    let level = field(w, q, 19);
-    let next = field(w, q, 20);
+    let node = field(w, q, fields::SEQUENT_NODE);
+    let frame = field(w, q, fields::SEQUENT_FRAME);
+    let hypotheses = field(w, q, fields::SEQUENT_HYPOTHESES);
+    let level = field(w, q, fields::SEQUENT_LEVEL);
+    let next = field(w, q, fields::SEQUENT_NEXT);
     on_sequent(r, node, frame, hypotheses, level, next)
 }
 
@@ -46,7 +48,7 @@ pub fn proceed(w: &[u32], r: Registers) -> Registers
 {
     let rest = r.rest;
     if rest == 0 {
-        return on_stage(r, 3);
+        return on_stage(r, text_stages::DONE);
     }
     due_sequent(w, r, rest - 1)
 }
@@ -55,7 +57,7 @@ pub fn proceed(w: &[u32], r: Registers) -> Registers
 pub fn put_hypothesis(w: &mut [u32], q: u32, node: u32, frame: u32, next: u32)
     ensures { λ _. ⌜ now (w .exit) ≡ putHypothesis (now (w .entry)) q node frame next ⌝ }
 {
-    put_field(w, q, 21, node);
-    put_field(w, q, 22, frame);
-    put_field(w, q, 23, next);
+    put_field(w, q, fields::HYPOTHESIS_NODE, node);
+    put_field(w, q, fields::HYPOTHESIS_FRAME, frame);
+    put_field(w, q, fields::HYPOTHESIS_NEXT, next);
 }

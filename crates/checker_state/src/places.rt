@@ -4,6 +4,7 @@ use instances::frames::field;
 use line_checking::Place;
 use node_table::clause_node;
 use node_table::members;
+use scanning::fields;
 ghost use mathlib.Core.Path.{_≡_};
 ghost use Rattle.line_checking.specs.Members.{clauseFrom, hypothesisFrom};
 
@@ -37,12 +38,12 @@ pub fn hypothesis_from(n: u32, t: &[u32], clauses: u32, w: &[u32], h: u32, k: u3
             return clause_from(clauses, t, left);
         }
         let q = next - 1;
-        let node = field(w, q, 21);
+        let node = field(w, q, fields::HYPOTHESIS_NODE);
         let count = members(t, node);
         if left < count {
-            return Place::At(node, field(w, q, 22), left);
+            return Place::At(node, field(w, q, fields::HYPOTHESIS_FRAME), left);
         }
-        next = field(w, q, 23);
+        next = field(w, q, fields::HYPOTHESIS_NEXT);
         left -= count;
         turns -= 1;
     }

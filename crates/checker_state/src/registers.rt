@@ -1,8 +1,10 @@
 // The registers of the checker: which line is due. Each function is a definition of the crate line_checking, and its contract
 // says so.
 use line_checking::Registers;
+use line_checking::text_stages;
 use node_table::bit_of;
 use node_table::mask;
+use sheet_format::limits;
 ghost use mathlib.Core.Path.{_≡_};
 ghost use mathlib.Core.List.{List};
 ghost use Prim.Native.Nat.{ℕ, _-_};
@@ -13,7 +15,7 @@ pub fn start() -> Registers
     ensures { λ s. ⌜ s ≡ start ⌝ }
 {
     Registers {
-        stage: 0,
+        stage: text_stages::OPENING,
         node: 0,
         frame: 0,
         hypotheses: 0,
@@ -37,7 +39,7 @@ pub fn on_stage(r: Registers, k: u32) -> Registers
 pub fn broken(r: Registers) -> Registers
     ensures { λ s. ⌜ ((w : List ℕ) → made w s ≡ broken w r) ⌝ }
 {
-    on_stage(r, 4)
+    on_stage(r, text_stages::BROKEN)
 }
 
 // A B line for variable v is due.
@@ -45,7 +47,7 @@ pub fn on_binding(r: Registers, v: u32, f: u32) -> Registers
     ensures { λ s. ⌜ s ≡ onBinding r v f ⌝ }
 {
     Registers {
-        stage: 1,
+        stage: text_stages::BINDING,
         node: v,
         frame: f,
         hypotheses: 0,
@@ -61,7 +63,7 @@ pub fn on_sequent(r: Registers, n: u32, f: u32, h: u32, i: u32, q: u32) -> Regis
     ensures { λ s. ⌜ s ≡ onSequent r n f h i q ⌝ }
 {
     Registers {
-        stage: 2,
+        stage: text_stages::SEQUENT,
         node: n,
         frame: f,
         hypotheses: h,
@@ -82,12 +84,14 @@ pub fn on_counts(r: Registers, m: u32, l: u32) -> Registers
     s
 }
 
+const NAMES: usize = limits::VARIABLE_NAMES as usize;
+
 // The first variable from v on that is in the mask; 8 or more if none is.
 pub fn free_from(mask: u32, v: usize) -> usize
     ensures { λ r. ⌜ r ≡ freeFrom (8 - v) mask v ⌝ }
 {
     let mut at = v;
-    while at < 8 {
+    while at < NAMES {
         if bit_of(mask, at as u32) == 1 {
             return at;
         }
@@ -100,7 +104,7 @@ pub fn free_from(mask: u32, v: usize) -> usize
 pub fn bound_from(goal: u32, r: Registers, v: usize, f: u32) -> Registers
     ensures { λ s. ⌜ s ≡ boundFrom goal r v f ⌝ }
 {
-    if v < 8 {
+    if v < NAMES {
         return on_binding(r, v as u32, f);
     }
     on_sequent(r, goal, f, 0, 0, 0)

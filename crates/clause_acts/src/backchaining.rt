@@ -14,6 +14,7 @@ use machine_memory::words::up;
 use match_acts::pairs::due_pairs;
 use match_acts::pairs::pairs_from;
 use node_table::label;
+use sheet_format::limits;
 ghost use mathlib.Core.Path.{_≡_};
 ghost use Rattle.machine.specs.Records.{made};
 ghost use Rattle.machine.specs.Words.{up};
@@ -47,6 +48,6 @@ pub fn try_found(t: &[u32], c: u32, w: &mut [u32], r: Registers, m: Found) -> Re
 pub fn try_next(t: &[u32], c: u32, w: &mut [u32], r: Registers) -> Registers
     ensures { λ s. ⌜ made (now (w .exit)) s ≡ tryNext (now (t .entry)) c (now (w .entry)) r ⌝ }
 {
-    let m = find_member(1024, t, clause_of(t, w, r), r.member);
+    let m = find_member(limits::MAX_NODES, t, clause_of(t, w, r), r.member);
     try_found(t, c, w, r, m)
 }

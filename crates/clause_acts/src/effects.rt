@@ -3,6 +3,7 @@
 use goal_acts::goals::members_left;
 use machine::Found;
 use machine::Registers;
+use machine::lines;
 use machine_memory::records::put_goal;
 use machine_memory::records::put_path;
 use machine_memory::records::put_use;
@@ -16,6 +17,7 @@ use machine_memory::words::up;
 use memory::wide;
 use node_table::child;
 use node_table::kind;
+use node_table::kinds;
 ghost use mathlib.Core.Path.{_≡_};
 ghost use mathlib.Core.Bool.{cond};
 ghost use lib.Dec.{eqb};
@@ -38,7 +40,7 @@ pub fn leave_others(c: u32, w: &mut [u32], u: u32, s: Registers)
 pub fn put_body(t: &[u32], w: &mut [u32], r: Registers, n: u32)
     ensures { λ _. ⌜ now (w .exit) ≡ putBody (now (t .entry)) (now (w .entry)) r n ⌝ }
 {
-    if kind(t, n) != 6 {
+    if kind(t, n) != kinds::IMPLIES {
         return;
     }
     let u = r.acts;
@@ -70,7 +72,7 @@ fn tried_choice(c: u32, r: Registers, s: Registers) -> u32
 fn tried_goals(t: &[u32], r: Registers, n: u32) -> u32
     ensures { λ q. ⌜ q ≡ cond (eqb (kindOf (now (t .entry)) n) 6) (up (r .acts)) (r .goals) ⌝ }
 {
-    if kind(t, n) == 6 {
+    if kind(t, n) == kinds::IMPLIES {
         return up(r.acts);
     }
     r.goals
@@ -83,6 +85,6 @@ pub fn tried(t: &[u32], c: u32, r: Registers, m: Found, s: Registers) -> Registe
     let choice = tried_choice(c, r, s);
     let goals = tried_goals(t, r, m.leaf);
     let next = narrow(wide(r.next) + wide(m.count));
-    let a = on_next(on_path(r, up(r.acts), 7), next);
+    let a = on_next(on_path(r, up(r.acts), lines::CLAUSE), next);
     on_goals(on_choice(a, choice), goals)
 }

@@ -2,6 +2,7 @@
 // contract says so.
 use machine::Found;
 use machine::Registers;
+use machine::fields;
 use machine_memory::cells::field;
 use machine_memory::frames::copy_frame;
 use machine_memory::frames::put_fresh;
@@ -9,6 +10,7 @@ use machine_memory::registers::on_member;
 use machine_memory::words::up;
 use node_table::clause_node;
 use node_table::members;
+use sheet_format::limits;
 ghost use mathlib.Core.Path.{_≡_};
 ghost use Rattle.machine.specs.Words.{up};
 ghost use Rattle.machine.specs.Trying.{clauseOf, clauseFrame, nextClause, nextMember, putPrefix};
@@ -21,7 +23,7 @@ pub fn clause_of(t: &[u32], w: &[u32], r: Registers) -> u32
     if h == 0 {
         return clause_node(t, r.clause);
     }
-    field(w, h - 1, 36)
+    field(w, h - 1, fields::ASSUMPTION_NODE)
 }
 
 pub fn clause_frame(w: &[u32], r: Registers) -> u32
@@ -31,7 +33,7 @@ pub fn clause_frame(w: &[u32], r: Registers) -> u32
     if h == 0 {
         return 0;
     }
-    field(w, h - 1, 37)
+    field(w, h - 1, fields::ASSUMPTION_FRAME)
 }
 
 // At the first member of the clause after it.
@@ -43,7 +45,7 @@ pub fn next_clause(w: &[u32], r: Registers) -> Registers
     if h == 0 {
         return on_member(r, 0, up(r.clause), 0, place);
     }
-    on_member(r, field(w, h - 1, 38), 0, 0, place)
+    on_member(r, field(w, h - 1, fields::ASSUMPTION_NEXT), 0, 0, place)
 }
 
 // At the member after it.
@@ -63,6 +65,6 @@ pub fn put_prefix(w: &mut [u32], r: Registers, m: Found)
 {
     let u = r.acts;
     let f = clause_frame(w, r);
-    copy_frame(8, w, u, f, 0);
+    copy_frame(limits::VARIABLE_NAMES, w, u, f, 0);
     put_fresh(m.count, w, u, m.names, r.next, r.level);
 }

@@ -6,6 +6,8 @@ use memory::wide;
 use memory::zero_front;
 use outcomes::Run;
 use report::tell;
+use sheet_format::limits::NUMBERS_PER_UNIT;
+use sheet_format::limits::TABLE_NUMBERS;
 use sheet_reader::sheet_lines::Read;
 use size_checks::early;
 ghost use mathlib.Core.Path.{_≡_};
@@ -67,6 +69,12 @@ pub fn run(sheet: &[u8], budget: u32, table: &mut [u32], work: &mut [u32], answe
     if number != 0 {
         return outcomes::refused(number, 0);
     }
-    let m = 64 * wide(budget);
-    inside(sheet, budget, &mut table[..8192], &mut work[..m], answer)
+    let m = NUMBERS_PER_UNIT * wide(budget);
+    inside(
+        sheet,
+        budget,
+        &mut table[..TABLE_NUMBERS],
+        &mut work[..m],
+        answer,
+    )
 }

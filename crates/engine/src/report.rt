@@ -1,7 +1,10 @@
 // The end of a run: what the search came to, its text written, and what is told of both.
 use machine::Registers;
+use machine::modes;
 use outcomes::Outcome;
 use outcomes::Run;
+use outcomes::refusals;
+use sheet_format::limits;
 ghost use mathlib.Core.Path.{_≡_};
 ghost use lib.ListN.{length};
 ghost use Rattle.machine.specs.Records.{made};
@@ -11,8 +14,8 @@ ghost use Rattle.engine_spec.specs.Answering.{reported, ended, tell};
 fn report(outcome: Outcome, units: u32, length: u32) -> Run
     ensures { λ r. ⌜ r ≡ reported outcome units length ⌝ }
 {
-    if 65535 < length {
-        return outcomes::refused(12, 0);
+    if limits::MAX_TEXT_BYTES < length {
+        return outcomes::refused(refusals::ANSWER_TOO_LONG, 0);
     }
     Run {
         outcome,
@@ -34,11 +37,11 @@ pub fn tell(
     ensures { λ e. ⌜ ended (now (answer .exit)) e ≡ tell (now (sheet .entry)) (now (t .entry)) goal budget (made (now (w .entry)) r) (now (answer .entry)) ⌝ }
 {
     let acts = r.acts;
-    if r.mode == 4 {
+    if r.mode == modes::PROVED {
         let n = answer_printer::write_proof(sheet, t, goal, w, r, acts, answer);
         return report(Outcome::Proved, acts, n);
     }
-    if r.mode == 5 {
+    if r.mode == modes::NO {
         let n = answer_printer::short_texts::write_no(acts, answer);
         return report(Outcome::No, acts, n);
     }

@@ -1,5 +1,7 @@
 // The first refusal of a run that looks at sizes alone.
 use memory::wide;
+use outcomes::refusals;
+use sheet_format::limits;
 ghost use mathlib.Core.Path.{_≡_};
 ghost use Rattle.engine_spec.specs.Answering.{earlyNumber};
 
@@ -7,20 +9,20 @@ ghost use Rattle.engine_spec.specs.Answering.{earlyNumber};
 pub fn early(sheet: usize, budget: u32, table: usize, work: usize) -> u32
     ensures { λ r. ⌜ r ≡ earlyNumber sheet budget table work ⌝ }
 {
-    if 16384 < sheet {
-        return 1;
+    if limits::MAX_SHEET_BYTES < sheet {
+        return refusals::SHEET_TOO_LONG;
     }
-    if table < 8192 {
-        return 2;
+    if table < limits::TABLE_NUMBERS {
+        return refusals::TABLE_TOO_SHORT;
     }
     if budget == 0 {
-        return 3;
+        return refusals::BUDGET;
     }
-    if 50000 < budget {
-        return 3;
+    if limits::MAX_BUDGET < budget {
+        return refusals::BUDGET;
     }
-    if work < 64 * wide(budget) {
-        return 5;
+    if work < limits::NUMBERS_PER_UNIT * wide(budget) {
+        return refusals::WORK_TOO_SHORT;
     }
     0
 }

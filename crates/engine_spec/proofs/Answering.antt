@@ -23,7 +23,7 @@ use Rattle.table_builder.specs.declared.node_info.Counts.{Counts}
 use Rattle.sheet_reader.specs.declared.sheet_lines.Read.{Read}
 use Rattle.sheet_reader.specs.declared.sheet_lines.Read.the-variants.{Done, Refused}
 use Rattle.sheet_reader.specs.Reader.{readOf, WellRead, NamedRead, ReadContract}
-use Rattle.machine.specs.Records.{Made}
+use Rattle.machine.specs.Records.{Made, provedMode, noMode}
 use Rattle.machine.specs.Machine.{runMachine}
 use Rattle.machine.specs.Simulation.{Tells}
 use Rattle.machine.proofs.Promises.{machineTells}
@@ -90,7 +90,7 @@ module _ (bytes t : List ℕ) (k : Counts) (goal : ℕ) (table : WellMade t (k .
   m = runMachine budget t (k .clauses) goal w
 
   -- the machine's acts are the units told
-  proved-told : (n : ℕ) (text : List ℕ) → m .registers .mode ≡ 4 → m .registers .acts ≡ n → written (writeProof bytes t goal m n out .buffer) (writeProof bytes t goal m n out .length) ≡ told text out
+  proved-told : (n : ℕ) (text : List ℕ) → m .registers .mode ≡ provedMode → m .registers .acts ≡ n → written (writeProof bytes t goal m n out .buffer) (writeProof bytes t goal m n out .length) ≡ told text out
       → Comes out (tell bytes t goal budget m out) (fit (length out) (record { outcome = toldProved; units = n; text = text }))
   unfolding tell outcomeNumber outcomeCode refusalNumber refusalLine
   proved-told n text mode acts e =
@@ -98,7 +98,7 @@ module _ (bytes t : List ℕ) (k : Counts) (goal : ℕ) (table : WellMade t (k .
       let e′ : written (writeProof bytes t goal m a out .buffer) (writeProof bytes t goal m a out .length) ≡ told text out =
       subst (λ (i : ℕ). written (writeProof bytes t goal m i out .buffer) (writeProof bytes t goal m i out .length) ≡ told text out) (sym acts) e in
       subst (λ (i : ℕ). Comes out (tell bytes t goal budget m out) (fit (length out) (record { outcome = toldProved; units = i; text = text }))) acts
-      (rw (eq-eqb (m .registers .mode) 4 mode)
+      (rw (eq-eqb (m .registers .mode) provedMode mode)
       (subst (λ (x : Written). Comes out (ended (x .buffer) (reported Proved a (x .at))) (fit (length out) (record { outcome = toldProved; units = a; text = text }))) (sym e′)
       (told-comes Proved toldProved a text out refl refl refl)))
 
@@ -111,7 +111,7 @@ module _ (bytes t : List ℕ) (k : Counts) (goal : ℕ) (table : WellMade t (k .
   outcome-told (ends noProof n) q h =
       rw (h .0, h .1, writes-no n out) (told-comes No toldNo n (noText n) out refl refl refl)
   outcome-told spent q h =
-      rw (ne-eqb (m .registers .mode) 4 (λ e. omega arith), ne-eqb (m .registers .mode) 5 (λ e. omega arith), writes-spent budget out) (told-comes Spent toldSpent budget (spentText budget) out refl refl refl)
+      rw (ne-eqb (m .registers .mode) provedMode (λ e. omega arith), ne-eqb (m .registers .mode) noMode (λ e. omega arith), writes-spent budget out) (told-comes Spent toldSpent budget (spentText budget) out refl refl refl)
 
   search-told : Comes out (tell bytes t goal budget m out) (fit (length out) (answerTo s budget (search budget (s .clauses) (s .goal))))
   unfolding s m demanded

@@ -12,7 +12,7 @@ use borrow.Author.Tests.{ltb-false, eqb-false, le-ltb, ne-eqb, le-leb, lt-leb}
 use Rattle.outcomes.specs.declared.Run.{Run}
 use Rattle.outcomes.specs.Outcomes.{outcomeCode, refusalNumber, refusalLine, refusedRun}
 use Rattle.search.specs.Search.{search}
-use Rattle.sheet_format.specs.Limits.{maxSheetBytes, tableNumbers, maxBudget, maxTextBytes}
+use Rattle.sheet_format.specs.Limits.{maxSheetBytes, tableNumbers, maxBudget, maxTextBytes, numbersPerUnit}
 use Rattle.sheet_format.specs.Buffers.{demanded, zeroed}
 use Rattle.sheet_format.specs.Sheets.{refusal, Read, sheet, refused, readSheet}
 use Rattle.engine_spec.specs.EngineRun.{Answer, Result, answered, turnedBack, answerTo, fit, runSheet, turnBackIf, engineRun, isEarly, tableAfter, workAfter, answerAfter}
@@ -87,8 +87,8 @@ run-refused bytes budget table work answer n r q h e =
 
 -- Past them: the parts lent end as zeros.
 pub run-passed : (bytes : List ℕ) (budget : ℕ) (table work answer answer′ t w : List ℕ) (n m : ℕ) (r : Run) → n ≡ earlyNumber (length bytes) budget (length table) (length work) → n ≡ 0 → m ≡ budget
-    → Answering bytes budget answer answer′ r → t ≡ replicate (length (take 8192 table)) 0 → w ≡ replicate (length (take (64 * m) work)) 0
-    → RunContract bytes budget table work answer (t ++ drop 8192 table) (w ++ drop (64 * m) work) answer′ (handed r)
+    → Answering bytes budget answer answer′ r → t ≡ replicate (length (take 8192 table)) 0 → w ≡ replicate (length (take (numbersPerUnit * m) work)) 0
+    → RunContract bytes budget table work answer (t ++ drop 8192 table) (w ++ drop (numbersPerUnit * m) work) answer′ (handed r)
 unfolding tableAfter workAfter zeroed demanded
 run-passed bytes budget table work answer answer′ t w n m r q z em i et ew =
     let p = early-passed bytes budget (length table) (length work) (sym q ∙ z) in
@@ -97,6 +97,6 @@ run-passed bytes budget table work answer answer′ t w n m r q z em i et ew =
     record {
       value = rw g (i .value);
       tableEnd = rw (g, l, et, length-take-le 8192 table (p .tableFits));
-      workEnd = rw (g, l, ew, em, length-take-le (64 * budget) work (p .workFits));
+      workEnd = rw (g, l, ew, em, length-take-le (numbersPerUnit * budget) work (p .workFits));
       answerEnd = rw g (i .answerEnd);
     }

@@ -1,6 +1,7 @@
 // Taking a goal of the form &, | or > on the lent work buffer and the registers.
 // Each function is a definition of the crate machine, and its contract says so.
 use machine::Registers;
+use machine::lines;
 use machine_memory::records::put_assumption;
 use machine_memory::records::put_goal;
 use machine_memory::records::put_path;
@@ -26,7 +27,7 @@ pub fn take_and(t: &[u32], w: &mut [u32], r: Registers) -> Registers
     put_path(w, act, r.path, r.line);
     put_goal(w, act, right, r.frame, r.program, r.level, r.goals);
     let next = up(act);
-    let s = on_goals(on_path(r, next, 1), next);
+    let s = on_goals(on_path(r, next, lines::AND), next);
     on_goal(s, left, r.frame, r.program, r.level)
 }
 
@@ -34,7 +35,7 @@ pub fn take_and(t: &[u32], w: &mut [u32], r: Registers) -> Registers
 pub fn right_branch(t: &[u32], r: Registers) -> Registers
     ensures { λ s. ⌜ s ≡ rightBranch (now (t .entry)) r ⌝ }
 {
-    let s = on_path(r, up(r.acts), 3);
+    let s = on_path(r, up(r.acts), lines::RIGHT);
     let goal = on_goal(s, child(t, r.node, 1), r.frame, r.program, r.level);
     on_member(goal, 0, 0, 0, 0)
 }
@@ -46,7 +47,7 @@ pub fn take_or(t: &[u32], w: &mut [u32], r: Registers) -> Registers
     put_path(w, act, r.path, r.line);
     save_choice(w, act, right_branch(t, r));
     let next = up(act);
-    let s = on_choice(on_path(r, next, 2), next);
+    let s = on_choice(on_path(r, next, lines::LEFT), next);
     on_goal(s, child(t, r.node, 0), r.frame, r.program, r.level)
 }
 
@@ -60,6 +61,6 @@ pub fn take_implies(t: &[u32], w: &mut [u32], r: Registers) -> Registers
     put_path(w, act, r.path, r.line);
     put_assumption(w, act, clause, r.frame, r.program);
     let next = up(act);
-    let s = on_path(r, next, 4);
+    let s = on_path(r, next, lines::ASSUME);
     on_goal(s, goal, r.frame, next, r.level)
 }

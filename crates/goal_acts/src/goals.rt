@@ -1,6 +1,9 @@
 // The goal that is due, and goals that have no goal in them: true, and an atom, whose members are tried next.
 // Each function is a definition of the crate machine, and its contract says so.
 use machine::Registers;
+use machine::fields;
+use machine::lines;
+use machine::modes;
 use machine_memory::cells::field;
 use machine_memory::choice_points::failed;
 use machine_memory::records::put_path;
@@ -18,11 +21,11 @@ ghost use Rattle.machine.specs.Goals.{dueGoal, proceed, membersLeft, tryFrom, t
 pub fn due_goal(w: &[u32], r: Registers, q: u32) -> Registers
     ensures { λ s. ⌜ s ≡ dueGoal (now (w .entry)) r q ⌝ }
 {
-    let s = on_goals(r, field(w, q, 35));
-    let node = field(w, q, 31);
-    let frame = field(w, q, 32);
-    let program = field(w, q, 33);
-    let level = field(w, q, 34);
+    let s = on_goals(r, field(w, q, fields::GOAL_NEXT));
+    let node = field(w, q, fields::GOAL_NODE);
+    let frame = field(w, q, fields::GOAL_FRAME);
+    let program = field(w, q, fields::GOAL_PROGRAM);
+    let level = field(w, q, fields::GOAL_LEVEL);
     on_goal(s, node, frame, program, level)
 }
 
@@ -32,7 +35,7 @@ pub fn proceed(w: &[u32], r: Registers) -> Registers
 {
     let goals = r.goals;
     if goals == 0 {
-        return on_mode(r, 4);
+        return on_mode(r, modes::PROVED);
     }
     due_goal(w, r, goals - 1)
 }
@@ -54,7 +57,7 @@ pub fn try_from(c: u32, w: &mut [u32], r: Registers) -> Registers
     ensures { λ s. ⌜ made (now (w .exit)) s ≡ tryFrom c (now (w .entry)) r ⌝ }
 {
     if members_left(c, r) {
-        return on_mode(r, 1);
+        return on_mode(r, modes::TRY);
     }
     failed(w, r)
 }
@@ -72,5 +75,5 @@ pub fn take_true(w: &mut [u32], r: Registers) -> Registers
 {
     let act = r.acts;
     put_path(w, act, r.path, r.line);
-    proceed(w, on_path(r, up(act), 0))
+    proceed(w, on_path(r, up(act), lines::TRUE))
 }

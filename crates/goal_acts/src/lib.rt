@@ -10,6 +10,7 @@ use goals::take_atom;
 use goals::take_true;
 use machine::Registers;
 use node_table::kind;
+use node_table::kinds;
 use quantifiers::take_exists;
 use quantifiers::take_forall;
 ghost use mathlib.Core.Path.{_≡_};
@@ -22,12 +23,12 @@ pub fn take_goal(t: &[u32], c: u32, w: &mut [u32], r: Registers) -> Registers
 {
     let sort = kind(t, r.node);
     match sort {
-        2 => take_atom(c, w, r),
-        4 => take_and(t, w, r),
-        5 => take_or(t, w, r),
-        6 => take_implies(t, w, r),
-        7 => take_exists(t, w, r),
-        8 => take_forall(t, w, r),
+        kinds::ATOM => take_atom(c, w, r),
+        kinds::AND => take_and(t, w, r),
+        kinds::OR => take_or(t, w, r),
+        kinds::IMPLIES => take_implies(t, w, r),
+        kinds::EXISTS => take_exists(t, w, r),
+        kinds::FORALL => take_forall(t, w, r),
         _ => take_true(w, r),
     }
 }

@@ -1,6 +1,8 @@
 // Taking a goal of the form E or U on the lent work buffer and the registers.
 // Each function is a definition of the crate machine, and its contract says so.
 use machine::Registers;
+use machine::fields;
+use machine::lines;
 use machine_memory::cells::put_field;
 use machine_memory::cells::put_slot;
 use machine_memory::frames::copy_frame;
@@ -13,6 +15,7 @@ use machine_memory::words::constant_word;
 use machine_memory::words::up;
 use node_table::child;
 use node_table::label;
+use sheet_format::limits;
 ghost use mathlib.Core.Path.{_≡_};
 ghost use Rattle.machine.specs.Records.{made};
 ghost use Rattle.machine.specs.Goals.{takeExists, putConstant, takeForall};
@@ -23,12 +26,12 @@ pub fn take_exists(t: &[u32], w: &mut [u32], r: Registers) -> Registers
 {
     let act = r.acts;
     let name = label(t, r.node);
-    copy_frame(8, w, act, r.frame, 0);
+    copy_frame(limits::VARIABLE_NAMES, w, act, r.frame, 0);
     put_fresh(1, w, act, name, r.next, r.level);
     put_path(w, act, r.path, r.line);
-    put_field(w, act, 43, r.next);
+    put_field(w, act, fields::VARIABLES, r.next);
     let next = up(act);
-    let s = on_next(on_path(r, next, 5), up(r.next));
+    let s = on_next(on_path(r, next, lines::SOME), up(r.next));
     on_goal(s, child(t, r.node, 0), next, r.program, r.level)
 }
 
@@ -36,7 +39,7 @@ pub fn take_exists(t: &[u32], w: &mut [u32], r: Registers) -> Registers
 pub fn put_constant(w: &mut [u32], u: u32, v: u32, i: u32)
     ensures { λ _. ⌜ now (w .exit) ≡ putConstant (now (w .entry)) u v i ⌝ }
 {
-    put_field(w, u, 22, i);
+    put_field(w, u, fields::CONSTANT_LEVEL, i);
     put_slot(w, u, v, constant_word(u));
 }
 
@@ -47,10 +50,10 @@ pub fn take_forall(t: &[u32], w: &mut [u32], r: Registers) -> Registers
     let act = r.acts;
     let name = label(t, r.node);
     let level = up(r.level);
-    copy_frame(8, w, act, r.frame, 0);
+    copy_frame(limits::VARIABLE_NAMES, w, act, r.frame, 0);
     put_constant(w, act, name, level);
     put_path(w, act, r.path, r.line);
     let next = up(act);
-    let s = on_path(r, next, 6);
+    let s = on_path(r, next, lines::ALL);
     on_goal(s, child(t, r.node, 0), next, r.program, level)
 }

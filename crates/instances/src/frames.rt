@@ -1,6 +1,8 @@
 // Records of the checker's work buffer, and the frames in them.
 use memory::get;
 use memory::wide;
+use scanning::fields;
+use sheet_format::limits::NUMBERS_PER_UNIT;
 ghost use mathlib.Core.Path.{_≡_};
 ghost use Prim.Native.Nat.{_+_, _*_, _<_};
 ghost use Rattle.scanning.specs.Frames.{field, put, slotStart, slotEnd, putSlot, copyFrame, bindFrame};
@@ -9,38 +11,38 @@ ghost use Rattle.scanning.specs.Frames.{field, put, slotStart, slotEnd, putSlot
 pub fn field(w: &[u32], r: u32, f: u32) -> u32
     ensures { λ a. ⌜ a ≡ field (now (w .entry)) r f ⌝ }
 {
-    get(w, 64 * wide(r) + wide(f))
+    get(w, NUMBERS_PER_UNIT * wide(r) + wide(f))
 }
 
 pub fn put_field(w: &mut [u32], r: u32, f: u32, a: u32)
     ensures { λ _. ⌜ now (w .exit) ≡ put (now (w .entry)) r f a ⌝ }
 {
-    memory::put(w, 64 * wide(r) + wide(f), a);
+    memory::put(w, NUMBERS_PER_UNIT * wide(r) + wide(f), a);
 }
 
 // Where the term of name v in frame r starts and ends.
 pub fn slot_start(w: &[u32], r: u32, v: u32) -> u32
     ensures { λ a. ⌜ a ≡ slotStart (now (w .entry)) r v ⌝ }
 {
-    get(w, 64 * wide(r) + 2 * wide(v))
+    get(w, NUMBERS_PER_UNIT * wide(r) + 2 * wide(v))
 }
 
 pub fn slot_end(w: &[u32], r: u32, v: u32) -> u32
     ensures { λ a. ⌜ a ≡ slotEnd (now (w .entry)) r v ⌝ }
 {
-    get(w, 64 * wide(r) + (2 * wide(v) + 1))
+    get(w, NUMBERS_PER_UNIT * wide(r) + (2 * wide(v) + 1))
 }
 
 fn put_start(w: &mut [u32], r: u32, v: u32, s: u32)
     ensures { λ _. ⌜ now (w .exit) ≡ put (now (w .entry)) r (2 * v) s ⌝ }
 {
-    memory::put(w, 64 * wide(r) + 2 * wide(v), s);
+    memory::put(w, NUMBERS_PER_UNIT * wide(r) + 2 * wide(v), s);
 }
 
 fn put_end(w: &mut [u32], r: u32, v: u32, e: u32)
     ensures { λ _. ⌜ now (w .exit) ≡ put (now (w .entry)) r (2 * v + 1) e ⌝ }
 {
-    memory::put(w, 64 * wide(r) + (2 * wide(v) + 1), e);
+    memory::put(w, NUMBERS_PER_UNIT * wide(r) + (2 * wide(v) + 1), e);
 }
 
 // The term of name v in frame r is the one from s to e.
@@ -70,6 +72,6 @@ pub fn copy_frame(n: u32, w: &mut [u32], r: u32, q: u32, f: u32)
 pub fn bind_frame(w: &mut [u32], r: u32, q: u32, v: u32, s: u32, e: u32)
     ensures { λ _. ⌜ now (w .exit) ≡ bindFrame (now (w .entry)) r q v s e ⌝ }
 {
-    copy_frame(16, w, r, q, 0);
+    copy_frame(fields::FRAME_NUMBERS, w, r, q, 0);
     put_slot(w, r, v, s, e);
 }

@@ -7,9 +7,11 @@ use memory::wide;
 use node_table::child;
 use node_table::child_count;
 use node_table::kind;
+use node_table::kinds;
 use node_table::label;
 use node_table::name_start;
 use scanning::Reach;
+use sheet_format::limits;
 use term_scanner::ranges::monus;
 use term_scanner::ranges::same_range;
 use term_scanner::symbol_names::name_size;
@@ -91,7 +93,7 @@ fn along_instance(
         return Reach::Differs;
     }
     let name = label(t, m);
-    if kind(t, m) == 0 {
+    if kind(t, m) == kinds::VARIABLE {
         return along_slot(text, w, g, name, i);
     }
     let Reach::To(e) = along_name(sheet, t, name, text, i) else {
@@ -142,7 +144,7 @@ pub fn is_instance(
 ) -> bool
     ensures { λ r. ⌜ r ≡ isInstance (now (sheet .entry)) (now (t .entry)) (now (text .entry)) (now (w .entry)) s e g m ⌝ }
 {
-    let Reach::To(i) = along_instance(1024, sheet, t, text, w, g, m, s) else {
+    let Reach::To(i) = along_instance(limits::MAX_NODES, sheet, t, text, w, g, m, s) else {
         return false;
     };
     i == e

@@ -10,9 +10,16 @@ use name_classes::join_name;
 use name_classes::root_of;
 use node_table::child_count;
 use node_table::label;
+use scanning::class_elements;
+use sheet_format::limits;
 ghost use mathlib.Core.Path.{_≡_};
 ghost use Prim.Native.Nat.{_+_, _-_, _<_};
 ghost use Rattle.scanning.specs.Instances.{compared, sameElements, sameAtoms};
+
+// The most steps down a term of the sheet, and the first application of the second side.
+const NODES: usize = limits::MAX_NODES as usize;
+
+const OTHER_SIDE: u32 = class_elements::FIRST_APPLICATION + 1;
 
 // Whether the elements i and j have the same term; c has the classes. The rank is above the depth of the term. Each call goes down to an
 // argument, whose term is smaller, so no application is met twice on the way: at most 2,048 calls are open at a time.
@@ -38,14 +45,14 @@ fn same_elements(
     if a == b {
         return true;
     }
-    if a < 2048 {
+    if a < class_elements::FIRST_APPLICATION {
         return join_name(sheet, t, text, w, f, g, c, a, b);
     }
-    if b < 2048 {
+    if b < class_elements::FIRST_APPLICATION {
         return join_name(sheet, t, text, w, f, g, c, b, a);
     }
-    let m = a / 2 % 1024;
-    if label(t, m) == label(t, b / 2 % 1024) {
+    let m = a / 2 % limits::MAX_NODES;
+    if label(t, m) == label(t, b / 2 % limits::MAX_NODES) {
         let mut children = child_count(t, m);
         let mut k: u32 = 0;
         while 0 < children {
@@ -86,9 +93,9 @@ pub fn same_atoms(
 ) -> bool
     ensures { λ r. ⌜ r ≡ sameAtoms (now (sheet .entry)) (now (t .entry)) (now (text .entry)) (now (w .entry)) f g k m ⌝ }
 {
-    let mut c = [0u32; 4096];
+    let mut c = [0u32; class_elements::COUNT];
     same_elements(
-        1024 + text.len(),
+        NODES + text.len(),
         sheet,
         t,
         text,
@@ -96,7 +103,7 @@ pub fn same_atoms(
         f,
         g,
         &mut c,
-        2 * (k % 1024) + 2048,
-        2 * (m % 1024) + 2049,
+        2 * (k % limits::MAX_NODES) + class_elements::FIRST_APPLICATION,
+        2 * (m % limits::MAX_NODES) + OTHER_SIDE,
     )
 }

@@ -8,7 +8,10 @@ use memory::put;
 use memory::wide;
 use node_table::child;
 use node_table::kind;
+use node_table::kinds;
 use node_table::label;
+use scanning::class_elements;
+use sheet_format::limits;
 ghost use mathlib.Core.Path.{_≡_};
 ghost use Prim.Native.Nat.{_+_, _-_, _<_};
 ghost use Rattle.scanning.specs.Classes.{elementOf, elementChild, frameOn, rooted, rootOf};
@@ -19,17 +22,17 @@ fn element_of(t: &[u32], s: u32, m: u32) -> u32
     requires { ⌜ s < 2 ⌝ }
     ensures { λ r. ⌜ r ≡ elementOf (now (t .entry)) s m ⌝ }
 {
-    if kind(t, m) == 0 {
-        return 2 * (label(t, m) % 8) + (s + 16);
+    if kind(t, m) == kinds::VARIABLE {
+        return 2 * (label(t, m) % limits::VARIABLE_NAMES) + (s + class_elements::FIRST_NAME);
     }
-    2 * (m % 1024) + (s + 2048)
+    2 * (m % limits::MAX_NODES) + (s + class_elements::FIRST_APPLICATION)
 }
 
 // The element of the j-th child of application i.
 pub fn child_of(t: &[u32], i: u32, j: u32) -> u32
     ensures { λ r. ⌜ r ≡ elementChild (now (t .entry)) i j ⌝ }
 {
-    element_of(t, i % 2, child(t, i / 2 % 1024, j))
+    element_of(t, i % 2, child(t, i / 2 % limits::MAX_NODES, j))
 }
 
 // The representative of element i; the way to it is halved.
@@ -37,7 +40,7 @@ pub fn root_of(c: &mut [u32], i: u32) -> u32
     ensures { λ r. ⌜ rooted (now (c .exit)) r ≡ rootOf (now (c .entry)) i ⌝ }
 {
     let mut at = i;
-    let mut left: u32 = 1032;
+    let mut left: u32 = class_elements::ROOT_STEPS;
     while 0 < left {
         let p = get(c, wide(at));
         if p == 0 {
@@ -68,13 +71,13 @@ fn frame_on(f: u32, g: u32, s: u32) -> u32
 fn start_of(w: &[u32], f: u32, g: u32, i: u32) -> usize
     ensures { λ r. ⌜ r ≡ startOf (now (w .entry)) f g i ⌝ }
 {
-    wide(slot_start(w, frame_on(f, g, i % 2), i / 2 % 8))
+    wide(slot_start(w, frame_on(f, g, i % 2), i / 2 % limits::VARIABLE_NAMES))
 }
 
 fn end_of(w: &[u32], f: u32, g: u32, i: u32) -> usize
     ensures { λ r. ⌜ r ≡ endOf (now (w .entry)) f g i ⌝ }
 {
-    wide(slot_end(w, frame_on(f, g, i % 2), i / 2 % 8))
+    wide(slot_end(w, frame_on(f, g, i % 2), i / 2 % limits::VARIABLE_NAMES))
 }
 
 // Whether the term of name i is that of element j.
@@ -92,10 +95,19 @@ fn same_name(
 {
     let s = start_of(w, f, g, i);
     let e = end_of(w, f, g, i);
-    if j < 2048 {
+    if j < class_elements::FIRST_APPLICATION {
         return same_slots(text, s, e, start_of(w, f, g, j), end_of(w, f, g, j));
     }
-    is_instance(sheet, t, text, w, s, e, frame_on(f, g, j % 2), j / 2 % 1024)
+    is_instance(
+        sheet,
+        t,
+        text,
+        w,
+        s,
+        e,
+        frame_on(f, g, j % 2),
+        j / 2 % limits::MAX_NODES,
+    )
 }
 
 // The same; if so, name i joins the class of element j.

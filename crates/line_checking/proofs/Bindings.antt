@@ -42,7 +42,7 @@ use Rattle.scanning.proofs.Frames.{frame-bind}
 use Rattle.scanning.proofs.Marks.{read-decimal}
 use Rattle.scanning.proofs.Along.{Frame, frame-fewer}
 use Rattle.line_checking.specs.declared.Registers.{Registers}
-use Rattle.line_checking.specs.Sequents.{Made, made, broken, onBinding, onSequent, freeFrom as nextFree, boundFrom, bound}
+use Rattle.line_checking.specs.Sequents.{Made, made, broken, onBinding, onSequent, freeFrom as nextFree, boundFrom, bound, brokenStage}
 use Rattle.line_checking.specs.Bindings.{beginsWith, openWith, openUnits, openLine, bindWith, bindTerm, bindsVariable, bindLine}
 use Rattle.line_checking.proofs.Lines.{bytes-result, bytes-binding, decimal-one, isWord, wordByte}
 use Rattle.line_checking.proofs.Holds.{Setting, declared, sheetOf, Filled, names-of, HypothesesAt, SequentsAt, BindingAt, Holds}
@@ -52,9 +52,9 @@ use Rattle.line_checking.proofs.Terms.{scanAt, TermCase, is-term, no-te
 -- registers after B lines
 
 -- none is a broken stage
-pub bound-stage : (t : List ℕ) (goal : ℕ) (r : Registers) (v f : ℕ) → bound t goal r v f .stage ≡ 4 → ⊥
+pub bound-stage : (t : List ℕ) (goal : ℕ) (r : Registers) (v f : ℕ) → bound t goal r v f .stage ≡ brokenStage → ⊥
 unfolding bound boundFrom onBinding onSequent
-bound-stage t goal r v f = either-side (λ (s : Registers). s .stage ≡ 4 → ⊥) (ltb (nextFree (8 - v) (maskOf t goal) v) 8) _ _ (λ h e. omega arith) (λ h e. omega arith)
+bound-stage t goal r v f = either-side (λ (s : Registers). s .stage ≡ brokenStage → ⊥) (ltb (nextFree (8 - v) (maskOf t goal) v) 8) _ _ (λ h e. omega arith) (λ h e. omega arith)
 
 -- the counts stay
 pub bound-made : (t : List ℕ) (goal : ℕ) (r : Registers) (v f : ℕ) → bound t goal r v f .made ≡ r .made

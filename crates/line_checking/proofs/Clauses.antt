@@ -22,7 +22,7 @@ use Rattle.sheet_format.specs.Nodes.{Declaration}
 use Rattle.sheet_format.proofs.Names.{Names}
 use Rattle.sheet_format.proofs.Places.{at-all}
 use Rattle.sheet_format.proofs.Formed.{FormedGoal, FormedClause}
-use Rattle.node_table.specs.Layout.{kindOf, labelOf, childOf}
+use Rattle.node_table.specs.Layout.{kindOf, labelOf, childOf, impliesKind, atomKind}
 use Rattle.node_table.specs.Decoding.{goalAt, clauseAtNode, argumentsAt}
 use Rattle.node_table.proofs.Decoding.{Nodes, nodes-of, goal-atom, clause-fact, clause-rule}
 use Rattle.answer_texts.specs.TextLines.{derivationLine}
@@ -47,7 +47,7 @@ use Rattle.line_checking.specs.declared.Registers.{Registers}
 use Rattle.line_checking.specs.declared.Place.{Place}
 use Rattle.line_checking.specs.declared.Place.the-variants.{At, Nowhere}
 use Rattle.line_checking.specs.declared.Found.{Found}
-use Rattle.line_checking.specs.Sequents.{Made, made, broken, onSequent}
+use Rattle.line_checking.specs.Sequents.{Made, made, broken, onSequent, brokenStage}
 use Rattle.line_checking.specs.Members.{hypothesisFrom, member, headOf}
 use Rattle.line_checking.specs.Bindings.{beginsWith}
 use Rattle.line_checking.specs.Clauses.{Read, prefixFrom, onBody, useMember, useTerms, useFound, usePlace, usePlaceAt, clauseFields, clauseLine}
@@ -68,7 +68,7 @@ never false h = refl
 
 module _ (c : Setting) (filled : Filled c) (q : ℕ) (w : List ℕ) (room : Room q w) (r : Registers) (g : Sequent Symbol) (gs : List (Sequent Symbol))
     (at : SequentAt c q w (r .node) (r .frame) (r .hypotheses) (r .level) g) (others : SequentsAt c q w (r .rest) gs) (l rest : List ℕ) (i e : ℕ)
-    (here : drop i (c .text) ≡ l ++ (lf ∷ rest)) (end : e ≡ i + length l) (kind : kindOf (c .table) (r .node) ≡ 2) where
+    (here : drop i (c .text) ≡ l ++ (lf ∷ rest)) (end : e ≡ i + length l) (kind : kindOf (c .table) (r .node) ≡ atomKind) where
   -- the table
   abbrev t : List ℕ
   t = c .table
@@ -224,7 +224,7 @@ module _ (c : Setting) (filled : Filled c) (q : ℕ) (w : List ℕ) (room : Room
           A : ℕ → Type 0
           A m = AtomIn (c .bytes) t (c .symbols) names (c .text) (c .nodes) table (filled .wellMade .fewNodes) w₂ m q (assign vs ts (E .environment))
 
-          go : (kindOf t (F .leaf) ≡ 2) ⊎ (kindOf t (F .leaf) ≡ 6) → Frame ds (c .text) w₂ q (assign vs ts (E .environment)) (freeTs (argumentsAt t (headOf t (F .leaf)))) → A (headOf t (F .leaf))
+          go : (kindOf t (F .leaf) ≡ atomKind) ⊎ (kindOf t (F .leaf) ≡ impliesKind) → Frame ds (c .text) w₂ q (assign vs ts (E .environment)) (freeTs (argumentsAt t (headOf t (F .leaf)))) → A (headOf t (F .leaf))
           go (inl y) = rw y (λ f₀. record {
             below = leaf .below;
             arguments = table .clause (F .leaf) (leaf .below) (leaf .is) .atom y;
@@ -270,7 +270,7 @@ module _ (c : Setting) (filled : Filled c) (q : ℕ) (w : List ℕ) (room : Room
           after-line : SequentsAt c (suc q) w₂ (r .rest) gs
           after-line = sequents-on c q w w₂ kept (r .rest) gs others
 
-          go : (kindOf t (F .leaf) ≡ 2) ⊎ (kindOf t (F .leaf) ≡ 6)
+          go : (kindOf t (F .leaf) ≡ atomKind) ⊎ (kindOf t (F .leaf) ≡ impliesKind)
               → Holds c (suc q) w₂ (onBody t w₂ r q (F .leaf)) (sequents (bodySequent (bodyOf t (F .leaf)) (assign vs ts (E .environment)) (g .program) (g .level) ++ gs))
           go (inl y) = rw y (proceed-holds c (suc q) w₂ r gs after-line)
           go (inr y) =
@@ -295,19 +295,19 @@ module _ (c : Setting) (filled : Filled c) (q : ℕ) (w : List ℕ) (room : Room
               body-free z a = or-right (freeTs (argumentsAt t (headOf t (F .leaf))) z) (freeB (bodyOf t (F .leaf)) z) (rw y a)
 
       -- the line goes on
-      body-stage : onBody t w₂ r q (F .leaf) .stage ≡ 4 → ⊥
+      body-stage : onBody t w₂ r q (F .leaf) .stage ≡ brokenStage → ⊥
       unfolding onBody onSequent
-      body-stage = either-side (λ (s : Registers). s .stage ≡ 4 → ⊥) (eqb (kindOf t (F .leaf)) 6) _ _ (λ a b. omega arith) (λ a. proceed-stage w₂ r)
+      body-stage = either-side (λ (s : Registers). s .stage ≡ brokenStage → ⊥) (eqb (kindOf t (F .leaf)) impliesKind) _ _ (λ a b. omega arith) (λ a. proceed-stage w₂ r)
 
       -- the counts stay
       body-made : onBody t w₂ r q (F .leaf) .made ≡ r .made
       unfolding onBody onSequent
-      body-made = either-side (λ (s : Registers). s .made ≡ r .made) (eqb (kindOf t (F .leaf)) 6) _ _ (λ a. refl) (λ a. proceed-made w₂ r)
+      body-made = either-side (λ (s : Registers). s .made ≡ r .made) (eqb (kindOf t (F .leaf)) impliesKind) _ _ (λ a. refl) (λ a. proceed-made w₂ r)
 
       -- both of them
       body-leftover : onBody t w₂ r q (F .leaf) .leftover ≡ r .leftover
       unfolding onBody onSequent
-      body-leftover = either-side (λ (s : Registers). s .leftover ≡ r .leftover) (eqb (kindOf t (F .leaf)) 6) _ _ (λ a. refl) (λ a. proceed-leftover w₂ r)
+      body-leftover = either-side (λ (s : Registers). s .leftover ≡ r .leftover) (eqb (kindOf t (F .leaf)) impliesKind) _ _ (λ a. refl) (λ a. proceed-leftover w₂ r)
 
       -- the member is used with the terms ts
       used : (ts : List Ground) → m ≡ tabbed ts ds → Fits c names q (r .level) e rest vs ts → Frames ts → R (useMember (c .bytes) t (c .text) w₂ r q (F .leaf))

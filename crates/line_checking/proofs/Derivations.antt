@@ -15,7 +15,7 @@ use Rattle.answer_texts.specs.Spelled.{WritableLine, Writable, sequents}
 use Rattle.answer_texts.specs.Judging.{infer, allow}
 use Rattle.answer_texts.proofs.Reading.{lineBytes}
 use Rattle.line_checking.specs.declared.Registers.{Registers}
-use Rattle.line_checking.specs.Sequents.{Made, made, onStage, broken, onSequent, dueSequent, proceed}
+use Rattle.line_checking.specs.Sequents.{Made, made, onStage, broken, onSequent, dueSequent, proceed, brokenStage}
 use Rattle.line_checking.proofs.Holds.{Setting, declared, sheetOf, SequentsAt, Holds}
 use Rattle.line_checking.proofs.Results.{Result, is-wrong, either-side}
 
@@ -32,9 +32,9 @@ proceed-holds c k w r (g ∷ gs) h =
     rw (e, ne-eqb (suc p) 0 (λ q. omega arith), z) (refl, h .3, h .4)
 
 -- the line goes on
-pub proceed-stage : (w : List ℕ) (r : Registers) → proceed w r .stage ≡ 4 → ⊥
+pub proceed-stage : (w : List ℕ) (r : Registers) → proceed w r .stage ≡ brokenStage → ⊥
 unfolding proceed onStage dueSequent onSequent
-proceed-stage w r = either-side (λ (s : Registers). s .stage ≡ 4 → ⊥) (eqb (r .rest) 0) _ _ (λ h e. omega arith) (λ h e. omega arith)
+proceed-stage w r = either-side (λ (s : Registers). s .stage ≡ brokenStage → ⊥) (eqb (r .rest) 0) _ _ (λ h e. omega arith) (λ h e. omega arith)
 
 -- the counts stay
 pub proceed-made : (w : List ℕ) (r : Registers) → proceed w r .made ≡ r .made
@@ -71,7 +71,7 @@ module _ (c : Setting) (q : ℕ) (l : List ℕ) (g : Sequent Symbol) (gs : List 
 
   -- A line is right where it is that of a step.
   pub right-line : (r : Registers) (m : Made) (d : Line Symbol) (new : List (Sequent Symbol)) → l ≡ lineBytes (declared c) (derivationLine d) → WritableLine (declared c) d
-      → inferred d ≡ some new → Holds c (suc q) (m .memory) (m .registers) (sequents (new ++ gs)) → (m .registers .stage ≡ 4 → ⊥) → m .registers .made ≡ r .made
+      → inferred d ≡ some new → Holds c (suc q) (m .memory) (m .registers) (sequents (new ++ gs)) → (m .registers .stage ≡ brokenStage → ⊥) → m .registers .made ≡ r .made
       → m .registers .leftover ≡ r .leftover → Result c q l (sequents (g ∷ gs)) r m
   unfolding Writable
   right-line r m d new p y k h z a b = inl (record {

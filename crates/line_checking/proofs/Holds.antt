@@ -16,9 +16,11 @@ use Rattle.sheet_format.proofs.Good.{Good}
 use Rattle.node_table.specs.Decoding.{goalAt, clauseAtNode, declarationsFrom, clausesFrom, decodeSheet}
 use Rattle.node_table.specs.WellMade.{IsGoal, IsClause, WellMade}
 use Rattle.answer_texts.specs.Spelled.{Stage, opening, bindings, sequents}
+use Rattle.scanning.specs.Fields as fields
 use Rattle.scanning.specs.Frames.{field}
 use Rattle.scanning.proofs.Along.{Frame}
 use Rattle.line_checking.specs.declared.Registers.{Registers}
+use Rattle.line_checking.specs.Sequents.{sequentStage, doneStage, openingStage, bindingStage}
 
 -- What is judged: the sheet's bytes, the table, and the text.
 pub record Setting : Type 0 where
@@ -56,17 +58,17 @@ module _ (c : Setting) where
   -- A hypothesis in record r, which is below k.
   pub record HypothesisAt (k : ℕ) (w : List ℕ) (r : ℕ) (a : Hypothesis Symbol) : Type 0 where
     pub below : r < k
-    pub node : field w r 21 < c .nodes
-    pub is : IsClause (c .table) (field w r 21)
-    pub clause : a .clause ≡ clauseAtNode (c .table) (field w r 21)
-    pub formed : FormedClause (clauseAtNode (c .table) (field w r 21)) (declared c)
-    pub older : field w r 22 < k
-    pub frame : Frame (declared c) (c .text) w (field w r 22) (a .environment) (freeC (clauseAtNode (c .table) (field w r 21)))
+    pub node : field w r fields.hypothesisNode < c .nodes
+    pub is : IsClause (c .table) (field w r fields.hypothesisNode)
+    pub clause : a .clause ≡ clauseAtNode (c .table) (field w r fields.hypothesisNode)
+    pub formed : FormedClause (clauseAtNode (c .table) (field w r fields.hypothesisNode)) (declared c)
+    pub older : field w r fields.hypothesisFrame < k
+    pub frame : Frame (declared c) (c .text) w (field w r fields.hypothesisFrame) (a .environment) (freeC (clauseAtNode (c .table) (field w r fields.hypothesisNode)))
 
   -- The hypotheses from the pointer h on, the later ones in records further down.
   unfoldable pub HypothesesAt : ℕ → List ℕ → ℕ → List (Hypothesis Symbol) → Type 0
   HypothesesAt k w h [] = h ≡ 0
-  HypothesesAt k w h (a ∷ l) = (r : ℕ) × (h ≡ suc r) × HypothesisAt k w r a × HypothesesAt r w (field w r 23) l
+  HypothesesAt k w h (a ∷ l) = (r : ℕ) × (h ≡ suc r) × HypothesisAt k w r a × HypothesesAt r w (field w r fields.hypothesisNext) l
 
   -- A program: hypotheses, then the sheet's clauses.
   pub record ProgramAt (k : ℕ) (w : List ℕ) (h : ℕ) (P : Program Symbol) : Type 0 where
@@ -90,11 +92,11 @@ module _ (c : Setting) where
   unfoldable pub SequentsAt : ℕ → List ℕ → ℕ → List (Sequent Symbol) → Type 0
   SequentsAt k w q [] = q ≡ 0
   SequentsAt k w q (g ∷ gs) =
-      (r : ℕ) × (q ≡ suc r) × (r < k) × SequentAt k w (field w r 16) (field w r 17) (field w r 18) (field w r 19) g × SequentsAt k w (field w r 20) gs
+      (r : ℕ) × (q ≡ suc r) × (r < k) × SequentAt k w (field w r fields.sequentNode) (field w r fields.sequentFrame) (field w r fields.sequentHypotheses) (field w r fields.sequentLevel) g × SequentsAt k w (field w r fields.sequentNext) gs
 
   -- B lines are due for v and the free variables after it; those before it have their terms in the frame.
   pub record BindingAt (k : ℕ) (w : List ℕ) (r : Registers) (v : ℕ) (vs : List ℕ) (e : Environment Symbol) : Type 0 where
-    pub stage : r .stage ≡ 1
+    pub stage : r .stage ≡ bindingStage
     pub variable : r .node ≡ v
     pub small : v < variableNames
     pub later : (n : ℕ) → v + suc n ≡ variableNames → vs ≡ freeFrom n (suc v) (goalAt (c .table) (c .goal))
@@ -103,8 +105,8 @@ module _ (c : Setting) where
 
   -- A stage after k lines.
   unfoldable pub Holds : ℕ → List ℕ → Registers → Stage → Type 0
-  Holds k w r opening = r .stage ≡ 0
+  Holds k w r opening = r .stage ≡ openingStage
   Holds k w r (bindings [] e) = ⊥
   Holds k w r (bindings (v ∷ vs) e) = BindingAt k w r v vs e
-  Holds k w r (sequents []) = r .stage ≡ 3
-  Holds k w r (sequents (g ∷ gs)) = (r .stage ≡ 2) × SequentAt k w (r .node) (r .frame) (r .hypotheses) (r .level) g × SequentsAt k w (r .rest) gs
+  Holds k w r (sequents []) = r .stage ≡ doneStage
+  Holds k w r (sequents (g ∷ gs)) = (r .stage ≡ sequentStage) × SequentAt k w (r .node) (r .frame) (r .hypotheses) (r .level) g × SequentsAt k w (r .rest) gs

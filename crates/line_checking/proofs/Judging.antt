@@ -30,7 +30,7 @@ use Rattle.scanning.proofs.Records.{Room, Kept}
 use Rattle.scanning.proofs.Marks.{marksIn, marks-append, plain-marks}
 use Rattle.scanning.proofs.Showing.{ShowsAs, show-from}
 use Rattle.line_checking.specs.declared.Registers.{Registers}
-use Rattle.line_checking.specs.Sequents.{Made, made, onStage, broken, onCounts}
+use Rattle.line_checking.specs.Sequents.{Made, made, onStage, broken, onCounts, brokenStage}
 use Rattle.line_checking.specs.Judging.{stageLine, countLine, orderLine, judgeLine}
 use Rattle.line_checking.proofs.Lines.{line-marks}
 use Rattle.line_checking.proofs.Holds.{Setting, declared, sheetOf, Filled, names-of, Holds}
@@ -47,8 +47,8 @@ pub record State (c : Setting) (q i : ℕ) (w : List ℕ) (r : Registers) (p : P
 
 -- A line that breaks stops; one that does not goes on.
 abbrev pub Judges : Setting → ℕ → ℕ → Made → Option Progress → Type 0
-Judges c q i a none = a .registers .stage ≡ 4
-Judges c q i a (some p) = (a .registers .stage ≡ 4 → ⊥) × State c q i (a .memory) (a .registers) p
+Judges c q i a none = a .registers .stage ≡ brokenStage
+Judges c q i a (some p) = (a .registers .stage ≡ brokenStage → ⊥) × State c q i (a .memory) (a .registers) p
 
 -- other counts change nothing else
 counts-hold : (c : Setting) (k : ℕ) (w : List ℕ) (r : Registers) (m l : ℕ) (a : Stage) → Holds c k w r a → Holds c k w (onCounts r m l) a
@@ -73,19 +73,19 @@ module _ (c : Setting) (filled : Filled c) (q : ℕ) (w : List ℕ) (room : Room
   -- numbering is checked where the line is right so far
 
   -- it is not where the line broke
-  order-stops : (m : Made) → m .registers .stage ≡ 4 → orderLine (c .text) m i e ≡ m
+  order-stops : (m : Made) → m .registers .stage ≡ brokenStage → orderLine (c .text) m i e ≡ m
   unfolding orderLine
   order-stops m h = ap (λ (z : ℕ). cond (eqb z 4) m (countLine (c .text) m i e)) h
 
   -- it is where it did not
-  order-goes : (m : Made) → (m .registers .stage ≡ 4 → ⊥) → orderLine (c .text) m i e ≡ countLine (c .text) m i e
+  order-goes : (m : Made) → (m .registers .stage ≡ brokenStage → ⊥) → orderLine (c .text) m i e ≡ countLine (c .text) m i e
   unfolding orderLine
-  order-goes m h = ap (λ (b : Bool). cond b m (countLine (c .text) m i e)) (ne-eqb (m .registers .stage) 4 h)
+  order-goes m h = ap (λ (b : Bool). cond b m (countLine (c .text) m i e)) (ne-eqb (m .registers .stage) brokenStage h)
 
   -- it writes nothing
   order-memory : (m : Made) → orderLine (c .text) m i e .memory ≡ m .memory
   unfolding orderLine countLine broken
-  order-memory m = go (eqb (m .registers .stage) 4) (showFrom (e - i) (c .text) i (m .registers .made) (m .registers .leftover))
+  order-memory m = go (eqb (m .registers .stage) brokenStage) (showFrom (e - i) (c .text) i (m .registers .made) (m .registers .leftover))
     where
       go : (b : Bool) (o : Shown)
           → cond b m (elim o as (λ z. Made) [ Counts x y ↦ made (m .memory) (onCounts (m .registers) x y) | Misnumbered ↦ broken (m .memory) (m .registers) ]) .memory ≡ m .memory

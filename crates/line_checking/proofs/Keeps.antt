@@ -8,8 +8,10 @@ use Rattle.formulas.specs.Formulas.{freeC}
 use Rattle.sequents.specs.Symbols.{Symbol}
 use Rattle.sequents.specs.Sequents.{Hypothesis, Program, Sequent}
 use Rattle.sheet_format.proofs.Formed.{FormedClause}
+use Rattle.sheet_format.specs.Limits.{numbersPerUnit}
 use Rattle.node_table.specs.Decoding.{clauseAtNode}
 use Rattle.node_table.specs.WellMade.{IsClause}
+use Rattle.scanning.specs.Fields as fields
 use Rattle.scanning.specs.Frames.{field}
 use Rattle.scanning.proofs.Along.{Frame}
 use Rattle.scanning.proofs.Records.{Kept}
@@ -18,7 +20,7 @@ use Rattle.line_checking.proofs.Holds.{Setting, declared, HypothesisAt,
 
 module _ (c : Setting) (q : ℕ) (w w′ : List ℕ) (kept : Kept q w w′) where
   -- a field of a record below
-  same : (r f : ℕ) → r < q → f < 64 → field w′ r f ≡ field w r f
+  same : (r f : ℕ) → r < q → f < numbersPerUnit → field w′ r f ≡ field w r f
   same r f l h = kept .others r f (λ e. omega arith) h
 
   -- a hypothesis
@@ -36,9 +38,9 @@ module _ (c : Setting) (q : ℕ) (w w′ : List ℕ) (kept : Kept q w w′) wher
         formed = subst (λ (z : ℕ). FormedClause (clauseAtNode (c .table) z) (declared c)) n (h .formed);
         older = subst (λ (z : ℕ). z < k) f (h .older);
         frame =
-            subst (λ (z : ℕ). Frame (declared c) (c .text) w′ z (a .environment) (freeC (clauseAtNode (c .table) (field w′ r 21)))) f
-            (subst (λ (z : ℕ). Frame (declared c) (c .text) w′ (field w r 22) (a .environment) (freeC (clauseAtNode (c .table) z))) n
-            (frame-kept (declared c) (c .text) q (field w r 22) w w′ (a .environment) (freeC (clauseAtNode (c .table) (field w r 21))) kept (λ e. omega arith) (h .frame)));
+            subst (λ (z : ℕ). Frame (declared c) (c .text) w′ z (a .environment) (freeC (clauseAtNode (c .table) (field w′ r fields.hypothesisNode)))) f
+            (subst (λ (z : ℕ). Frame (declared c) (c .text) w′ (field w r fields.hypothesisFrame) (a .environment) (freeC (clauseAtNode (c .table) z))) n
+            (frame-kept (declared c) (c .text) q (field w r fields.hypothesisFrame) w w′ (a .environment) (freeC (clauseAtNode (c .table) (field w r fields.hypothesisNode))) kept (λ e. omega arith) (h .frame)));
       }
 
   -- hypotheses
@@ -51,7 +53,7 @@ module _ (c : Setting) (q : ℕ) (w w′ : List ℕ) (kept : Kept q w w′) wher
         r,
         p .1,
         hypothesis-keep k r a u (p .2),
-        subst (λ (z : ℕ). HypothesesAt c r w′ z l) (sym (same r 23 (omega arith) (omega arith))) (hypotheses-keep r (field w r 23) l (omega arith) (p .3)),
+        subst (λ (z : ℕ). HypothesesAt c r w′ z l) (sym (same r 23 (omega arith) (omega arith))) (hypotheses-keep r (field w r fields.hypothesisNext) l (omega arith) (p .3)),
       )
 
   -- a program
@@ -87,8 +89,8 @@ module _ (c : Setting) (q : ℕ) (w w′ : List ℕ) (kept : Kept q w w′) wher
         r,
         s .1,
         s .2,
-        rw (← n, ← f, ← h, ← i) (sequent-keep k (field w r 16) (field w r 17) (field w r 18) (field w r 19) g u (s .3)),
-        subst (λ (z : ℕ). SequentsAt c k w′ z gs) (sym (same r 20 (omega arith) (omega arith))) (sequents-keep k (field w r 20) gs u (s .4)),
+        rw (← n, ← f, ← h, ← i) (sequent-keep k (field w r fields.sequentNode) (field w r fields.sequentFrame) (field w r fields.sequentHypotheses) (field w r fields.sequentLevel) g u (s .3)),
+        subst (λ (z : ℕ). SequentsAt c k w′ z gs) (sym (same r 20 (omega arith) (omega arith))) (sequents-keep k (field w r fields.sequentNext) gs u (s .4)),
       )
 
 module _ (c : Setting) (w : List ℕ) where
@@ -133,7 +135,7 @@ module _ (c : Setting) (w : List ℕ) where
   sequents-up k k′ p (g ∷ gs) u s =
       let r = s .0 in
       let b = s .2 in
-      (r, s .1, omega arith, sequent-up k k′ (field w r 16) (field w r 17) (field w r 18) (field w r 19) g u (s .3), sequents-up k k′ (field w r 20) gs u (s .4))
+      (r, s .1, omega arith, sequent-up k k′ (field w r fields.sequentNode) (field w r fields.sequentFrame) (field w r fields.sequentHypotheses) (field w r fields.sequentLevel) g u (s .3), sequents-up k k′ (field w r fields.sequentNext) gs u (s .4))
 
 -- after line q
 
@@ -155,7 +157,7 @@ pub hypotheses-short : (c : Setting) (w : List ℕ) (k h : ℕ) (l : List (Hypot
 unfolding HypothesesAt
 hypotheses-short c w k h [] p = (omega arith, omega arith)
 hypotheses-short c w k h (a ∷ l) p =
-    let s = hypotheses-short c w (p .0) (field w (p .0) 23) l (p .3) in
+    let s = hypotheses-short c w (p .0) (field w (p .0) fields.hypothesisNext) l (p .3) in
     let e = p .1 in
     let b = p .2 .below in
     omega arith

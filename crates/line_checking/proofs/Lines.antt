@@ -16,6 +16,7 @@ use Rattle.sheet_format.specs.Bytes.{ascii, decimal, digits, lf, isDigit, isLet
 use Rattle.sheet_format.specs.Nodes.{Declaration}
 use Rattle.sheet_format.proofs.Bytes.{Without}
 use Rattle.sheet_format.proofs.Names.{Names}
+use Rattle.sheet_format.specs.Limits.{variableNames}
 use Rattle.answer_texts.specs.TextLines.{TextLine, resultLine, bindingLine, derivationLine, lineTerms, termsOf}
 use Rattle.answer_texts.specs.Numbering.{symbolsIn, symbolsOf}
 use Rattle.answer_texts.specs.Spelling.{spellTerm, join, spellWord, spellTerms, lineFields, textFields}
@@ -66,7 +67,7 @@ module _ (ds : List Declaration) where
   bytes-clause k ts = ap (λ (r : List ℕ). ascii "D\tclause\t" ++ r) (join-tabbed (decimal k) ts ds)
 
 -- a variable's number is one digit
-pub decimal-one : (v : ℕ) → v < 8 → decimal v ≡ (48 + v) ∷ []
+pub decimal-one : (v : ℕ) → v < variableNames → decimal v ≡ (48 + v) ∷ []
 unfolding decimal digits
 decimal-one v h = rw (digits, lt-ltb v 10 (omega arith))
 

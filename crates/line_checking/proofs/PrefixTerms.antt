@@ -17,6 +17,7 @@ use Rattle.sequents.specs.Sequents.{Environment, assign}
 use Rattle.sheet_format.specs.Bytes.{lf, isNameByte, isLetter, isDigit}
 use Rattle.sheet_format.specs.Nodes.{Declaration}
 use Rattle.sheet_format.proofs.Names.{Names}
+use Rattle.sheet_format.specs.Limits.{variableNames}
 use Rattle.answer_texts.specs.Spelling.{spellTerm}
 use Rattle.answer_texts.specs.Spelled.{WritableTerm}
 use Rattle.answer_texts.specs.Reading.{Parsed, parsed, readTerm}
@@ -41,7 +42,7 @@ use Rattle.line_checking.proofs.Prefixes.{namesOf}
 -- only record q is written
 
 -- by a term
-term-kept : (w : List ℕ) (q v i j k m e : ℕ) → v < 8 → Kept q w (prefixTerm w q v i j k m e .memory)
+term-kept : (w : List ℕ) (q v i j k m e : ℕ) → v < variableNames → Kept q w (prefixTerm w q v i j k m e .memory)
 unfolding prefixTerm
 term-kept w q v i j k m e l = go (leb j e) (leb k m)
   where
@@ -51,7 +52,7 @@ term-kept w q v i j k m e l = go (leb j e) (leb k m)
     go false b = kept-self q w
 
 -- by a tab and a term
-at-kept : (b t : List ℕ) (symbols : ℕ) (x w : List ℕ) (q v i m e : ℕ) → v < 8 → Kept q w (prefixAt b t symbols x w q v i m e .memory)
+at-kept : (b t : List ℕ) (symbols : ℕ) (x w : List ℕ) (q v i m e : ℕ) → v < variableNames → Kept q w (prefixAt b t symbols x w q v i m e .memory)
 unfolding prefixAt
 at-kept b t symbols x w q v i m e l = go (eqb (getD x i 0) 9) (scanTerm (length x) b t symbols x (i + 1))
   where
@@ -142,7 +143,7 @@ module _ (c : Setting) (names : Names (declared c)) (q m e : ℕ) (rest : List �
   placed-tabbed i t (u ∷ ts) h w = placed c names i t 9 ((spellTerm u ds ++ tabbed ts ds) ++ (lf ∷ rest)) h w refl
 
   -- the frame after one more name, for the test that its term passes
-  frame-next : (w : List ℕ) (v i j : ℕ) (t : Ground) (vs : List ℕ) (d : Environment Symbol) (p p′ : ℕ → Bool) → Room q w → v < 8 → Placed ds (c .text) i j t
+  frame-next : (w : List ℕ) (v i j : ℕ) (t : Ground) (vs : List ℕ) (d : Environment Symbol) (p p′ : ℕ → Bool) → Room q w → v < variableNames → Placed ds (c .text) i j t
       → ((z : ℕ) → p′ z ≡ true → elem z (v ∷ vs) ≡ false → p z ≡ true) → Frame ds (c .text) w q d p
       → (o : ℕ → Bool) × Frame ds (c .text) (putSlot w q v i j) q (update d v t) o × ((z : ℕ) → p′ z ≡ true → elem z vs ≡ false → o z ≡ true)
   unfolding elem

@@ -21,6 +21,7 @@ use Rattle.sheet_format.proofs.Good.{Closed}
 use Rattle.node_table.specs.Layout.{membersOf, clauseNode}
 use Rattle.node_table.specs.Decoding.{clauseAtNode, clausesFrom, decodeSheet}
 use Rattle.node_table.specs.WellMade.{IsClause}
+use Rattle.scanning.specs.Fields as fields
 use Rattle.scanning.specs.Frames.{field}
 use Rattle.scanning.proofs.Along.{Frame}
 use Rattle.line_checking.specs.declared.Place.{Place}
@@ -140,25 +141,25 @@ module _ (c : Setting) (filled : Filled c) (q : ℕ) (w : List ℕ) (some-line :
       let b = p .2 .below in
       let z : suc (p .0) - 1 ≡ p .0 = omega arith in
       rw (x, ne-eqb (suc (p .0)) 0 (λ y. omega arith), z)
-      (go (ltb k (membersOf (c .table) (field w (p .0) 21))) refl
-      (hypothesis-from l n (p .0) (field w (p .0) 23) (k - membersOf (c .table) (field w (p .0) 21)) e (omega arith) (omega arith) (p .3)))
+      (go (ltb k (membersOf (c .table) (field w (p .0) fields.hypothesisNode))) refl
+      (hypothesis-from l n (p .0) (field w (p .0) fields.hypothesisNext) (k - membersOf (c .table) (field w (p .0) fields.hypothesisNode)) e (omega arith) (omega arith) (p .3)))
     where
       r : ℕ
       r = p .0
 
       m : ℕ
-      m = field w (p .0) 21
+      m = field w (p .0) fields.hypothesisNode
 
       go : (b : Bool) → ltb k (membersOf (c .table) m) ≡ b
-          → PlaceIs c q w (l ++ programOf c e) (k - membersOf (c .table) m) (hypothesisFrom n (c .table) (c .clauses) w (field w r 23) (k - membersOf (c .table) m))
-          → PlaceIs c q w (a ∷ (l ++ programOf c e)) k (cond b (At m (field w r 22) k) (hypothesisFrom n (c .table) (c .clauses) w (field w r 23) (k - membersOf (c .table) m)))
+          → PlaceIs c q w (l ++ programOf c e) (k - membersOf (c .table) m) (hypothesisFrom n (c .table) (c .clauses) w (field w r fields.hypothesisNext) (k - membersOf (c .table) m))
+          → PlaceIs c q w (a ∷ (l ++ programOf c e)) k (cond b (At m (field w r fields.hypothesisFrame) k) (hypothesisFrom n (c .table) (c .clauses) w (field w r fields.hypothesisNext) (k - membersOf (c .table) m)))
       go true y ih =
           let s = p .2 in
           let v = s .older in
-          in-first a (l ++ programOf c e) m (field w r 22) k (s .node) (s .is) (s .clause) (s .formed) (omega arith) (s .frame) (ltb-true k (membersOf (c .table) m) y)
+          in-first a (l ++ programOf c e) m (field w r fields.hypothesisFrame) k (s .node) (s .is) (s .clause) (s .formed) (omega arith) (s .frame) (ltb-true k (membersOf (c .table) m) y)
       go false y ih =
           let s = p .2 in
-          in-others a (l ++ programOf c e) m k (hypothesisFrom n (c .table) (c .clauses) w (field w r 23) (k - membersOf (c .table) m)) (s .node) (s .is) (s .clause)
+          in-others a (l ++ programOf c e) m k (hypothesisFrom n (c .table) (c .clauses) w (field w r fields.hypothesisNext) (k - membersOf (c .table) m)) (s .node) (s .is) (s .clause)
           (ltb-false k (membersOf (c .table) m) y) ih
 
   -- The place that is found is the entry of the program.

@@ -25,7 +25,7 @@ use Rattle.scanning.proofs.Places.{drop-past}
 use Rattle.scanning.proofs.Ranges.{begins, begins-rest, rest-begins, range-begins, numberTo, read-number}
 use Rattle.scanning.proofs.Placed.{split-lf}
 use Rattle.line_checking.specs.declared.Registers.{Registers}
-use Rattle.line_checking.specs.Sequents.{Made, made, onStage, broken}
+use Rattle.line_checking.specs.Sequents.{Made, made, onStage, broken, brokenStage}
 use Rattle.line_checking.specs.Bindings.{beginsWith, isLine}
 use Rattle.line_checking.proofs.Lines.{isWord, word-solid, word-without}
 use Rattle.line_checking.proofs.Holds.{Setting, declared, sheetOf, Holds}
@@ -39,13 +39,13 @@ module _ (c : Setting) where
     pub after : Stage
     pub allowed : allow (sheetOf c) line a ≡ some after
     pub holds : Holds c (suc q) (m .memory) (m .registers) after
-    pub goes-on : m .registers .stage ≡ 4 → ⊥
+    pub goes-on : m .registers .stage ≡ brokenStage → ⊥
     pub same-made : m .registers .made ≡ r .made
     pub same-leftover : m .registers .leftover ≡ r .leftover
 
   -- It breaks.
   pub record Wrong (l : List ℕ) (a : Stage) (m : Made) : Type 0 where
-    pub stops : m .registers .stage ≡ 4
+    pub stops : m .registers .stage ≡ brokenStage
     pub unfit : (line : TextLine) → l ≡ lineBytes (declared c) line → Writable (declared c) line → allow (sheetOf c) line a ≡ none
 
   -- One of the two.

@@ -19,7 +19,8 @@ use Rattle.sheet_format.specs.Bytes.{ascii, lf, isName}
 use Rattle.sheet_format.specs.Nodes.{Declaration}
 use Rattle.sheet_format.proofs.Bytes.{letter-bounds, name-nonempty, name-letter}
 use Rattle.sheet_format.proofs.Formed.{FormedGoal}
-use Rattle.node_table.specs.Layout.{kindOf, labelOf, childOf}
+use Rattle.sheet_format.specs.Limits.{variableNames}
+use Rattle.node_table.specs.Layout.{kindOf, labelOf, childOf, forallKind, existsKind, impliesKind, orKind, andKind, trueKind}
 use Rattle.node_table.specs.Decoding.{goalAt, clauseAtNode}
 use Rattle.node_table.specs.WellMade.{IsGoal, GoalNode}
 use Rattle.node_table.proofs.Decoding.{Nodes, nodes-of, goal-true, goal-and, goal-or, goal-implies, goal-exists, goal-forall}
@@ -29,6 +30,7 @@ use Rattle.answer_texts.specs.Spelled.{WritableTerm, WritableLine, sequents}
 use Rattle.answer_texts.specs.Judging.{infer, isPlain, sameWord, wordNumber, inferSome, inferAll, inferConstant}
 use Rattle.answer_texts.proofs.Reading.{lineBytes}
 use Rattle.answer_texts.proofs.Symbols.{marked, has-arity, name-of}
+use Rattle.scanning.specs.Fields as fields
 use Rattle.scanning.proofs.Places.{byte-is, drop-past, within}
 use Rattle.scanning.specs.declared.Scan.{Scan}
 use Rattle.scanning.specs.declared.Scan.the-variants.{Term as Scanned, Malformed}
@@ -94,7 +96,7 @@ module _ (c : Setting) (filled : Filled c) (q : ℕ) (w : List ℕ) (room : Room
       (program-on c q w w′ kept (r .hypotheses) (g .program) (at .program)) (at .level)
 
   -- "Y: nothing"
-  pub true-result : kindOf t n ≡ 3 → R (trueLine (c .text) w r i e)
+  pub true-result : kindOf t n ≡ trueKind → R (trueLine (c .text) w r i e)
   unfolding trueLine infer isPlain sameWord wordNumber inferSome WritableLine textFields lineFields spellWord join ascii isWord wordByte
   true-result k =
       either-side R (isLine (ascii "D\ttrue") (c .text) i e) (left w (proceed w r)) (broken w r)
@@ -116,7 +118,7 @@ module _ (c : Setting) (filled : Filled c) (q : ℕ) (w : List ℕ) (room : Room
       unfit b (Dclause j us) p y = refl
 
   -- "&: left, then right"
-  pub and-result : kindOf t n ≡ 4 → R (andLine t (c .text) w r q i e)
+  pub and-result : kindOf t n ≡ andKind → R (andLine t (c .text) w r q i e)
   unfolding andLine putSequent puts onSequent infer isPlain sameWord wordNumber WritableLine textFields lineFields spellWord join ascii isWord wordByte Holds SequentsAt FormedGoal freeG
   and-result k =
       either-side R (isLine (ascii "D\tand") (c .text) i e) _ (broken w r)
@@ -132,14 +134,14 @@ module _ (c : Setting) (filled : Filled c) (q : ℕ) (w : List ℕ) (room : Room
       goal : g .goal ≡ G
       goal = at .goal ∙ tree
 
-      fields : List ℕ
-      fields = childOf t n 1 ∷ r .frame ∷ r .hypotheses ∷ r .level ∷ r .rest ∷ []
+      values : List ℕ
+      values = childOf t n 1 ∷ r .frame ∷ r .hypotheses ∷ r .level ∷ r .rest ∷ []
 
       w′ : List ℕ
-      w′ = puts fields w q 16
+      w′ = puts values w q fields.sequentNode
 
       kept : Kept q w w′
-      kept = puts-kept fields w q 16 (omega arith)
+      kept = puts-kept values w q fields.sequentNode (omega arith)
 
       regs : Registers
       regs = onSequent r (childOf t n 0) (r .frame) (r .hypotheses) (r .level) (q + 1)
@@ -165,11 +167,11 @@ module _ (c : Setting) (filled : Filled c) (q : ℕ) (w : List ℕ) (room : Room
 
       holds : Holds c (suc q) w′ regs (sequents ((sequent A (g .environment) (g .program) (g .level) ∷ sequent B (g .environment) (g .program) (g .level) ∷ []) ++ gs))
       holds =
-          let a : field w′ q 16 ≡ childOf t n 1 = puts-at fields w q 16 0 room (omega arith) (omega arith) in
-          let b : field w′ q 17 ≡ r .frame = puts-at fields w q 16 1 room (omega arith) (omega arith) in
-          let h : field w′ q 18 ≡ r .hypotheses = puts-at fields w q 16 2 room (omega arith) (omega arith) in
-          let y : field w′ q 19 ≡ r .level = puts-at fields w q 16 3 room (omega arith) (omega arith) in
-          let z : field w′ q 20 ≡ r .rest = puts-at fields w q 16 4 room (omega arith) (omega arith) in
+          let a : field w′ q fields.sequentNode ≡ childOf t n 1 = puts-at values w q fields.sequentNode 0 room (omega arith) (omega arith) in
+          let b : field w′ q fields.sequentFrame ≡ r .frame = puts-at values w q fields.sequentNode 1 room (omega arith) (omega arith) in
+          let h : field w′ q fields.sequentHypotheses ≡ r .hypotheses = puts-at values w q fields.sequentNode 2 room (omega arith) (omega arith) in
+          let y : field w′ q fields.sequentLevel ≡ r .level = puts-at values w q fields.sequentNode 3 room (omega arith) (omega arith) in
+          let z : field w′ q fields.sequentNext ≡ r .rest = puts-at values w q fields.sequentNode 4 room (omega arith) (omega arith) in
           (refl, one, (q, add-one q, omega arith, rw (a, b, h, y) two, subst (λ (p : ℕ). SequentsAt c (suc q) w′ p gs) (sym z) (sequents-on c q w w′ kept (r .rest) gs others)))
 
       unfit : isLine (ascii "D\tand") (c .text) i e ≡ false → (d : Line Symbol) → l ≡ lineBytes ds (derivationLine d) → WritableLine ds d → inferred c q l g gs G goal d ≡ none
@@ -183,7 +185,7 @@ module _ (c : Setting) (filled : Filled c) (q : ℕ) (w : List ℕ) (room : Room
       unfit b (Dclause j us) p y = refl
 
   -- "| either side"
-  pub or-result : kindOf t n ≡ 5 → R (orLine t (c .text) w r i e)
+  pub or-result : kindOf t n ≡ orKind → R (orLine t (c .text) w r i e)
   unfolding orLine onChild onSequent infer isPlain sameWord wordNumber WritableLine textFields lineFields spellWord join ascii isWord wordByte Holds FormedGoal freeG
   or-result k =
       either-side R (isLine (ascii "D\tleft") (c .text) i e) (left w (onChild t r 0)) _
@@ -237,7 +239,7 @@ module _ (c : Setting) (filled : Filled c) (q : ℕ) (w : List ℕ) (room : Room
       unfit b a (Dclause j us) p y = refl
 
   -- ">: the clause is assumed"
-  pub assume-result : kindOf t n ≡ 6 → R (assumeLine t (c .text) w r q i e)
+  pub assume-result : kindOf t n ≡ impliesKind → R (assumeLine t (c .text) w r q i e)
   unfolding assumeLine putHypothesis puts onSequent infer isPlain sameWord wordNumber WritableLine textFields lineFields spellWord join ascii isWord wordByte Holds HypothesesAt FormedGoal freeG
   assume-result k =
       either-side R (isLine (ascii "D\tassume") (c .text) i e) _ (broken w r)
@@ -259,14 +261,14 @@ module _ (c : Setting) (filled : Filled c) (q : ℕ) (w : List ℕ) (room : Room
       goal : g .goal ≡ G
       goal = at .goal ∙ tree
 
-      fields : List ℕ
-      fields = childOf t n 0 ∷ r .frame ∷ r .hypotheses ∷ []
+      values : List ℕ
+      values = childOf t n 0 ∷ r .frame ∷ r .hypotheses ∷ []
 
       w′ : List ℕ
-      w′ = puts fields w q 21
+      w′ = puts values w q fields.hypothesisNode
 
       kept : Kept q w w′
-      kept = puts-kept fields w q 21 (omega arith)
+      kept = puts-kept values w q fields.hypothesisNode (omega arith)
 
       regs : Registers
       regs = onSequent r (childOf t n 1) (r .frame) (q + 1) (r .level) (r .rest)
@@ -286,8 +288,8 @@ module _ (c : Setting) (filled : Filled c) (q : ℕ) (w : List ℕ) (room : Room
           let m = node .implies k in
           let u = at .node in
           let o = at .older in
-          let a : field w′ q 21 ≡ childOf t n 0 = puts-at fields w q 21 0 room (omega arith) (omega arith) in
-          let b : field w′ q 22 ≡ r .frame = puts-at fields w q 21 1 room (omega arith) (omega arith) in
+          let a : field w′ q fields.hypothesisNode ≡ childOf t n 0 = puts-at values w q fields.hypothesisNode 0 room (omega arith) (omega arith) in
+          let b : field w′ q fields.hypothesisFrame ≡ r .frame = puts-at values w q fields.hypothesisNode 1 room (omega arith) (omega arith) in
           record {
             below = omega arith;
             node = rw a (omega (arith, m .0));
@@ -301,7 +303,7 @@ module _ (c : Setting) (filled : Filled c) (q : ℕ) (w : List ℕ) (room : Room
       program : ProgramAt c (suc q) w′ (q + 1) (hypothesis C (g .environment) ∷ g .program)
       program =
           let p = at .program in
-          let z : field w′ q 23 ≡ r .hypotheses = puts-at fields w q 21 2 room (omega arith) (omega arith) in
+          let z : field w′ q fields.hypothesisNext ≡ r .hypotheses = puts-at values w q fields.hypothesisNode 2 room (omega arith) (omega arith) in
           record {
             hypotheses = hypothesis C (g .environment) ∷ p .hypotheses;
             environment = p .environment;
@@ -330,7 +332,7 @@ module _ (c : Setting) (filled : Filled c) (q : ℕ) (w : List ℕ) (room : Room
       unfit b (Dclause j us) p y = refl
 
   -- the body of a quantified goal, its variable v standing for a term of the text
-  body : (B : Goal) (v : ℕ) → v ≡ labelOf t n → B ≡ goalAt t (childOf t n 0) → v < 8 → childOf t n 0 < n → IsGoal t (childOf t n 0) → FormedGoal B ds
+  body : (B : Goal) (v : ℕ) → v ≡ labelOf t n → B ≡ goalAt t (childOf t n 0) → v < variableNames → childOf t n 0 < n → IsGoal t (childOf t n 0) → FormedGoal B ds
       → ((z : ℕ) → freeG (goalAt t n) z ≡ (not (eqb v z) && freeG B z)) → (s j : ℕ) (u : Ground) → Placed ds (c .text) s j u → (lv k : ℕ) → lv ≡ k
       → Holds c (suc q) (bindGoal t w r q s j k .memory) (bindGoal t w r q s j k .registers) (sequents ((sequent B (update (g .environment) v u) (g .program) lv ∷ []) ++ gs))
   unfolding bindGoal onSequent Holds
@@ -360,7 +362,7 @@ module _ (c : Setting) (filled : Filled c) (q : ℕ) (w : List ℕ) (room : Room
           (frame-bind ds (c .text) q (r .frame) v s j u w (g .environment) (freeG (goalAt t n)) (freeG (goalAt t (childOf t n 0))) room (λ z. omega arith) small p still (at .frame))
 
   -- "E given any term whose symbols have level at most I"
-  pub some-result : kindOf t n ≡ 7 → R (someLine (c .bytes) t (c .symbols) (c .text) w r q i e)
+  pub some-result : kindOf t n ≡ existsKind → R (someLine (c .bytes) t (c .symbols) (c .text) w r q i e)
   unfolding someLine someTerm someWith infer inferSome WritableLine ascii isWord wordByte FormedGoal freeG bindGoal onSequent
   some-result k =
       either-side R (beginsWith word (c .text) i) (someTerm (c .bytes) t (c .symbols) (c .text) w r q (i + 7) e) (broken w r)
@@ -423,7 +425,7 @@ module _ (c : Setting) (filled : Filled c) (q : ℕ) (w : List ℕ) (room : Room
               (λ b. wrong-line c q l g gs G goal w r r (only (λ x z y. high u x (spelling-injective u x ds (names-of c filled) (s .writable) y (sym o ∙ rests x z)) b)))))
 
   -- "U any made constant of level I + 1"
-  pub all-result : kindOf t n ≡ 8 → R (allLine t (c .text) w r q i e)
+  pub all-result : kindOf t n ≡ forallKind → R (allLine t (c .text) w r q i e)
   unfolding allLine allConstant allWith infer inferAll inferConstant WritableLine WritableTerm ascii isWord wordByte FormedGoal freeG bindGoal onSequent spellTerm spellSymbol level symbolLevel levelBy scanTerm
   all-result k =
       either-side R (beginsWith word (c .text) i) (allConstant t (c .text) w r q (i + 6) e) (broken w r)

@@ -15,6 +15,7 @@ use Rattle.sheet_format.specs.Bytes.{lf, Lines, linesOf}
 use Rattle.sheet_format.specs.Sheets.{Sheet}
 use Rattle.sheet_format.proofs.Bytes.{Without}
 use Rattle.sheet_format.proofs.Good.{Good, good}
+use Rattle.sheet_format.specs.Limits.{numbersPerUnit}
 use Rattle.answer_texts.specs.Spelled.{Stage, opening, bindings, sequents, unlines}
 use Rattle.answer_texts.specs.Judging.{showSymbols, Progress, Judgement, invalid, judgeLine as judgeBytes, judgeEnd, judgeFrom as judgeLines, judge}
 use Rattle.answer_texts.proofs.Splitting.{linesOf-split}
@@ -25,7 +26,7 @@ use Rattle.scanning.proofs.Ranges.{line-end, line-open}
 use Rattle.scanning.proofs.Records.{Kept}
 use Rattle.scanning.proofs.Marks.{marksIn}
 use Rattle.line_checking.specs.declared.Registers.{Registers}
-use Rattle.line_checking.specs.Sequents.{Made, start}
+use Rattle.line_checking.specs.Sequents.{Made, start, brokenStage, doneStage}
 use Rattle.line_checking.specs.Judging.{judgeLine, Judged, judged, endVerdict, judgeFrom, judgeText}
 use Rattle.line_checking.specs.Simulation.{judgementOf, lineFeeds, Simulates}
 use Rattle.line_checking.proofs.Holds.{Setting, sheetOf, Filled, Holds}
@@ -43,7 +44,7 @@ same-further n m w w′ l h =
 record Goes (c : Setting) (n : ℕ) (w : List ℕ) (a : Judged) (j : Judgement) : Type 0 where
   verdict : judgementOf (a .verdict) ≡ j
   same-length : length (a .memory) ≡ length w
-  same-rest : drop (64 * n) (a .memory) ≡ drop (64 * n) w
+  same-rest : drop (numbersPerUnit * n) (a .memory) ≡ drop (numbersPerUnit * n) w
 
 -- the end
 
@@ -57,7 +58,7 @@ module _ (c : Setting) (q i : ℕ) (w : List ℕ) (r : Registers) where
   ends-open b bs (sequents (g ∷ gs)) = refl
 
   -- none is left: valid if no line is due
-  ends-here : (a : Stage) → Holds c q w r a → judgementOf (cond (eqb (r .stage) 3) 0 (suc q)) ≡ judgeEnd a [] (suc q)
+  ends-here : (a : Stage) → Holds c q w r a → judgementOf (cond (eqb (r .stage) doneStage) 0 (suc q)) ≡ judgeEnd a [] (suc q)
   unfolding judgeEnd judgementOf Holds
   ends-here opening h = ap (λ (z : ℕ). judgementOf (cond (eqb z 3) 0 (suc q))) h
   ends-here (bindings [] e) h = absurd h
@@ -82,7 +83,7 @@ module _ (c : Setting) (filled : Filled c) where
 
   -- from line q on
   lines-judged : (ls : List (List ℕ)) (rest : List ℕ) (n q i : ℕ) (w : List ℕ) (r : Registers) (p : Progress) → length ls < n → drop i (c .text) ≡ unlines ls ++ rest → All (Without lf) ls
-      → Without lf rest → 64 * (q + length ls) ≤ length w → State c q i w r p → Goes c (q + length ls) w (run n w r q i) (judgeLines (sheetOf c) ls rest (suc q) p)
+      → Without lf rest → numbersPerUnit * (q + length ls) ≤ length w → State c q i w r p → Goes c (q + length ls) w (run n w r q i) (judgeLines (sheetOf c) ls rest (suc q) p)
   unfolding judgeFrom judgeLines unlines judgementOf
   lines-judged ls rest zero q i w r p l d a b room s = absurd (omega arith)
   lines-judged [] rest (suc n) q i w r p l d a b room s =
@@ -113,29 +114,29 @@ module _ (c : Setting) (filled : Filled c) where
       after y = ap (λ (z : ℕ). drop (z + 1) (c .text)) y ∙ drop-next (c .text) (i + length x) lf (unlines ls ++ rest) (drop-past (c .text) i x (lf ∷ (unlines ls ++ rest)) here)
 
       Later : Type 0
-      Later = (w′ : List ℕ) (r′ : Registers) (p′ : Progress) → 64 * (suc q + length ls) ≤ length w′ → State c (suc q) (e + 1) w′ r′ p′
+      Later = (w′ : List ℕ) (r′ : Registers) (p′ : Progress) → numbersPerUnit * (suc q + length ls) ≤ length w′ → State c (suc q) (e + 1) w′ r′ p′
           → Goes c (suc q + length ls) w′ (run n w′ r′ (suc q) (e + 1)) (judgeLines (sheetOf c) ls rest (suc (suc q)) p′)
 
       -- after the line, whatever it left
       step : (m : Made) → Kept q w (m .memory) → (o : Option Progress) → JudgesLine c (suc q) (e + 1) m o → Later
-          → Goes c (q + suc (length ls)) w (cond (eqb (m .registers .stage) 4) (judged (m .memory) (q + 1)) (run n (m .memory) (m .registers) (q + 1) (e + 1)))
+          → Goes c (q + suc (length ls)) w (cond (eqb (m .registers .stage) brokenStage) (judged (m .memory) (q + 1)) (run n (m .memory) (m .registers) (q + 1) (e + 1)))
           (elim o as (λ z. Judgement) [ none ↦ invalid (suc q) | some p′ ↦ judgeLines (sheetOf c) ls rest (suc (suc q)) p′ ])
       step m kept none h ih =
           subst (λ (z : Judged). Goes c (q + suc (length ls)) w z (invalid (suc q)))
           (sym (ap (λ (z : ℕ). cond (eqb z 4) (judged (m .memory) (q + 1)) (run n (m .memory) (m .registers) (q + 1) (e + 1))) h))
-          (record { verdict = ap judgementOf (add-one q); same-length = kept .size; same-rest = same-further (64 * suc q) (64 * (q + suc (length ls))) w (m .memory) (omega arith) (kept .after) })
+          (record { verdict = ap judgementOf (add-one q); same-length = kept .size; same-rest = same-further (numbersPerUnit * suc q) (numbersPerUnit * (q + suc (length ls))) w (m .memory) (omega arith) (kept .after) })
       step m kept (some p′) h ih =
           let u = kept .size in
           let v : suc q + length ls ≡ q + suc (length ls) = omega arith in
           let z = ih (m .memory) (m .registers) p′ (omega arith) (h .1) in
           subst (λ (k : Judged). Goes c (q + suc (length ls)) w k (judgeLines (sheetOf c) ls rest (suc (suc q)) p′))
-          (sym (ap (λ (k : Bool). cond k (judged (m .memory) (q + 1)) (run n (m .memory) (m .registers) (q + 1) (e + 1))) (ne-eqb (m .registers .stage) 4 (h .0))
+          (sym (ap (λ (k : Bool). cond k (judged (m .memory) (q + 1)) (run n (m .memory) (m .registers) (q + 1) (e + 1))) (ne-eqb (m .registers .stage) brokenStage (h .0))
           ∙ ap (λ (k : ℕ). run n (m .memory) (m .registers) k (e + 1)) (add-one q)))
           (record {
             verdict = z .verdict;
             same-length = z .same-length ∙ kept .size;
-            same-rest = subst (λ (k : ℕ). drop (64 * k) (run n (m .memory) (m .registers) (suc q) (e + 1) .memory) ≡ drop (64 * k) (m .memory)) v (z .same-rest)
-                ∙ same-further (64 * suc q) (64 * (q + suc (length ls))) w (m .memory) (omega arith) (kept .after);
+            same-rest = subst (λ (k : ℕ). drop (numbersPerUnit * k) (run n (m .memory) (m .registers) (suc q) (e + 1) .memory) ≡ drop (numbersPerUnit * k) (m .memory)) v (z .same-rest)
+                ∙ same-further (numbersPerUnit * suc q) (numbersPerUnit * (q + suc (length ls))) w (m .memory) (omega arith) (kept .after);
           })
 
 -- before the first line
@@ -162,7 +163,7 @@ simulates bytes s h t symbols nodes clauses goal made decoded x w room =
     record {
       verdict = g .verdict ∙ ap (λ (y : Sheet). judgeLines y (l .whole) (l .rest) 1 p) decoded;
       same-length = g .same-length;
-      same-rest = subst (λ (k : ℕ). drop (64 * k) (judgeText bytes t symbols clauses goal x w .memory) ≡ drop (64 * k) w) z (g .same-rest);
+      same-rest = subst (λ (k : ℕ). drop (numbersPerUnit * k) (judgeText bytes t symbols clauses goal x w .memory) ≡ drop (numbersPerUnit * k) w) z (g .same-rest);
     }
   where
     c : Setting

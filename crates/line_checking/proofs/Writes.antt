@@ -12,6 +12,7 @@ use Rattle.scanning.specs.declared.Number.{Number}
 use Rattle.scanning.specs.declared.Number.the-variants.{Value, Missing}
 use Rattle.scanning.specs.declared.Scan.{Scan}
 use Rattle.scanning.specs.declared.Scan.the-variants.{Term as Scanned, Malformed}
+use Rattle.scanning.specs.Fields as fields
 use Rattle.scanning.specs.Ranges.{readNumber}
 use Rattle.scanning.specs.Scanning.{scanSymbol, scanTerm}
 use Rattle.scanning.specs.Frames.{copyFrame}
@@ -79,7 +80,7 @@ module _ (q : ℕ) (w : List ℕ) where
     unfolding andLine putSequent puts
     and-kept =
         side (isLine (ascii "D\tand") x i e) _ _
-        (puts-kept (childOf t (r .node) 1 ∷ r .frame ∷ r .hypotheses ∷ r .level ∷ r .rest ∷ []) w q 16 (omega arith)) (none-written r)
+        (puts-kept (childOf t (r .node) 1 ∷ r .frame ∷ r .hypotheses ∷ r .level ∷ r .rest ∷ []) w q fields.sequentNode (omega arith)) (none-written r)
 
     -- `D left`, `D right`
     pub or-kept : Kept q w (orLine t x w r i e .memory)
@@ -89,7 +90,7 @@ module _ (q : ℕ) (w : List ℕ) where
     -- `D assume`
     pub assume-kept : Kept q w (assumeLine t x w r q i e .memory)
     unfolding assumeLine putHypothesis puts
-    assume-kept = side (isLine (ascii "D\tassume") x i e) _ _ (puts-kept (childOf t (r .node) 0 ∷ r .frame ∷ r .hypotheses ∷ []) w q 21 (omega arith)) (none-written r)
+    assume-kept = side (isLine (ascii "D\tassume") x i e) _ _ (puts-kept (childOf t (r .node) 0 ∷ r .frame ∷ r .hypotheses ∷ []) w q fields.hypothesisNode (omega arith)) (none-written r)
 
     -- the goal's variable
     goal-kept : (s j k : ℕ) → labelOf t (r .node) < 8 → Kept q w (bindGoal t w r q s j k .memory)
@@ -126,9 +127,9 @@ module _ (q : ℕ) (w : List ℕ) where
     unfolding usePlace useFound
     place-kept (At n f k) j =
         let m = member t n k in
-        let a = prefixFrom (m .count) b t symbols x (copyFrame 16 w q f 0) q (m .names) j (r .level) e in
+        let a = prefixFrom (m .count) b t symbols x (copyFrame fields.frameNumbers w q f 0) q (m .names) j (r .level) e in
         member-kept (m .leaf) a
-        (kept-then q w (copyFrame 16 w q f 0) (a .memory) (copy-kept 16 w q f 0 (omega arith)) (prefix-kept (m .count) b t symbols x (copyFrame 16 w q f 0) q (m .names) j (r .level) e))
+        (kept-then q w (copyFrame fields.frameNumbers w q f 0) (a .memory) (copy-kept 16 w q f 0 (omega arith)) (prefix-kept (m .count) b t symbols x (copyFrame fields.frameNumbers w q f 0) q (m .names) j (r .level) e))
     place-kept Nowhere j = none-written r
 
     -- `D clause`

@@ -1,11 +1,12 @@
 -- The R line, and B lines with the terms for the goal's free variables.
 use Prim.Native.Nat.{ℕ, _+_, _-_}
+use Prim.Native.Char.{code}
 use mathlib.Core.Bool.{Bool, false, cond}
 use mathlib.Core.List.{List}
 use lib.Dec.{eqb, leb}
 use lib.ListN.{length, getD}
 use Rattle.sheet_format.specs.Limits.{maxBudget}
-use Rattle.sheet_format.specs.Bytes.{ascii}
+use Rattle.sheet_format.specs.Bytes.{ascii, tab}
 use Rattle.scanning.specs.declared.Number.the-variants.{Value, Missing}
 use Rattle.scanning.specs.declared.Scan.the-variants.{Term, Malformed}
 use Rattle.scanning.specs.Ranges.{sameRange, readNumber}
@@ -47,7 +48,7 @@ bindTerm b t symbols goal x w r q i e =
 
 -- the line begins with `B` and the variable v
 unfoldable pub bindsVariable : List ℕ → ℕ → ℕ → Bool
-bindsVariable x i v = cond (beginsWith (ascii "B\t") x i) (cond (eqb (getD x (i + 2) 0) (48 + v)) (eqb (getD x (i + 3) 0) 9) false) false
+bindsVariable x i v = cond (beginsWith (ascii "B\t") x i) (cond (eqb (getD x (i + 2) 0) (code "0" + v)) (eqb (getD x (i + 3) 0) tab) false) false
 
 -- the line from i on
 unfoldable pub bindLine : List ℕ → List ℕ → ℕ → ℕ → List ℕ → List ℕ → Registers → ℕ → ℕ → ℕ → Made

@@ -4,11 +4,13 @@ use mathlib.Core.Bool.{cond}
 use mathlib.Core.List.{List}
 use lib.Dec.{eqb, leb}
 use lib.ListN.{length, getD}
-use Rattle.sheet_format.specs.Bytes.{ascii}
-use Rattle.node_table.specs.Layout.{kindOf, childOf}
+use Rattle.sheet_format.specs.Bytes.{ascii, tab}
+use Rattle.sheet_format.specs.Limits.{variableNames}
+use Rattle.node_table.specs.Layout.{kindOf, childOf, impliesKind}
 use Rattle.scanning.specs.declared.Number.the-variants.{Value, Missing}
 use Rattle.scanning.specs.declared.Scan.{Scan}
 use Rattle.scanning.specs.declared.Scan.the-variants.{Term, Malformed}
+use Rattle.scanning.specs.Fields as fields
 use Rattle.scanning.specs.Ranges.{readNumber}
 use Rattle.scanning.specs.Scanning.{scanTerm}
 use Rattle.scanning.specs.Frames.{putSlot, copyFrame}
@@ -37,7 +39,7 @@ prefixTerm w q v i j k m e = cond (leb j e) (cond (leb k m) (read (putSlot w q v
 -- the tab at i, then the term
 unfoldable pub prefixAt : List ℕ → List ℕ → ℕ → List ℕ → List ℕ → ℕ → ℕ → ℕ → ℕ → ℕ → Read
 prefixAt b t symbols x w q v i m e =
-    cond (eqb (getD x i 0) 9)
+    cond (eqb (getD x i 0) tab)
     (elim (scanTerm (length x) b t symbols x (i + 1)) [ Term j k ↦ prefixTerm w q v (i + 1) j k m e | Malformed ↦ read w Malformed ])
     (read w Malformed)
 
@@ -45,12 +47,12 @@ prefixAt b t symbols x w q v i m e =
 unfoldable pub prefixFrom : ℕ → List ℕ → List ℕ → ℕ → List ℕ → List ℕ → ℕ → ℕ → ℕ → ℕ → ℕ → Read
 prefixFrom zero b t symbols x w q vs i m e = read w (Term i 0)
 prefixFrom (suc n) b t symbols x w q vs i m e =
-    let a = prefixAt b t symbols x w q (vs % 8) i m e in
-    elim (a .scan) [ Term j k ↦ prefixFrom n b t symbols x (a .memory) q (vs / 8) j m e | Malformed ↦ a ]
+    let a = prefixAt b t symbols x w q (vs % variableNames) i m e in
+    elim (a .scan) [ Term j k ↦ prefixFrom n b t symbols x (a .memory) q (vs / variableNames) j m e | Malformed ↦ a ]
 
 -- "the body, if any, is the new goal": the member at node n, whose names stand for terms in frame q.
 unfoldable pub onBody : List ℕ → List ℕ → Registers → ℕ → ℕ → Registers
-onBody t w r q n = cond (eqb (kindOf t n) 6) (onSequent r (childOf t n 0) q (r .hypotheses) (r .level) (r .rest)) (proceed w r)
+onBody t w r q n = cond (eqb (kindOf t n) impliesKind) (onSequent r (childOf t n 0) q (r .hypotheses) (r .level) (r .rest)) (proceed w r)
 
 -- "an atom equal to the head of a member"
 unfoldable pub useMember : List ℕ → List ℕ → List ℕ → List ℕ → Registers → ℕ → ℕ → Made
@@ -63,7 +65,7 @@ useTerms b t x r q n a e = elim (a .scan) [ Term j k ↦ cond (eqb j e) (useMemb
 -- A member of a clause with frame f; its terms from i on.
 unfoldable pub useFound : List ℕ → List ℕ → ℕ → List ℕ → List ℕ → Registers → ℕ → Found → ℕ → ℕ → ℕ → Made
 useFound b t symbols x w r q m f i e =
-    useTerms b t x r q (m .leaf) (prefixFrom (m .count) b t symbols x (copyFrame 16 w q f 0) q (m .names) i (r .level) e) e
+    useTerms b t x r q (m .leaf) (prefixFrom (m .count) b t symbols x (copyFrame fields.frameNumbers w q f 0) q (m .names) i (r .level) e) e
 
 -- the member at the place that was found
 unfoldable pub usePlace : List ℕ → List ℕ → ℕ → List ℕ → List ℕ → Registers → ℕ → Place → ℕ → ℕ → Made

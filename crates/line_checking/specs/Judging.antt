@@ -4,12 +4,12 @@ use mathlib.Core.Bool.{cond}
 use mathlib.Core.List.{List}
 use lib.Dec.{eqb, ltb}
 use lib.ListN.{length}
-use Rattle.node_table.specs.Layout.{kindOf}
+use Rattle.node_table.specs.Layout.{kindOf, trueKind, atomKind, impliesKind, orKind, andKind, existsKind}
 use Rattle.scanning.specs.declared.Shown.the-variants.{Counts, Misnumbered}
 use Rattle.scanning.specs.Ranges.{lineEnd}
 use Rattle.scanning.specs.Showing.{showFrom}
 use Rattle.line_checking.specs.declared.Registers.{Registers}
-use Rattle.line_checking.specs.Sequents.{Made, made, start, broken, onCounts}
+use Rattle.line_checking.specs.Sequents.{Made, made, start, broken, onCounts, brokenStage, doneStage, sequentStage, bindingStage, openingStage}
 use Rattle.line_checking.specs.Bindings.{openLine, bindLine}
 use Rattle.line_checking.specs.Rules.{trueLine, andLine, orLine, assumeLine, someLine, allLine}
 use Rattle.line_checking.specs.Clauses.{clauseLine}
@@ -18,28 +18,28 @@ use Rattle.line_checking.specs.Clauses.{clauseLine}
 
 -- A D line, by the kind of the goal that is due.
 unfoldable pub quantifierLine : List ℕ → List ℕ → ℕ → List ℕ → List ℕ → Registers → ℕ → ℕ → ℕ → Made
-quantifierLine b t symbols x w r q i e = cond (eqb (kindOf t (r .node)) 7) (someLine b t symbols x w r q i e) (allLine t x w r q i e)
+quantifierLine b t symbols x w r q i e = cond (eqb (kindOf t (r .node)) existsKind) (someLine b t symbols x w r q i e) (allLine t x w r q i e)
 
 -- no atom, not true
 unfoldable pub connectiveLine : List ℕ → List ℕ → ℕ → List ℕ → List ℕ → Registers → ℕ → ℕ → ℕ → Made
 connectiveLine b t symbols x w r q i e =
-    cond (eqb (kindOf t (r .node)) 4) (andLine t x w r q i e)
-    (cond (eqb (kindOf t (r .node)) 5) (orLine t x w r i e)
-    (cond (eqb (kindOf t (r .node)) 6) (assumeLine t x w r q i e)
+    cond (eqb (kindOf t (r .node)) andKind) (andLine t x w r q i e)
+    (cond (eqb (kindOf t (r .node)) orKind) (orLine t x w r i e)
+    (cond (eqb (kindOf t (r .node)) impliesKind) (assumeLine t x w r q i e)
     (quantifierLine b t symbols x w r q i e)))
 
 -- any goal
 unfoldable pub sequentLine : List ℕ → List ℕ → ℕ → ℕ → List ℕ → List ℕ → Registers → ℕ → ℕ → ℕ → Made
 sequentLine b t symbols clauses x w r q i e =
-    cond (eqb (kindOf t (r .node)) 2) (clauseLine b t symbols clauses x w r q i e)
-    (cond (eqb (kindOf t (r .node)) 3) (trueLine x w r i e) (connectiveLine b t symbols x w r q i e))
+    cond (eqb (kindOf t (r .node)) atomKind) (clauseLine b t symbols clauses x w r q i e)
+    (cond (eqb (kindOf t (r .node)) trueKind) (trueLine x w r i e) (connectiveLine b t symbols x w r q i e))
 
 -- A line, by the stage; where no line is due it is a surplus one.
 unfoldable pub stageLine : List ℕ → List ℕ → ℕ → ℕ → ℕ → List ℕ → List ℕ → Registers → ℕ → ℕ → ℕ → Made
 stageLine b t symbols clauses goal x w r q i e =
-    cond (eqb (r .stage) 0) (openLine t goal x w r i e)
-    (cond (eqb (r .stage) 1) (bindLine b t symbols goal x w r q i e)
-    (cond (eqb (r .stage) 2) (sequentLine b t symbols clauses x w r q i e) (broken w r)))
+    cond (eqb (r .stage) openingStage) (openLine t goal x w r i e)
+    (cond (eqb (r .stage) bindingStage) (bindLine b t symbols goal x w r q i e)
+    (cond (eqb (r .stage) sequentStage) (sequentLine b t symbols clauses x w r q i e) (broken w r)))
 
 -- The symbols in the line are numbered by first showing.
 unfoldable pub countLine : List ℕ → Made → ℕ → ℕ → Made
@@ -51,7 +51,7 @@ countLine x a i e =
 
 -- unless the line has broken already
 unfoldable pub orderLine : List ℕ → Made → ℕ → ℕ → Made
-orderLine x a i e = cond (eqb (a .registers .stage) 4) a (countLine x a i e)
+orderLine x a i e = cond (eqb (a .registers .stage) brokenStage) a (countLine x a i e)
 
 -- a line at its stage, then its numbering
 unfoldable pub judgeLine : List ℕ → List ℕ → ℕ → ℕ → ℕ → List ℕ → List ℕ → Registers → ℕ → ℕ → ℕ → Made
@@ -68,7 +68,7 @@ judged w v = record { memory = w; verdict = v }
 
 -- No LF from i on: right if no byte is left and no line is due.
 unfoldable pub endVerdict : List ℕ → Registers → ℕ → ℕ → ℕ
-endVerdict x r q i = cond (eqb i (length x)) (cond (eqb (r .stage) 3) 0 (q + 1)) (q + 1)
+endVerdict x r q i = cond (eqb i (length x)) (cond (eqb (r .stage) doneStage) 0 (q + 1)) (q + 1)
 
 -- At most n lines from line q on, which starts at i.
 unfoldable pub judgeFrom : ℕ → List ℕ → List ℕ → ℕ → ℕ → ℕ → List ℕ → List ℕ → Registers → ℕ → ℕ → Judged
@@ -77,7 +77,7 @@ judgeFrom (suc n) b t symbols clauses goal x w r q i =
     let e = lineEnd x i in
     let a = judgeLine b t symbols clauses goal x w r q i e in
     cond (ltb e (length x))
-    (cond (eqb (a .registers .stage) 4) (judged (a .memory) (q + 1)) (judgeFrom n b t symbols clauses goal x (a .memory) (a .registers) (q + 1) (e + 1)))
+    (cond (eqb (a .registers .stage) brokenStage) (judged (a .memory) (q + 1)) (judgeFrom n b t symbols clauses goal x (a .memory) (a .registers) (q + 1) (e + 1)))
     (judged w (endVerdict x r q i))
 
 -- the whole text

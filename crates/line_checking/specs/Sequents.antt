@@ -5,6 +5,7 @@ use mathlib.Core.List.{List}
 use lib.Dec.{eqb, ltb}
 use Rattle.formulas.specs.Formulas.{variableNames}
 use Rattle.node_table.specs.Layout.{maskOf, bitOf}
+use Rattle.scanning.specs.Fields as fields
 use Rattle.scanning.specs.Frames.{field, put}
 use Rattle.line_checking.specs.declared.Registers.{Registers}
 
@@ -39,7 +40,7 @@ made w r = record { memory = w; registers = r }
 
 -- Before the first line.
 unfoldable pub start : Registers
-start = record { stage = 0; node = 0; frame = 0; hypotheses = 0; level = 0; rest = 0; made = 0; leftover = 0 }
+start = record { stage = openingStage; node = 0; frame = 0; hypotheses = 0; level = 0; rest = 0; made = 0; leftover = 0 }
 
 -- The line was wrong, or no line is due.
 unfoldable pub onStage : Registers → ℕ → Registers
@@ -47,15 +48,15 @@ onStage r s = record { stage = s; node = r .node; frame = r .frame; hypotheses =
 
 -- the line was wrong
 unfoldable pub broken : List ℕ → Registers → Made
-broken w r = made w (onStage r 4)
+broken w r = made w (onStage r brokenStage)
 
 -- A B line for variable v is due.
 unfoldable pub onBinding : Registers → ℕ → ℕ → Registers
-onBinding r v f = record { stage = 1; node = v; frame = f; hypotheses = 0; level = 0; rest = 0; made = r .made; leftover = r .leftover }
+onBinding r v f = record { stage = bindingStage; node = v; frame = f; hypotheses = 0; level = 0; rest = 0; made = r .made; leftover = r .leftover }
 
 -- A sequent is due.
 unfoldable pub onSequent : Registers → ℕ → ℕ → ℕ → ℕ → ℕ → Registers
-onSequent r n f h i q = record { stage = 2; node = n; frame = f; hypotheses = h; level = i; rest = q; made = r .made; leftover = r .leftover }
+onSequent r n f h i q = record { stage = sequentStage; node = n; frame = f; hypotheses = h; level = i; rest = q; made = r .made; leftover = r .leftover }
 
 -- So many symbols have shown.
 unfoldable pub onCounts : Registers → ℕ → ℕ → Registers
@@ -77,16 +78,16 @@ bound t goal r v f = boundFrom goal r (freeFrom (variableNames - v) (maskOf t go
 
 -- A sequent left, in record q.
 unfoldable pub putSequent : List ℕ → ℕ → ℕ → ℕ → ℕ → ℕ → ℕ → List ℕ
-putSequent w q node frame hypotheses level next = put (put (put (put (put w q 16 node) q 17 frame) q 18 hypotheses) q 19 level) q 20 next
+putSequent w q node frame hypotheses level next = put (put (put (put (put w q fields.sequentNode node) q fields.sequentFrame frame) q fields.sequentHypotheses hypotheses) q fields.sequentLevel level) q fields.sequentNext next
 
 -- It is due.
 unfoldable pub dueSequent : List ℕ → Registers → ℕ → Registers
-dueSequent w r q = onSequent r (field w q 16) (field w q 17) (field w q 18) (field w q 19) (field w q 20)
+dueSequent w r q = onSequent r (field w q fields.sequentNode) (field w q fields.sequentFrame) (field w q fields.sequentHypotheses) (field w q fields.sequentLevel) (field w q fields.sequentNext)
 
 -- The next of the sequents left is due, if there is one.
 unfoldable pub proceed : List ℕ → Registers → Registers
-proceed w r = cond (eqb (r .rest) 0) (onStage r 3) (dueSequent w r (r .rest - 1))
+proceed w r = cond (eqb (r .rest) 0) (onStage r doneStage) (dueSequent w r (r .rest - 1))
 
 -- A hypothesis, in record q.
 unfoldable pub putHypothesis : List ℕ → ℕ → ℕ → ℕ → ℕ → List ℕ
-putHypothesis w q node frame next = put (put (put w q 21 node) q 22 frame) q 23 next
+putHypothesis w q node frame next = put (put (put w q fields.hypothesisNode node) q fields.hypothesisFrame frame) q fields.hypothesisNext next

@@ -6,6 +6,7 @@ use mathlib.Core.List.{List}
 use lib.ListN.{length, drop}
 use Rattle.sheet_format.specs.Bytes.{linesOf}
 use Rattle.sheet_format.specs.Sheets.{Sheet, sheet, readSheet}
+use Rattle.sheet_format.specs.Limits.{numbersPerUnit}
 use Rattle.node_table.specs.Decoding.{decodeSheet}
 use Rattle.node_table.specs.WellMade.{WellMade}
 use Rattle.answer_texts.specs.Judging.{Judgement, valid, invalid, judge}
@@ -24,9 +25,9 @@ lineFeeds x = length (linesOf x .whole)
 pub record Judges (s : Sheet) (x w : List ℕ) (a : Judged) : Type 0 where
   pub verdict : judgementOf (a .verdict) ≡ judge s x
   pub same-length : length (a .memory) ≡ length w
-  pub same-rest : drop (64 * lineFeeds x) (a .memory) ≡ drop (64 * lineFeeds x) w
+  pub same-rest : drop (numbersPerUnit * lineFeeds x) (a .memory) ≡ drop (numbersPerUnit * lineFeeds x) w
 
 -- For every sheet that the reader has put into the table, every text, and every work buffer with 64 numbers for each LF.
 abbrev pub Simulates : Type 0
 Simulates = (bytes : List ℕ) (s : Sheet) → readSheet bytes ≡ sheet s → (t : List ℕ) (symbols nodes clauses goal : ℕ) → WellMade t nodes clauses goal
-    → decodeSheet bytes t symbols clauses goal ≡ s → (x w : List ℕ) → 64 * lineFeeds x ≤ length w → Judges s x w (judgeText bytes t symbols clauses goal x w)
+    → decodeSheet bytes t symbols clauses goal ≡ s → (x w : List ℕ) → numbersPerUnit * lineFeeds x ≤ length w → Judges s x w (judgeText bytes t symbols clauses goal x w)

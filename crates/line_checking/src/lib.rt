@@ -1,8 +1,9 @@
 // The checker's judgement of an answer text on flat memory: see specs/ for the definitions, proofs/ for the simulation.
+pub mod text_stages;
 
 // All of the checker's state that is not in the work buffer. A pointer is the number of a record plus 1, and 0 for none.
 pub struct Registers {
-    // what is due (specs/Sequents.antt)
+    // what is due (text_stages)
     pub stage: u32,
     // the node of the sequent's goal, or the variable of the B line that is due
     pub node: u32,

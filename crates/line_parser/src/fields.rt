@@ -1,4 +1,5 @@
 // Fields of a line: where a field ends, and a field as a number.
+use sheet_format::limits;
 ghost use mathlib.Core.Path.{_≡_};
 ghost use lib.ListN.{length};
 ghost use Rattle.sheet_format.specs.Limits.{maxNumber};
@@ -40,7 +41,7 @@ fn read_digits(f: &[u8]) -> Number
             return Number::Bad;
         }
         let w = 10 * v + ((b - b'0') as u32);
-        if 65535 < w {
+        if limits::MAX_NUMBER < w {
             return Number::Bad;
         }
         v = w;

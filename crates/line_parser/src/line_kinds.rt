@@ -8,6 +8,7 @@ use super::lines::Two;
 use super::lines::one_number;
 use super::lines::read_nodes;
 use super::lines::two_numbers;
+use sheet_format::limits;
 ghost use mathlib.Core.Path.{_≡_};
 ghost use Rattle.sheet_format.specs.Bytes.{fields};
 ghost use Rattle.sheet_format.specs.SheetLines.{nodeLine, variableLine, clauseLine, goalLine, numbers, declaration, oneNumber, withVariable, application};
@@ -20,7 +21,7 @@ fn declared_arity(s: &[u8], function: bool, n: usize) -> Line
     let One::Only(a) = one_number(s) else {
         return Line::Malformed;
     };
-    if 4 < a {
+    if limits::MAX_ARITY < a {
         return Line::Malformed;
     }
     Line::Declare(function, n, a)
@@ -48,7 +49,7 @@ pub fn read_variable(s: &[u8]) -> Line
     let One::Only(v) = one_number(s) else {
         return Line::Malformed;
     };
-    if 8 <= v {
+    if limits::VARIABLE_NAMES <= v {
         return Line::Malformed;
     }
     Line::Node(NodeLine::Variable(v))
@@ -100,7 +101,7 @@ pub fn read_quantifier(s: &[u8], letter: u8) -> Line
     let Two::Both(variable, n) = two_numbers(s) else {
         return Line::Malformed;
     };
-    if 8 <= variable {
+    if limits::VARIABLE_NAMES <= variable {
         return Line::Malformed;
     }
     if letter == b'E' {

@@ -1,6 +1,7 @@
 // The parts of a line of a sheet, without its LF: one number, two, and the node numbers of an A line. Each reader takes the rest of
 // the line as a part, reads one field, and hands the rest on.
 use super::fields::Number;
+use sheet_format::limits;
 ghost use mathlib.Core.Path.{_≡_};
 ghost use mathlib.Core.Option.{some};
 ghost use Rattle.sheet_format.specs.Bytes.{fields};
@@ -133,7 +134,7 @@ pub fn read_nodes(s: &[u8], f: u32, ns: Nodes) -> Line
     let Number::Value(n, e) = super::fields::read_number(s) else {
         return Line::Malformed;
     };
-    if 4 <= ns.count {
+    if limits::MAX_ARITY <= ns.count {
         return Line::Malformed;
     }
     let more = add_node(ns, n);

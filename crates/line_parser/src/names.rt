@@ -1,5 +1,6 @@
 // A field as a name: a letter, then letters, digits and underscores, at most 16 bytes in all.
 use super::fields::field_len;
+use sheet_format::limits;
 ghost use mathlib.Core.Path.{_≡_};
 ghost use Rattle.sheet_format.specs.Bytes.{isLetter, isNameByte, nameBytes, isName};
 ghost use Rattle.line_parser.specs.Fields.{firstName};
@@ -58,7 +59,7 @@ fn is_name(f: &[u8]) -> bool
     if f.len() == 0 {
         return false;
     }
-    if 16 < f.len() {
+    if limits::MAX_NAME < f.len() {
         return false;
     }
     if is_letter(f[0]) {

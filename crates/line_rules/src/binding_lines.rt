@@ -13,6 +13,8 @@ ghost use Prim.Native.Nat.{_+_, _<_};
 ghost use Rattle.line_checking.specs.Sequents.{made};
 ghost use Rattle.line_checking.specs.Bindings.{bindWith, bindTerm, bindsVariable, bindLine};
 
+const ZERO: usize = b'0' as usize;
+
 // The term of the variable that is due, from i to j, is of level k; line q ends at e.
 pub fn bind_with(
     t: &[u32],
@@ -68,7 +70,7 @@ pub fn binds_variable(text: &[u8], i: usize, v: u32) -> bool
 {
     if begins_with(b"B\t", text, i) {
         let digit = byte(text, i + 2) as usize;
-        if digit == 48 + wide(v) {
+        if digit == ZERO + wide(v) {
             return byte(text, i + 3) == b'\t';
         }
         return false;

@@ -15,8 +15,10 @@ use line_checking::Place;
 use line_checking::Registers;
 use node_table::child;
 use node_table::kind;
+use node_table::kinds;
 use scanning::Number;
 use scanning::Scan;
+use scanning::fields;
 use term_scanner::tokens::read_number;
 ghost use mathlib.Core.Path.{_≡_};
 ghost use Prim.Native.Nat.{_+_, _<_};
@@ -28,7 +30,7 @@ ghost use Rattle.line_checking.specs.Clauses.{read, onBody, useMember, useTerms
 pub fn on_body(t: &[u32], w: &[u32], r: Registers, q: u32, n: u32) -> Registers
     ensures { λ s. ⌜ s ≡ onBody (now (t .entry)) (now (w .entry)) r q n ⌝ }
 {
-    if kind(t, n) == 6 {
+    if kind(t, n) == kinds::IMPLIES {
         return on_sequent(r, child(t, n, 0), q, r.hypotheses, r.level, r.rest);
     }
     proceed(w, r)
@@ -93,7 +95,7 @@ pub fn use_found(
     requires { ⌜ (length (now text) < 4294967296) × (e < 4294967296) ⌝ }
     ensures { λ s. ⌜ made (now (w .exit)) s ≡ useFound (now (sheet .entry)) (now (t .entry)) symbols (now (text .entry)) (now (w .entry)) r q m f i e ⌝ }
 {
-    copy_frame(16, w, q, f, 0);
+    copy_frame(fields::FRAME_NUMBERS, w, q, f, 0);
     let a = prefix_from(
         m.count,
         sheet,

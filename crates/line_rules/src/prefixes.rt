@@ -3,6 +3,7 @@
 use instances::frames::put_slot;
 use memory::byte;
 use scanning::Scan;
+use sheet_format::limits;
 use term_scanner::scan_term;
 ghost use mathlib.Core.Path.{_≡_};
 ghost use Prim.Native.Nat.{_+_, _<_};
@@ -79,12 +80,23 @@ pub fn prefix_from(
     let mut names = vs;
     let mut at = i;
     while 0 < left {
-        let a = prefix_at(sheet, t, symbols, text, w, q, names % 8, at, m, e);
+        let a = prefix_at(
+            sheet,
+            t,
+            symbols,
+            text,
+            w,
+            q,
+            names % limits::VARIABLE_NAMES,
+            at,
+            m,
+            e,
+        );
         let Scan::Term(j, _) = a else {
             return Scan::Malformed;
         };
         at = j;
-        names = names / 8;
+        names = names / limits::VARIABLE_NAMES;
         left -= 1;
     }
     Scan::Term(at, 0)

@@ -3,6 +3,7 @@ use checker_state::registers::bound;
 use checker_state::registers::broken;
 use line_checking::Registers;
 use scanning::Number;
+use sheet_format::limits;
 use term_scanner::ranges::monus;
 use term_scanner::ranges::same_range;
 use term_scanner::tokens::read_number;
@@ -35,7 +36,7 @@ pub fn open_with(t: &[u32], goal: u32, r: Registers, n: u32, j: usize, e: usize)
 {
     if j == e {
         if 1 <= n {
-            if n <= 50000 {
+            if n <= limits::MAX_BUDGET {
                 return bound(t, goal, r, 0, 0);
             }
             return broken(r);

@@ -12,10 +12,11 @@ use Rattle.unification.specs.Promises.{Formed}
 use Rattle.search.specs.Configurations.{Branch, Configuration, take, try, match, done}
 use Rattle.search.specs.Steps as level1
 use Rattle.search.proofs.Invariant.{EnvironmentBelow, Invariant}
+use Rattle.sheet_format.specs.Limits.{maxBudget, numbersPerUnit}
 use Rattle.node_table.specs.Layout.{kindOf}
 use Rattle.node_table.proofs.Decoding.{GoalKind, atom-kind, true-kind, and-kind, or-kind, implies-kind, exists-kind, forall-kind, goal-kind}
 use Rattle.machine.specs.declared.Registers.{Registers}
-use Rattle.machine.specs.Records.{Made, made}
+use Rattle.machine.specs.Records.{Made, made, provedMode, takeMode, tryMode, compareMode}
 use Rattle.machine.specs.Changes.{onActs}
 use Rattle.machine.specs.Words.{up}
 use Rattle.machine.specs.Goals.{takeGoal}
@@ -47,7 +48,7 @@ module _ (T : Table) where
   result-counted n m x (c ∷ ds) h = record { front = configuration-counted n (m .memory) (m .registers) x c (h .front); shared = h .shared }
 
   -- An act is due, unless the search has come to its end.
-  pub mode-due : (n : ℕ) (w : List ℕ) (r : Registers) (c : Configuration) → ConfigurationAt T n w r c → (r .mode ≡ 4 → ⊥) → r .mode < 4
+  pub mode-due : (n : ℕ) (w : List ℕ) (r : Registers) (c : Configuration) → ConfigurationAt T n w r c → (r .mode ≡ provedMode → ⊥) → r .mode < 4
   unfolding ConfigurationAt CompareAt
   mode-due n w r (take s g b) h d = let e = h .0 in omega arith
   mode-due n w r (try s a m ms k b) h d = let e = h .mode in omega arith
@@ -57,7 +58,7 @@ module _ (T : Table) where
   mode-due n w r (match fail b) h d = absurd h
   mode-due n w r (done s ls) h d = absurd (d (h .0))
 
-  module _ (w : List ℕ) (r : Registers) (ds : List Configuration) (room : 64 * suc (r .acts) ≤ length w) (small : r .acts < 50000) where
+  module _ (w : List ℕ) (r : Registers) (ds : List Configuration) (room : numbersPerUnit * suc (r .acts) ≤ length w) (small : r .acts < maxBudget) where
     -- Taking a goal, by its kind.
     take-act : (s : Store) (g : Sequent Leaf) (b : Branch) → Formed s → EnvironmentBelow (s .next) (g .environment) → StateAt T (r .acts) w r (take s g b) ds
         → ResultAt T (suc (r .acts)) (takeGoal (T .numbers) (T .clauses) w r) (level1.takeGoal (r .acts) s (g .goal) (g .environment) (g .program) (g .level) b ++ ds)
@@ -77,24 +78,24 @@ module _ (T : Table) where
         go (forall-kind k) = rw k (take-forall T w r s g b ds room small (st .front .1) (st .front .2) (st .shared) k)
 
     -- The act that is due, by the configuration.
-    due-act : (c : Configuration) → Invariant c → (r .mode ≡ 4 → ⊥) → StateAt T (r .acts) w r c ds → ResultAt T (suc (r .acts)) (dueAct (T .numbers) (T .clauses) w r) (level1.step (r .acts) c ++ ds)
+    due-act : (c : Configuration) → Invariant c → (r .mode ≡ provedMode → ⊥) → StateAt T (r .acts) w r c ds → ResultAt T (suc (r .acts)) (dueAct (T .numbers) (T .clauses) w r) (level1.step (r .acts) c ++ ds)
     unfolding dueAct level1.step Invariant ConfigurationAt CompareAt
-    due-act (take s g b) i d st = rw (eq-eqb (r .mode) 0 (st .front .0)) (take-act s g b (i .formed) (i .extra .0 .0) st)
+    due-act (take s g b) i d st = rw (eq-eqb (r .mode) takeMode (st .front .0)) (take-act s g b (i .formed) (i .extra .0 .0) st)
     due-act (try s a m ms k b) i d st =
         let e = st .front .mode in
-        rw (ne-eqb (r .mode) 0 (λ z. omega arith), eq-eqb (r .mode) 1 e) (try-act T w r b ds room small s a m ms k (i .formed) (i .extra .members .0) st)
+        rw (ne-eqb (r .mode) takeMode (λ z. omega arith), eq-eqb (r .mode) tryMode e) (try-act T w r b ds room small s a m ms k (i .formed) (i .extra .members .0) st)
     due-act (match (pairs s []) b) i d st = absurd (st .front)
     due-act (match (pairs s (p ∷ ps)) b) i d st =
         let e = st .front .0 in
-        rw (ne-eqb (r .mode) 0 (λ z. omega arith), ne-eqb (r .mode) 1 (λ z. omega arith), eq-eqb (r .mode) 2 e) (compare-act T w r b ds room small s p ps i st)
+        rw (ne-eqb (r .mode) takeMode (λ z. omega arith), ne-eqb (r .mode) tryMode (λ z. omega arith), eq-eqb (r .mode) compareMode e) (compare-act T w r b ds room small s p ps i st)
     due-act (match (check s y t z ns ps) b) i d st =
         let e = st .front .mode in
-        rw (ne-eqb (r .mode) 0 (λ z. omega arith), ne-eqb (r .mode) 1 (λ z. omega arith), ne-eqb (r .mode) 2 (λ z. omega arith)) (check-act T w r b ds room small s y t z ns ps i st)
+        rw (ne-eqb (r .mode) takeMode (λ z. omega arith), ne-eqb (r .mode) tryMode (λ z. omega arith), ne-eqb (r .mode) compareMode (λ z. omega arith)) (check-act T w r b ds room small s y t z ns ps i st)
     due-act (match fail b) i d st = absurd (st .front)
     due-act (done s ls) i d st = absurd (d (st .front .0))
 
     -- One act, counted.
-    pub act-result : (c : Configuration) → Invariant c → (r .mode ≡ 4 → ⊥) → StateAt T (r .acts) w r c ds
+    pub act-result : (c : Configuration) → Invariant c → (r .mode ≡ provedMode → ⊥) → StateAt T (r .acts) w r c ds
         → ResultAt T (suc (r .acts)) (act (T .numbers) (T .clauses) w r) (level1.step (r .acts) c ++ ds)
     unfolding act
     act-result c i d st = result-counted (suc (r .acts)) (dueAct (T .numbers) (T .clauses) w r) (up (r .acts)) (level1.step (r .acts) c ++ ds) (due-act c i d st)

@@ -13,7 +13,8 @@ use Rattle.terms.proofs.Lists.{all-weaken}
 use Rattle.unification.specs.Store.{Store}
 use Rattle.search.specs.Configurations.{Configuration}
 use Rattle.machine.specs.declared.Registers.{Registers}
-use Rattle.machine.specs.Records.{field, Made, made}
+use Rattle.machine.specs.Fields as fields
+use Rattle.machine.specs.Records.{field, Made, made, noMode}
 use Rattle.machine.specs.Changes.{onMode, onNext, onTrail, onChoice, onGoals, onPath, onGoal, onMember}
 use Rattle.machine.specs.Trail.{undoEntry}
 use Rattle.machine.specs.Choices.{resumeGoal, resumeMember, resumeBranch, resume, takeUp, failed}
@@ -43,23 +44,23 @@ bounded-up n s b =
     record { bindings = omega arith; least = b .least; variables = omega arith; later = λ h. let z = bounded-next n s b .1 in omega arith }
 
 -- Resuming reads the fields of one record.
-resume-heap : (n : ℕ) (w w′ : List ℕ) (r : Registers) (q : ℕ) → Heap 22 n w w′ → q < n → resume w′ r q ≡ resume w r q
+resume-heap : (n : ℕ) (w w′ : List ℕ) (r : Registers) (q : ℕ) → Heap fields.constantLevel n w w′ → q < n → resume w′ r q ≡ resume w r q
 unfolding resume resumeMember resumeGoal resumeBranch
 resume-heap n w w′ r q h l = rw (
-  h .old q 43 l (omega arith) (omega arith),
-  h .old q 44 l (omega arith) (omega arith),
-  h .old q 45 l (omega arith) (omega arith),
-  h .old q 46 l (omega arith) (omega arith),
-  h .old q 47 l (omega arith) (omega arith),
-  h .old q 48 l (omega arith) (omega arith),
-  h .old q 49 l (omega arith) (omega arith),
-  h .old q 50 l (omega arith) (omega arith),
-  h .old q 51 l (omega arith) (omega arith),
-  h .old q 52 l (omega arith) (omega arith),
-  h .old q 53 l (omega arith) (omega arith),
-  h .old q 54 l (omega arith) (omega arith),
-  h .old q 55 l (omega arith) (omega arith),
-  h .old q 56 l (omega arith) (omega arith),
+  h .old q fields.variables l (omega arith) (omega arith),
+  h .old q fields.choiceTrail l (omega arith) (omega arith),
+  h .old q fields.choiceBefore l (omega arith) (omega arith),
+  h .old q fields.choiceGoals l (omega arith) (omega arith),
+  h .old q fields.choicePath l (omega arith) (omega arith),
+  h .old q fields.choiceLine l (omega arith) (omega arith),
+  h .old q fields.choiceNode l (omega arith) (omega arith),
+  h .old q fields.choiceFrame l (omega arith) (omega arith),
+  h .old q fields.choiceProgram l (omega arith) (omega arith),
+  h .old q fields.choiceLevel l (omega arith) (omega arith),
+  h .old q fields.choiceHypothesis l (omega arith) (omega arith),
+  h .old q fields.choiceClause l (omega arith) (omega arith),
+  h .old q fields.choiceMember l (omega arith) (omega arith),
+  h .old q fields.choicePlace l (omega arith) (omega arith),
 )
 
 module _ (T : Table) where
@@ -67,22 +68,22 @@ module _ (T : Table) where
   pub record ChoiceAt (n : ℕ) (w : List ℕ) (q : ℕ) (c : Configuration) (k : ℕ) : Type 0 where
     pub low : q < n
     pub resumes : (r : Registers) → ConfigurationAt T n w (resume w r q) c
-    pub variables : field w q 43 ≡ storeOf c .next
+    pub variables : field w q fields.variables ≡ storeOf c .next
     pub fewer : storeOf c .next ≤ k
     pub bounded : Bounded n (storeOf c)
 
   -- From the latest choice point (a pointer) and the trail's head.
   pub data AlternativesAt (n : ℕ) : ℕ → List ℕ → ℕ → ℕ → List Configuration → Type 0 where
     alternatives-none : {k : ℕ} {w : List ℕ} {h : ℕ} → AlternativesAt n k w zero h []
-    alternatives-more : {k : ℕ} {w : List ℕ} {h : ℕ} {c : Configuration} {ds : List Configuration} (q : ℕ) (rs : List ℕ) → ChoiceAt n w q c k → All (λ r. r < n) rs → Chain rs w h (field w q 44)
-        → StoreAt T n (undoAll rs w) (storeOf c) → AlternativesAt n (storeOf c .next) (undoAll rs w) (field w q 45) (field w q 44) ds → AlternativesAt n k w (suc q) h (c ∷ ds)
+    alternatives-more : {k : ℕ} {w : List ℕ} {h : ℕ} {c : Configuration} {ds : List Configuration} (q : ℕ) (rs : List ℕ) → ChoiceAt n w q c k → All (λ r. r < n) rs → Chain rs w h (field w q fields.choiceTrail)
+        → StoreAt T n (undoAll rs w) (storeOf c) → AlternativesAt n (storeOf c .next) (undoAll rs w) (field w q fields.choiceBefore) (field w q fields.choiceTrail) ds → AlternativesAt n k w (suc q) h (c ∷ ds)
 
   -- A choice point stays,
-  choice-heap : (n : ℕ) (w w′ : List ℕ) (q : ℕ) (c : Configuration) (k : ℕ) → Heap 22 n w w′ → ChoiceAt n w q c k → ChoiceAt n w′ q c k
+  choice-heap : (n : ℕ) (w w′ : List ℕ) (q : ℕ) (c : Configuration) (k : ℕ) → Heap fields.constantLevel n w w′ → ChoiceAt n w q c k → ChoiceAt n w′ q c k
   choice-heap n w w′ q c k e h = record {
     low = h .low;
     resumes = λ r. subst (λ (x : Registers). ConfigurationAt T n w′ x c) (sym (resume-heap n w w′ r q e (h .low))) (configuration-heap T n w w′ (resume w r q) c e (h .resumes r));
-    variables = e .old q 43 (h .low) (omega arith) (omega arith) ∙ h .variables;
+    variables = e .old q fields.variables (h .low) (omega arith) (omega arith) ∙ h .variables;
     fewer = h .fewer;
     bounded = h .bounded;
   }
@@ -107,9 +108,9 @@ module _ (T : Table) where
   alternatives-grow n w′ g (alternatives-more {k = k} {w = w} {h = h} {c = c} {ds = ds} q rs a l e s d) =
       let g′ = grow-undoAll n k rs w w′ l g in
       let b = a .low in
-      let e₄ = g .heap .old q 44 b (omega arith) (omega arith) in
-      let e₅ = g .heap .old q 45 b (omega arith) (omega arith) in
-      alternatives-more {k = k} {w = w′} {h = h} {c = c} {ds = ds} q rs (choice-heap n w w′ q c k (heap-22 n w w′ (g .heap)) a) l (rw e₄ (chain-heap n rs w w′ h (field w q 44) l (g .heap) e))
+      let e₄ = g .heap .old q fields.choiceTrail b (omega arith) (omega arith) in
+      let e₅ = g .heap .old q fields.choiceBefore b (omega arith) (omega arith) in
+      alternatives-more {k = k} {w = w′} {h = h} {c = c} {ds = ds} q rs (choice-heap n w w′ q c k (heap-22 n w w′ (g .heap)) a) l (rw e₄ (chain-heap n rs w w′ h (field w q fields.choiceTrail) l (g .heap) e))
       (store-grow T n k (undoAll rs w) (undoAll rs w′) (storeOf c) g′ (a .fewer) s)
       (rw (e₄, e₅) (alternatives-grow n (undoAll rs w′) (grow-less n (storeOf c .next) k (undoAll rs w) (undoAll rs w′) (a .fewer) g′) d))
 
@@ -126,18 +127,18 @@ module _ (T : Table) where
       alternatives-more {k = k} {w = w} {h = h} {c = c} {ds = ds} q rs (record { low = a .low; resumes = a .resumes; variables = a .variables; fewer = let m = a .fewer in omega arith; bounded = a .bounded }) l e s d
 
   -- and when an act notes an entry that can be undone: the latest one's part of the trail is longer.
-  pub alternatives-noted : (n : ℕ) {k : ℕ} {w : List ℕ} {cp h : ℕ} {ds : List Configuration} (w′ : List ℕ) → Heap 18 n w w′ → Grow n k w (undoEntry w′ n) → field w′ n 21 ≡ h → h ≤ n
+  pub alternatives-noted : (n : ℕ) {k : ℕ} {w : List ℕ} {cp h : ℕ} {ds : List Configuration} (w′ : List ℕ) → Heap fields.entryLowered n w w′ → Grow n k w (undoEntry w′ n) → field w′ n fields.entryBefore ≡ h → h ≤ n
       → AlternativesAt n k w cp h ds → AlternativesAt (suc n) k w′ cp (suc n) ds
   unfolding Chain undoAll
   alternatives-noted n w′ e g f b alternatives-none = alternatives-none
   alternatives-noted n w′ e g f b (alternatives-more {k = k} {w = w} {h = h} {c = c} {ds = ds} q rs a l i s d) =
       let g′ = grow-undoAll n k rs w (undoEntry w′ n) l g in
       let lo = a .low in
-      let e₄ = e .old q 44 lo (omega arith) (omega arith) in
-      let e₅ = e .old q 45 lo (omega arith) (omega arith) in
-      let m = chain-le rs w h (field w q 44) i in
+      let e₄ = e .old q fields.choiceTrail lo (omega arith) (omega arith) in
+      let e₅ = e .old q fields.choiceBefore lo (omega arith) (omega arith) in
+      let m = chain-le rs w h (field w q fields.choiceTrail) i in
       alternatives-more {k = k} {w = w′} {h = suc n} {c = c} {ds = ds} q (n ∷ rs) (choice-up n w′ q c k (choice-heap n w w′ q c k (heap-22 n w w′ e) a)) (omega arith, all-up n rs l)
-      (rw (e₄, f) (refl, omega arith, b, chain-heap n rs w w′ h (field w q 44) l e i))
+      (rw (e₄, f) (refl, omega arith, b, chain-heap n rs w w′ h (field w q fields.choiceTrail) l e i))
       (store-up T n (undoAll rs (undoEntry w′ n)) (storeOf c) (store-grow T n k (undoAll rs w) (undoAll rs (undoEntry w′ n)) (storeOf c) g′ (a .fewer) s))
       (rw (e₄, e₅) (alternatives-up n (alternatives-grow n (undoAll rs (undoEntry w′ n)) (grow-less n (storeOf c .next) k (undoAll rs w) (undoAll rs (undoEntry w′ n)) (a .fewer) g′) d)))
 
@@ -180,7 +181,7 @@ module _ (T : Table) where
 
   -- What an act leaves: no alternative, or a state.
   unfoldable pub ResultAt : ℕ → Made → List Configuration → Type 0
-  ResultAt n m [] = m .registers .mode ≡ 5
+  ResultAt n m [] = m .registers .mode ≡ noMode
   ResultAt n m (c ∷ ds) = StateAt n (m .memory) (m .registers) c ds
 
   -- Failure: the latest alternative is acted upon.
@@ -188,17 +189,17 @@ module _ (T : Table) where
   unfolding failed ResultAt onMode takeUp resume resumeMember resumeGoal resumeBranch onNext onTrail onChoice onGoals onPath onGoal onMember
   failed-result n k w r ds b a = go (r .choice) (r .trail) ds refl refl a
     where
-      up-to : (q : ℕ) (rs : List ℕ) (h : ℕ) (c : Configuration) (ds : List Configuration) → r .trail ≡ h → ChoiceAt n w q c k → All (λ x. x < n) rs → Chain rs w h (field w q 44)
-          → StoreAt T n (undoAll rs w) (storeOf c) → AlternativesAt n (storeOf c .next) (undoAll rs w) (field w q 45) (field w q 44) ds → StateAt n (takeUp w r q .memory) (takeUp w r q .registers) c ds
+      up-to : (q : ℕ) (rs : List ℕ) (h : ℕ) (c : Configuration) (ds : List Configuration) → r .trail ≡ h → ChoiceAt n w q c k → All (λ x. x < n) rs → Chain rs w h (field w q fields.choiceTrail)
+          → StoreAt T n (undoAll rs w) (storeOf c) → AlternativesAt n (storeOf c .next) (undoAll rs w) (field w q fields.choiceBefore) (field w q fields.choiceTrail) ds → StateAt n (takeUp w r q .memory) (takeUp w r q .registers) c ds
       up-to q rs h c ds e p l i s d =
-          let z = undo-chain rs n (r .trail) w (r .trail) (field w q 44) l (omega arith) (rw e i) in
-          let m = chain-le rs w h (field w q 44) i in
+          let z = undo-chain rs n (r .trail) w (r .trail) (field w q fields.choiceTrail) l (omega arith) (rw e i) in
+          let m = chain-le rs w h (field w q fields.choiceTrail) i in
           subst (λ (x : List ℕ). StateAt n x (resume w r q) c ds) (sym z) (record {
             front = configuration-heap T n w (undoAll rs w) (resume w r q) c (heap-22 n w (undoAll rs w) (heap-undoAll n rs w)) (p .resumes r);
             shared = record { store = s; bounded = p .bounded; next = p .variables; trail = omega arith; alternatives = d };
           })
 
-      go : (cp h : ℕ) (ds : List Configuration) → r .choice ≡ cp → r .trail ≡ h → AlternativesAt n k w cp h ds → ResultAt n (cond (eqb (r .choice) 0) (made w (onMode r 5)) (takeUp w r (r .choice - 1))) ds
+      go : (cp h : ℕ) (ds : List Configuration) → r .choice ≡ cp → r .trail ≡ h → AlternativesAt n k w cp h ds → ResultAt n (cond (eqb (r .choice) 0) (made w (onMode r noMode)) (takeUp w r (r .choice - 1))) ds
       go cp h ds e f alternatives-none = rw (eq-eqb (r .choice) 0 e)
       go cp h ds e f (alternatives-more {c = c} {ds = ds′} q rs p l i s d) =
           let z : r .choice - 1 ≡ q = omega arith in

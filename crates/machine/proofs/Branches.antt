@@ -15,6 +15,7 @@ use Rattle.search.specs.Configurations.{Branch}
 use Rattle.search.specs.Search.{startEnvironment}
 use Rattle.node_table.specs.Decoding.{goalAt, clauseAtNode, clausesFrom}
 use Rattle.node_table.specs.WellMade.{IsGoal, IsClause}
+use Rattle.machine.specs.Fields as fields
 use Rattle.machine.specs.Records.{field}
 use Rattle.machine.specs.Words.{slotOf, leafOf, environmentAt, variableWord}
 use Rattle.machine.specs.Reading.{lineAt, pathFrom}
@@ -39,24 +40,24 @@ heap-less lo n m w w′ l h = record { len = h .len; old = λ u f a b c. h .old 
 -- A line's variables are below x.
 pub record LineBelow (x : ℕ) (w : List ℕ) (r k : ℕ) : Type 0 where
   pub kind : k ≤ 7
-  pub some : k ≡ 5 → field w r 43 < x
-  pub clause : k ≡ 7 → field w r 42 + field w r 43 ≤ x
+  pub some : k ≡ 5 → field w r fields.variables < x
+  pub clause : k ≡ 7 → field w r fields.useCount + field w r fields.variables ≤ x
 
 -- The path. A line is in an earlier record than the one after it.
 unfoldable pub PathAt : ℕ → ℕ → List (Line Leaf) → List ℕ → ℕ → ℕ → Type 0
 PathAt n x [] w zero k = Unit {0}
 PathAt n x [] w (suc r) k = ⊥
 PathAt n x (l ∷ ls) w zero k = ⊥
-PathAt n x (l ∷ ls) w (suc r) k = (r < n) × (lineAt w r k ≡ l) × LineBelow x w r k × PathAt r x ls w (field w r 39) (field w r 40)
+PathAt n x (l ∷ ls) w (suc r) k = (r < n) × (lineAt w r k ≡ l) × LineBelow x w r k × PathAt r x ls w (field w r fields.pathBefore) (field w r fields.pathLine)
 
 -- It stays.
-line-heap : (n : ℕ) (w w′ : List ℕ) (r k : ℕ) → Heap 22 n w w′ → r < n → lineAt w′ r k ≡ lineAt w r k
+line-heap : (n : ℕ) (w w′ : List ℕ) (r k : ℕ) → Heap fields.constantLevel n w w′ → r < n → lineAt w′ r k ≡ lineAt w r k
 unfolding lineAt
 line-heap n w w′ r k h l =
-    rw (h .old r 22 l (omega arith) (omega arith), h .old r 41 l (omega arith) (omega arith), h .old r 42 l (omega arith) (omega arith), h .old r 43 l (omega arith) (omega arith))
+    rw (h .old r fields.constantLevel l (omega arith) (omega arith), h .old r fields.usePlace l (omega arith) (omega arith), h .old r fields.useCount l (omega arith) (omega arith), h .old r fields.variables l (omega arith) (omega arith))
 
 -- The path,
-pub path-heap : (n x : ℕ) (ls : List (Line Leaf)) (w w′ : List ℕ) (p k : ℕ) → Heap 22 n w w′ → PathAt n x ls w p k → PathAt n x ls w′ p k
+pub path-heap : (n x : ℕ) (ls : List (Line Leaf)) (w w′ : List ℕ) (p k : ℕ) → Heap fields.constantLevel n w w′ → PathAt n x ls w p k → PathAt n x ls w′ p k
 unfolding PathAt
 path-heap n x [] w w′ zero k h c = tt
 path-heap n x [] w w′ (suc r) k h c = c
@@ -64,13 +65,13 @@ path-heap n x (y ∷ ls) w w′ zero k h c = c
 path-heap n x (y ∷ ls) w w′ (suc r) k h c =
     let l = c .0 in
     let b = c .2 in
-    let e₂ = h .old r 42 l (omega arith) (omega arith) in
-    let e₃ = h .old r 43 l (omega arith) (omega arith) in (
+    let e₂ = h .old r fields.useCount l (omega arith) (omega arith) in
+    let e₃ = h .old r fields.variables l (omega arith) (omega arith) in (
       l,
       line-heap n w w′ r k h l ∙ c .1,
       record { kind = b .kind; some = λ q. rw e₃ (b .some q); clause = λ q. rw (e₂, e₃) (b .clause q) },
-      rw (h .old r 39 l (omega arith) (omega arith), h .old r 40 l (omega arith) (omega arith))
-          (path-heap r x ls w w′ (field w r 39) (field w r 40) (heap-less 22 n r w w′ (omega arith) h) (c .3)),
+      rw (h .old r fields.pathBefore l (omega arith) (omega arith), h .old r fields.pathLine l (omega arith) (omega arith))
+          (path-heap r x ls w w′ (field w r fields.pathBefore) (field w r fields.pathLine) (heap-less fields.constantLevel n r w w′ (omega arith) h) (c .3)),
     )
 
 -- more variables
@@ -83,7 +84,7 @@ unfolding PathAt
 path-wider n x y [] w zero k b c = tt
 path-wider n x y [] w (suc r) k b c = c
 path-wider n x y (l ∷ ls) w zero k b c = c
-path-wider n x y (l ∷ ls) w (suc r) k b c = (c .0, c .1, line-wider x y w r k b (c .2), path-wider r x y ls w (field w r 39) (field w r 40) b (c .3))
+path-wider n x y (l ∷ ls) w (suc r) k b c = (c .0, c .1, line-wider x y w r k b (c .2), path-wider r x y ls w (field w r fields.pathBefore) (field w r fields.pathLine) b (c .3))
 
 -- an act later
 pub path-up : (n x : ℕ) (ls : List (Line Leaf)) (w : List ℕ) (p k : ℕ) → PathAt n x ls w p k → PathAt (suc n) x ls w p k
@@ -106,7 +107,7 @@ path-read (suc f) n x (y ∷ ls) w zero k h c = absurd c
 path-read (suc f) n x (y ∷ ls) w (suc r) k h c =
     let e : suc r - 1 ≡ r = omega arith in
     let l = c .0 in
-    rw (pathFrom, ne-eqb (suc r) 0 (λ q. omega arith), e) (ap₂ _∷_ (c .1) (path-read f r x ls w (field w r 39) (field w r 40) (omega arith) (c .3)))
+    rw (pathFrom, ne-eqb (suc r) 0 (λ q. omega arith), e) (ap₂ _∷_ (c .1) (path-read f r x ls w (field w r fields.pathBefore) (field w r fields.pathLine) (omega arith) (c .3)))
 
 module _ (T : Table) where
   -- A node of a goal, and of a clause.
@@ -124,23 +125,23 @@ module _ (T : Table) where
   -- A program: assumptions, then the sheet's clauses.
   pub data ProgramAt (n : ℕ) (w : List ℕ) : ℕ → Program Leaf → Type 0 where
     program-sheet : ProgramAt n w zero (sheetFrom (T .clauses) 0)
-    program-more : {c : Clause} {e : Environment Leaf} {P : Program Leaf} (r : ℕ) → r < n → ClauseOf (field w r 36) → FrameAt n w (field w r 37)
-        → clauseAtNode (T .numbers) (field w r 36) ≡ c → environmentAt w (field w r 37) ≡ e → ProgramAt n w (field w r 38) P → ProgramAt n w (suc r) (hypothesis c e ∷ P)
+    program-more : {c : Clause} {e : Environment Leaf} {P : Program Leaf} (r : ℕ) → r < n → ClauseOf (field w r fields.assumptionNode) → FrameAt n w (field w r fields.assumptionFrame)
+        → clauseAtNode (T .numbers) (field w r fields.assumptionNode) ≡ c → environmentAt w (field w r fields.assumptionFrame) ≡ e → ProgramAt n w (field w r fields.assumptionNext) P → ProgramAt n w (suc r) (hypothesis c e ∷ P)
 
   -- It stays,
-  pub program-heap : (n : ℕ) (w w′ : List ℕ) {h : ℕ} {P : Program Leaf} → Heap 22 n w w′ → ProgramAt n w h P → ProgramAt n w′ h P
+  pub program-heap : (n : ℕ) (w w′ : List ℕ) {h : ℕ} {P : Program Leaf} → Heap fields.constantLevel n w w′ → ProgramAt n w h P → ProgramAt n w′ h P
   program-heap n w w′ e program-sheet = program-sheet
   program-heap n w w′ e (program-more {P = P} r l c f i j p) =
-      let e₁ = e .old r 36 l (omega arith) (omega arith) in
-      let e₂ = e .old r 37 l (omega arith) (omega arith) in
-      let e₃ = e .old r 38 l (omega arith) (omega arith) in
-      program-more r l (rw e₁ c) (rw e₂ (frame-heap n w w′ (field w r 37) e f)) (ap (clauseAtNode (T .numbers)) e₁ ∙ i)
-      (ap (environmentAt w′) e₂ ∙ environment-heap n w w′ (field w r 37) e f ∙ j) (subst (λ (x : ℕ). ProgramAt n w′ x P) (sym e₃) (program-heap n w w′ e p))
+      let e₁ = e .old r fields.assumptionNode l (omega arith) (omega arith) in
+      let e₂ = e .old r fields.assumptionFrame l (omega arith) (omega arith) in
+      let e₃ = e .old r fields.assumptionNext l (omega arith) (omega arith) in
+      program-more r l (rw e₁ c) (rw e₂ (frame-heap n w w′ (field w r fields.assumptionFrame) e f)) (ap (clauseAtNode (T .numbers)) e₁ ∙ i)
+      (ap (environmentAt w′) e₂ ∙ environment-heap n w w′ (field w r fields.assumptionFrame) e f ∙ j) (subst (λ (x : ℕ). ProgramAt n w′ x P) (sym e₃) (program-heap n w w′ e p))
 
   -- an act later too.
   pub program-up : (n : ℕ) (w : List ℕ) {h : ℕ} {P : Program Leaf} → ProgramAt n w h P → ProgramAt (suc n) w h P
   program-up n w program-sheet = program-sheet
-  program-up n w (program-more r l c f i j p) = program-more r (omega arith) c (frame-up n w (field w r 37) f) i j (program-up n w p)
+  program-up n w (program-more r l c f i j p) = program-more r (omega arith) c (frame-up n w (field w r fields.assumptionFrame) f) i j (program-up n w p)
 
   -- An open goal in four numbers.
   pub record SequentAt (n : ℕ) (w : List ℕ) (a f h i : ℕ) (g : Sequent Leaf) : Type 0 where
@@ -153,7 +154,7 @@ module _ (T : Table) where
     pub low : i ≤ n
 
   -- It stays,
-  pub sequent-heap : (n : ℕ) (w w′ : List ℕ) (a f h i : ℕ) (g : Sequent Leaf) → Heap 22 n w w′ → SequentAt n w a f h i g → SequentAt n w′ a f h i g
+  pub sequent-heap : (n : ℕ) (w w′ : List ℕ) (a f h i : ℕ) (g : Sequent Leaf) → Heap fields.constantLevel n w w′ → SequentAt n w a f h i g → SequentAt n w′ a f h i g
   sequent-heap n w w′ a f h i g e c = record {
     node = c .node;
     goal = c .goal;
@@ -181,18 +182,18 @@ module _ (T : Table) where
   GoalsAt n [] w zero = Unit {0}
   GoalsAt n [] w (suc r) = ⊥
   GoalsAt n (g ∷ gs) w zero = ⊥
-  GoalsAt n (g ∷ gs) w (suc r) = (r < n) × SequentAt n w (field w r 31) (field w r 32) (field w r 33) (field w r 34) g × GoalsAt n gs w (field w r 35)
+  GoalsAt n (g ∷ gs) w (suc r) = (r < n) × SequentAt n w (field w r fields.goalNode) (field w r fields.goalFrame) (field w r fields.goalProgram) (field w r fields.goalLevel) g × GoalsAt n gs w (field w r fields.goalNext)
 
   -- They stay,
-  pub goals-heap : (n : ℕ) (gs : List (Sequent Leaf)) (w w′ : List ℕ) (p : ℕ) → Heap 22 n w w′ → GoalsAt n gs w p → GoalsAt n gs w′ p
+  pub goals-heap : (n : ℕ) (gs : List (Sequent Leaf)) (w w′ : List ℕ) (p : ℕ) → Heap fields.constantLevel n w w′ → GoalsAt n gs w p → GoalsAt n gs w′ p
   unfolding GoalsAt
   goals-heap n [] w w′ zero e c = tt
   goals-heap n [] w w′ (suc r) e c = c
   goals-heap n (g ∷ gs) w w′ zero e c = c
   goals-heap n (g ∷ gs) w w′ (suc r) e c =
       let l = c .0 in
-      rw (e .old r 31 l (omega arith) (omega arith), e .old r 32 l (omega arith) (omega arith), e .old r 33 l (omega arith) (omega arith), e .old r 34 l (omega arith) (omega arith), e .old r 35 l (omega arith) (omega arith))
-      (l, sequent-heap n w w′ (field w r 31) (field w r 32) (field w r 33) (field w r 34) g e (c .1), goals-heap n gs w w′ (field w r 35) e (c .2))
+      rw (e .old r fields.goalNode l (omega arith) (omega arith), e .old r fields.goalFrame l (omega arith) (omega arith), e .old r fields.goalProgram l (omega arith) (omega arith), e .old r fields.goalLevel l (omega arith) (omega arith), e .old r fields.goalNext l (omega arith) (omega arith))
+      (l, sequent-heap n w w′ (field w r fields.goalNode) (field w r fields.goalFrame) (field w r fields.goalProgram) (field w r fields.goalLevel) g e (c .1), goals-heap n gs w w′ (field w r fields.goalNext) e (c .2))
 
   -- an act later too.
   pub goals-up : (n : ℕ) (gs : List (Sequent Leaf)) (w : List ℕ) (p : ℕ) → GoalsAt n gs w p → GoalsAt (suc n) gs w p
@@ -201,7 +202,7 @@ module _ (T : Table) where
   goals-up n [] w (suc r) c = c
   goals-up n (g ∷ gs) w zero c = c
   goals-up n (g ∷ gs) w (suc r) c =
-      (let l = c .0 in omega arith, sequent-up n w (field w r 31) (field w r 32) (field w r 33) (field w r 34) g (c .1), goals-up n gs w (field w r 35) (c .2))
+      (let l = c .0 in omega arith, sequent-up n w (field w r fields.goalNode) (field w r fields.goalFrame) (field w r fields.goalProgram) (field w r fields.goalLevel) g (c .1), goals-up n gs w (field w r fields.goalNext) (c .2))
 
   -- A branch: the goals that wait and the path.
   pub record BranchAt (n x : ℕ) (w : List ℕ) (goals path line : ℕ) (b : Branch) : Type 0 where
@@ -209,7 +210,7 @@ module _ (T : Table) where
     pub taken : PathAt n x (b .path) w path line
 
   -- It stays,
-  pub branch-heap : (n x : ℕ) (w w′ : List ℕ) (q p l : ℕ) (b : Branch) → Heap 22 n w w′ → BranchAt n x w q p l b → BranchAt n x w′ q p l b
+  pub branch-heap : (n x : ℕ) (w w′ : List ℕ) (q p l : ℕ) (b : Branch) → Heap fields.constantLevel n w w′ → BranchAt n x w q p l b → BranchAt n x w′ q p l b
   branch-heap n x w w′ q p l b e c = record { waiting = goals-heap n (b .goals) w w′ q e (c .waiting); taken = path-heap n x (b .path) w w′ p l e (c .taken) }
 
   -- an act later too.

@@ -15,12 +15,14 @@ use Rattle.unification.specs.Matching.{Pair, pairs, check, fail, pushTerms, onN
 use Rattle.unification.specs.Promises.{Below}
 use Rattle.search.specs.Configurations.{Branch, Configuration, match}
 use Rattle.search.specs.Steps.{settle}
+use Rattle.sheet_format.specs.Limits.{maxBudget, maxNodes, numbersPerUnit}
 use Rattle.node_table.specs.Layout.{childCount}
 use Rattle.node_table.specs.Decoding.{argumentsAt}
 use Rattle.machine.specs.declared.Registers.{Registers}
-use Rattle.machine.specs.Records.{field, cellOf, levelOf, putCell, putLevel, made, putNodes}
+use Rattle.machine.specs.Fields as fields
+use Rattle.machine.specs.Records.{field, cellOf, levelOf, putCell, putLevel, made, putNodes, checkMode}
 use Rattle.machine.specs.Changes.{onTrail, onNodes}
-use Rattle.machine.specs.Words.{up, nameOf, environmentAt}
+use Rattle.machine.specs.Words.{up, nameOf, environmentAt, closureTag, constantTag, variableTag}
 use Rattle.machine.specs.Trail.{lowerTo, bindTo, oldLevel, effect}
 use Rattle.machine.specs.Choices.{failed}
 use Rattle.machine.specs.Matching.{nodesFrom, bindValue, passNode, visitVariable, visitConstant, visitClosure, visitWord}
@@ -54,15 +56,15 @@ free-none : (w : List ℕ) → FreeAt 0 w
 free-none w e = absurd (false≢true (sym e))
 
 -- The record of nodes.
-nodes-are : (w : List ℕ) (u a f e : ℕ) → putNodes w u a f e ≡ puts (a ∷ f ∷ e ∷ []) w u 57
+nodes-are : (w : List ℕ) (u a f e : ℕ) → putNodes w u a f e ≡ puts (a ∷ f ∷ e ∷ []) w u fields.waitingNode
 unfolding putNodes puts
 nodes-are w u a f e = refl
 
 module _ (T : Table) where
   -- After a node, in the memory w, where a record of nodes may have been made: s₁ is the store with the variable z lowered to k.
-  module _ (w : List ℕ) (r : Registers) (s s₁ : Store) (b : Branch) (ds : List Configuration) (room : 64 * suc (r .acts) ≤ length w) (small : r .acts < 50000)
+  module _ (w : List ℕ) (r : Registers) (s s₁ : Store) (b : Branch) (ds : List Configuration) (room : numbersPerUnit * suc (r .acts) ≤ length w) (small : r .acts < maxBudget)
       (branch : BranchAt T (r .acts) (s₁ .next) w (r .goals) (r .path) (r .line) b) (shared : SharedAt T (r .acts) w (r .next) (r .trail) (r .choice) s ds)
-      (mode : r .mode ≡ 3) (z k y e : ℕ) (t : Term Leaf) (ns : List (Term Leaf)) (ps : List Pair) (variable : r .variable ≡ 4 * y + 1) (value : WordAt T (r .acts) (s₁ .next) w (r .value) t) (waiting : PairsAt T (r .acts) (s₁ .next) ps w (r .pairs))
+      (mode : r .mode ≡ checkMode) (z k y e : ℕ) (t : Term Leaf) (ns : List (Term Leaf)) (ps : List Pair) (variable : r .variable ≡ 4 * y + 1) (value : WordAt T (r .acts) (s₁ .next) w (r .value) t) (waiting : PairsAt T (r .acts) (s₁ .next) ps w (r .pairs))
       (bound : y < s .next) (unbound : cellOf w y ≡ 0) (lowered : LowerAt z w) (store : StoreAt T (r .acts) (lowerTo w z k) s₁) (next : s₁ .next ≡ s .next) (bindings : s₁ .bindings ≡ s .bindings) where
     -- The act's number.
     abbrev u : ℕ
@@ -155,9 +157,9 @@ module _ (T : Table) where
         go (n ∷ ns) h = rw (ne-eqb e 0 (λ x. let q = h .2 in omega arith)) (more-result n ns h)
 
   -- The node that is due, looked through: its word x and its term p.
-  module _ (w : List ℕ) (r : Registers) (s : Store) (b : Branch) (ds : List Configuration) (room : 64 * suc (r .acts) ≤ length w) (small : r .acts < 50000)
+  module _ (w : List ℕ) (r : Registers) (s : Store) (b : Branch) (ds : List Configuration) (room : numbersPerUnit * suc (r .acts) ≤ length w) (small : r .acts < maxBudget)
       (branch : BranchAt T (r .acts) (s .next) w (r .goals) (r .path) (r .line) b) (shared : SharedAt T (r .acts) w (r .next) (r .trail) (r .choice) s ds)
-      (mode : r .mode ≡ 3) (y e : ℕ) (t : Term Leaf) (ns : List (Term Leaf)) (ps : List Pair) (variable : r .variable ≡ 4 * y + 1) (value : WordAt T (r .acts) (s .next) w (r .value) t)
+      (mode : r .mode ≡ checkMode) (y e : ℕ) (t : Term Leaf) (ns : List (Term Leaf)) (ps : List Pair) (variable : r .variable ≡ 4 * y + 1) (value : WordAt T (r .acts) (s .next) w (r .value) t)
       (waiting : PairsAt T (r .acts) (s .next) ps w (r .pairs)) (bound : y < s .next) (free : cell (s .bindings) y ≡ none) where
     -- The variable that is to be bound has no word yet.
     unbound : cellOf w y ≡ 0
@@ -187,23 +189,23 @@ module _ (T : Table) where
     unfolding argumentsAt
     closure m f a hf h w′ z =
         let u = r .acts in
-        let g : Grow u (s .next) w w′ = rw (z, nodes-are w u m f e) (grow-puts (m ∷ f ∷ e ∷ []) w u (s .next) u 57 (omega arith) (omega arith) (omega arith)) in
+        let g : Grow u (s .next) w w′ = rw (z, nodes-are w u m f e) (grow-puts (m ∷ f ∷ e ∷ []) w u (s .next) u fields.waitingNode (omega arith) (omega arith) (omega arith)) in
         let h₀ = heap-22 u w w′ (g .heap) in
-        let at : (i : ℕ) → i < 3 → field w′ u (57 + i) ≡ getD (m ∷ f ∷ e ∷ []) i 0 = λ i k. rw (z, nodes-are w u m f e) (puts-at (m ∷ f ∷ e ∷ []) w u 57 i (omega arith) (omega arith) k) in
-        let e₀ : field w′ u 57 ≡ m = at 0 (omega arith) in
-        let e₁ : field w′ u 58 ≡ f = at 1 (omega arith) in
-        let e₂ : field w′ u 59 ≡ e = at 2 (omega arith) in
+        let at : (i : ℕ) → i < 3 → field w′ u (fields.waitingNode + i) ≡ getD (m ∷ f ∷ e ∷ []) i 0 = λ i k. rw (z, nodes-are w u m f e) (puts-at (m ∷ f ∷ e ∷ []) w u fields.waitingNode i (omega arith) (omega arith) k) in
+        let e₀ : field w′ u fields.waitingNode ≡ m = at 0 (omega arith) in
+        let e₁ : field w′ u fields.waitingFrame ≡ f = at 1 (omega arith) in
+        let e₂ : field w′ u fields.waitingAfter ≡ e = at 2 (omega arith) in
         rw (up-small u (omega arith))
         (passes w′ g _ (nodesFrom (T .numbers) w′ (suc u) 0)
         (rw (← environment-heap u w w′ f h₀ (hf .frame), ← e₀, ← e₁)
-        (push-nodes T (childCount (T .numbers) (field w′ u 57)) (suc u) (s .next) w′ ns u 0 (omega arith) (omega arith) (rw e₀ a) (rw e₁ (framed-up u (s .next) (s .next) w′ f (omega arith) (framed-heap u (s .next) w w′ f h₀ hf))) (omega arith)
+        (push-nodes T (childCount (T .numbers) (field w′ u fields.waitingNode)) (suc u) (s .next) w′ ns u 0 (omega arith) (omega arith) (rw e₀ a) (rw e₁ (framed-up u (s .next) (s .next) w′ f (omega arith) (framed-heap u (s .next) w w′ f h₀ hf))) (omega arith)
         (rw e₂ (nodes-up T u (s .next) (s .next) ns w′ e (omega arith) (nodes-heap T u (s .next) ns w w′ e h₀ h))))))
 
     -- By the node's word: level 1's `visit`.
     pub visit-result : (x : ℕ) (p : Term Leaf) → WordAt T (r .acts) (s .next) w x p → Leaves p (Below (s .next)) → NodesAt T (r .acts) (s .next) ns w e
         → ResultAt T (suc (r .acts)) (visitWord (T .numbers) w r e x) (settle (visit s y t p ns ps) b ++ ds)
     unfolding visitWord visitVariable visitConstant visitClosure visit settle Leaves Below lower
-    visit-result x p (word-variable {y = z} ex) l h = rw (tag-of x z 1 (omega arith) ex) (go (eqb z y) refl)
+    visit-result x p (word-variable {y = z} ex) l h = rw (tag-of x z variableTag (omega arith) ex) (go (eqb z y) refl)
       where
         k : ℕ
         k = min (levelOf w z) (s .level y)
@@ -223,11 +225,11 @@ module _ (T : Table) where
             (pass-result w r s (lower s z (s .level y)) b ds room small branch shared mode x k y e t ns ps variable value waiting bound unbound
             (λ i. rw (name-of x z 1 (omega arith) ex) (variable-there z l)) st refl refl (nodes-up T (r .acts) (s .next) (s .next) ns w e (omega arith) h))
     visit-result x p (word-constant {c = c} {k = j} ex g v) l h =
-        rw (tag-of x c 2 (omega arith) ex, name-of x c 2 (omega arith) ex, v, name-of (r .variable) y 1 (omega arith) variable, shared .store .levels y bound) (go (leb j (s .level y)))
+        rw (tag-of x c constantTag (omega arith) ex, name-of x c 2 (omega arith) ex, v, name-of (r .variable) y 1 (omega arith) variable, shared .store .levels y bound) (go (leb j (s .level y)))
       where
         go : (q : Bool) → ResultAt T (suc (r .acts)) (cond q (passNode w r 0 0 e) (failed w r)) (settle (cond q (onNode s y t ns ps) fail) b ++ ds)
         go true = passes w (grow-refl (r .acts) (s .next) w) ns e (nodes-up T (r .acts) (s .next) (s .next) ns w e (omega arith) h)
         go false = now-failed T w r s b ds room small branch shared
     visit-result x p (word-closure {g = k} {ts = ts} m f ex a v i j) l h =
-        rw (tag-of x (1024 * f + m) 3 (omega arith) ex, ex, node-is m f (node-small T m (a .0)), frame-is m f (node-small T m (a .0)), ← j)
+        rw (tag-of x (maxNodes * f + m) closureTag (omega arith) ex, ex, node-is m f (node-small T m (a .0)), frame-is m f (node-small T m (a .0)), ← j)
         (closure m f (applied T m a) v h (putNodes w (r .acts) m f e) refl)

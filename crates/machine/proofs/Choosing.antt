@@ -8,6 +8,7 @@ use lib.Dec.{eqb}
 use lib.ListN.{length, getD}
 use Rattle.search.specs.Configurations.{Configuration}
 use Rattle.machine.specs.declared.Registers.{Registers}
+use Rattle.machine.specs.Fields as fields
 use Rattle.machine.specs.Records.{field, putChoice, putChosen, putPosition}
 use Rattle.machine.specs.Changes.{onMode, onNext, onTrail, onChoice, onGoals, onPath, onGoal, onMember}
 use Rattle.machine.specs.Choices.{saveChoice, resumeGoal, resumeMember, resumeBranch, resume}
@@ -23,7 +24,7 @@ unfoldable pub saved : Registers → List ℕ
 saved r = r .next ∷ r .trail ∷ r .choice ∷ r .goals ∷ r .path ∷ r .line ∷ r .node ∷ r .frame ∷ r .program ∷ r .level ∷ r .hypothesis ∷ r .clause ∷ r .member ∷ r .place ∷ []
 
 -- They are written in a row.
-pub save-is : (w : List ℕ) (u : ℕ) (r : Registers) → saveChoice w u r ≡ puts (saved r) w u 43
+pub save-is : (w : List ℕ) (u : ℕ) (r : Registers) → saveChoice w u r ≡ puts (saved r) w u fields.variables
 unfolding saveChoice putChoice putChosen putPosition puts saved
 save-is w u r = refl
 
@@ -39,26 +40,26 @@ resumed r q = onMode (onMember (onGoal (onPath (onGoals (onChoice (onTrail (onNe
 
 -- A record that holds them.
 abbrev pub SavedAt : List ℕ → ℕ → Registers → Type 0
-SavedAt w u q = (i : ℕ) → i < 14 → field w u (43 + i) ≡ getD (saved q) i 0
+SavedAt w u q = (i : ℕ) → i < 14 → field w u (fields.variables + i) ≡ getD (saved q) i 0
 
 -- Resuming gives back what was saved.
 resume-saved : (w : List ℕ) (u : ℕ) (r q : Registers) → SavedAt w u q → resume w r u ≡ resumed r q
 unfolding resume resumeMember resumeGoal resumeBranch resumed saved
 resume-saved w u r q e =
-    let e₀ : field w u 43 ≡ q .next = e 0 (omega arith) in
-    let e₁ : field w u 44 ≡ q .trail = e 1 (omega arith) in
-    let e₂ : field w u 45 ≡ q .choice = e 2 (omega arith) in
-    let e₃ : field w u 46 ≡ q .goals = e 3 (omega arith) in
-    let e₄ : field w u 47 ≡ q .path = e 4 (omega arith) in
-    let e₅ : field w u 48 ≡ q .line = e 5 (omega arith) in
-    let e₆ : field w u 49 ≡ q .node = e 6 (omega arith) in
-    let e₇ : field w u 50 ≡ q .frame = e 7 (omega arith) in
-    let e₈ : field w u 51 ≡ q .program = e 8 (omega arith) in
-    let e₉ : field w u 52 ≡ q .level = e 9 (omega arith) in
-    let f₀ : field w u 53 ≡ q .hypothesis = e 10 (omega arith) in
-    let f₁ : field w u 54 ≡ q .clause = e 11 (omega arith) in
-    let f₂ : field w u 55 ≡ q .member = e 12 (omega arith) in
-    let f₃ : field w u 56 ≡ q .place = e 13 (omega arith) in
+    let e₀ : field w u fields.variables ≡ q .next = e 0 (omega arith) in
+    let e₁ : field w u fields.choiceTrail ≡ q .trail = e 1 (omega arith) in
+    let e₂ : field w u fields.choiceBefore ≡ q .choice = e 2 (omega arith) in
+    let e₃ : field w u fields.choiceGoals ≡ q .goals = e 3 (omega arith) in
+    let e₄ : field w u fields.choicePath ≡ q .path = e 4 (omega arith) in
+    let e₅ : field w u fields.choiceLine ≡ q .line = e 5 (omega arith) in
+    let e₆ : field w u fields.choiceNode ≡ q .node = e 6 (omega arith) in
+    let e₇ : field w u fields.choiceFrame ≡ q .frame = e 7 (omega arith) in
+    let e₈ : field w u fields.choiceProgram ≡ q .program = e 8 (omega arith) in
+    let e₉ : field w u fields.choiceLevel ≡ q .level = e 9 (omega arith) in
+    let f₀ : field w u fields.choiceHypothesis ≡ q .hypothesis = e 10 (omega arith) in
+    let f₁ : field w u fields.choiceClause ≡ q .clause = e 11 (omega arith) in
+    let f₂ : field w u fields.choiceMember ≡ q .member = e 12 (omega arith) in
+    let f₃ : field w u fields.choicePlace ≡ q .place = e 13 (omega arith) in
     rw (e₀, e₁, e₂, e₃, e₄, e₅, e₆, e₇, e₈, e₉, f₀, f₁, f₂, f₃)
 
 -- The alternative is open: its trail is empty.
@@ -67,8 +68,8 @@ pub choice-opened : (T : Table) (n : ℕ) (w : List ℕ) (u k : ℕ) (q : Regist
     → AlternativesAt T n k w (suc u) (q .trail) (c ∷ ds)
 unfolding Chain undoAll saved
 choice-opened T n w u k q c ds l e f x b m s a =
-    let e₁ : field w u 44 ≡ q .trail = e 1 (omega arith) in
-    let e₂ : field w u 45 ≡ q .choice = e 2 (omega arith) in
+    let e₁ : field w u fields.choiceTrail ≡ q .trail = e 1 (omega arith) in
+    let e₂ : field w u fields.choiceBefore ≡ q .choice = e 2 (omega arith) in
     alternatives-more {k = k} {w = w} {h = q .trail} {c = c} {ds = ds} u [] (record {
       low = l;
       resumes = λ r. subst (λ (z : Registers). ConfigurationAt T n w z c) (sym (resume-saved w u r q e)) (f r);

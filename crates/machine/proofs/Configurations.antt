@@ -18,7 +18,8 @@ use Rattle.search.specs.Search.{startStore}
 use Rattle.node_table.specs.Layout.{labelOf, clauseNode}
 use Rattle.node_table.specs.Decoding.{argumentsAt, clauseAtNode}
 use Rattle.machine.specs.declared.Registers.{Registers}
-use Rattle.machine.specs.Records.{field}
+use Rattle.machine.specs.Fields as fields
+use Rattle.machine.specs.Records.{field, provedMode, takeMode, compareMode, checkMode, tryMode}
 use Rattle.machine.specs.Words.{environmentAt}
 use Rattle.machine.specs.Trying.{clauseOf, clauseFrame}
 use Rattle.machine.proofs.Heap.{Heap}
@@ -50,7 +51,7 @@ module _ (T : Table) where
   -- The members of the clauses after the assumption h, or after the i-th of the sheet.
   unfoldable pub RestAt : ℕ → List ℕ → ℕ → ℕ → List (Entry Leaf) → Type 0
   RestAt n w zero i rest = (i < T .clauses) × (rest ≡ entries (sheetFrom T (T .clauses - suc i) (suc i)))
-  RestAt n w (suc r) i rest = (r < n) × (P : Program Leaf) × ProgramAt T n w (field w r 38) P × (rest ≡ entries P)
+  RestAt n w (suc r) i rest = (r < n) × (P : Program Leaf) × ProgramAt T n w (field w r fields.assumptionNext) P × (rest ≡ entries P)
 
   -- The members from the one that the registers name.
   pub record PositionAt (n : ℕ) (w : List ℕ) (r : Registers) (es : List (Entry Leaf)) : Type 0 where
@@ -62,7 +63,7 @@ module _ (T : Table) where
     pub are : es ≡ map (entry (environmentAt w (clauseFrame w r))) (drop (r .member) (members (clauseAtNode (T .numbers) (clauseOf (T .numbers) w r)))) ++ rest
 
   pub record TryAt (n x : ℕ) (w : List ℕ) (r : Registers) (a : Atom) (es : List (Entry Leaf)) (k : ℕ) (b : Branch) : Type 0 where
-    pub mode : r .mode ≡ 1
+    pub mode : r .mode ≡ tryMode
     pub atom : AtomAt n x w (r .node) (r .frame) (r .program) (r .level) a
     pub position : PositionAt n w r es
     pub place : r .place ≡ k
@@ -75,7 +76,7 @@ module _ (T : Table) where
   DueAt n v w a t x ns = ((a ≡ 0) × (x ≡ t) × (ns ≡ [])) ⊎ NodesAt T n v (x ∷ ns) w a
 
   pub record CheckAt (n v : ℕ) (w : List ℕ) (r : Registers) (y : ℕ) (t x : Term Leaf) (ns : List (Term Leaf)) (ps : List Pair) (b : Branch) : Type 0 where
-    pub mode : r .mode ≡ 3
+    pub mode : r .mode ≡ checkMode
     pub variable : r .variable ≡ 4 * y + 1
     pub value : WordAt T n v w (r .value) t
     pub nodes : DueAt n v w (r .nodes) t x ns
@@ -85,19 +86,19 @@ module _ (T : Table) where
   -- Pairs left to compare: one at least.
   unfoldable pub CompareAt : ℕ → ℕ → List ℕ → Registers → List Pair → Branch → Type 0
   CompareAt n x w r [] b = ⊥
-  CompareAt n x w r (p ∷ ps) b = (r .mode ≡ 2) × PairsAt T n x (p ∷ ps) w (r .pairs) × BranchAt T n x w (r .goals) (r .path) (r .line) b
+  CompareAt n x w r (p ∷ ps) b = (r .mode ≡ compareMode) × PairsAt T n x (p ∷ ps) w (r .pairs) × BranchAt T n x w (r .goals) (r .path) (r .line) b
 
   -- A configuration, by the act that is due.
   unfoldable pub ConfigurationAt : ℕ → List ℕ → Registers → Configuration → Type 0
-  ConfigurationAt n w r (take s g b) = (r .mode ≡ 0) × SequentAt T n w (r .node) (r .frame) (r .program) (r .level) g × BranchAt T n (s .next) w (r .goals) (r .path) (r .line) b
+  ConfigurationAt n w r (take s g b) = (r .mode ≡ takeMode) × SequentAt T n w (r .node) (r .frame) (r .program) (r .level) g × BranchAt T n (s .next) w (r .goals) (r .path) (r .line) b
   ConfigurationAt n w r (try s a m ms k b) = TryAt n (s .next) w r a (m ∷ ms) k b
   ConfigurationAt n w r (match (pairs s ps) b) = CompareAt n (s .next) w r ps b
   ConfigurationAt n w r (match (check s y t x ns ps) b) = CheckAt n (s .next) w r y t x ns ps b
   ConfigurationAt n w r (match fail b) = ⊥
-  ConfigurationAt n w r (done s ls) = (r .mode ≡ 4) × PathAt n (s .next) ls w (r .path) (r .line)
+  ConfigurationAt n w r (done s ls) = (r .mode ≡ provedMode) × PathAt n (s .next) ls w (r .path) (r .line)
 
   -- They stay.
-  pub atom-heap : (n x : ℕ) (w w′ : List ℕ) (m f h i : ℕ) (a : Atom) → Heap 22 n w w′ → AtomAt n x w m f h i a → AtomAt n x w′ m f h i a
+  pub atom-heap : (n x : ℕ) (w w′ : List ℕ) (m f h i : ℕ) (a : Atom) → Heap fields.constantLevel n w w′ → AtomAt n x w m f h i a → AtomAt n x w′ m f h i a
   atom-heap n x w w′ m f h i a e c = record {
     node = c .node;
     predicate = c .predicate;
@@ -121,11 +122,11 @@ module _ (T : Table) where
   }
 
   -- the clauses after a position
-  rest-heap : (n : ℕ) (w w′ : List ℕ) (h i : ℕ) (rest : List (Entry Leaf)) → Heap 22 n w w′ → RestAt n w h i rest → RestAt n w′ h i rest
+  rest-heap : (n : ℕ) (w w′ : List ℕ) (h i : ℕ) (rest : List (Entry Leaf)) → Heap fields.constantLevel n w w′ → RestAt n w h i rest → RestAt n w′ h i rest
   unfolding RestAt
   rest-heap n w w′ zero i rest e c = c
   rest-heap n w w′ (suc r) i rest e c =
-      (c .0, c .1, subst (λ (x : ℕ). ProgramAt T n w′ x (c .1)) (sym (e .old r 38 (c .0) (omega arith) (omega arith))) (program-heap T n w w′ e (c .2)), c .3)
+      (c .0, c .1, subst (λ (x : ℕ). ProgramAt T n w′ x (c .1)) (sym (e .old r fields.assumptionNext (c .0) (omega arith) (omega arith))) (program-heap T n w w′ e (c .2)), c .3)
 
   -- an act later
   rest-up : (n : ℕ) (w : List ℕ) (h i : ℕ) (rest : List (Entry Leaf)) → RestAt n w h i rest → RestAt (suc n) w h i rest
@@ -134,21 +135,21 @@ module _ (T : Table) where
   rest-up n w (suc r) i rest c = (let l = c .0 in omega arith, c .1, program-up T n w (c .2), c .3)
 
   -- the clause's node and frame
-  pub clause-heap : (n : ℕ) (w w′ : List ℕ) (r : Registers) (rest : List (Entry Leaf)) → Heap 22 n w w′ → RestAt n w (r .hypothesis) (r .clause) rest
+  pub clause-heap : (n : ℕ) (w w′ : List ℕ) (r : Registers) (rest : List (Entry Leaf)) → Heap fields.constantLevel n w w′ → RestAt n w (r .hypothesis) (r .clause) rest
       → (clauseOf (T .numbers) w′ r ≡ clauseOf (T .numbers) w r) × (clauseFrame w′ r ≡ clauseFrame w r)
   unfolding clauseOf clauseFrame RestAt
   clause-heap n w w′ r rest e c = go (r .hypothesis) c
     where
       go : (h : ℕ) → RestAt n w h (r .clause) rest
-          → (cond (eqb h 0) (clauseNode (T .numbers) (r .clause)) (field w′ (h - 1) 36) ≡ cond (eqb h 0) (clauseNode (T .numbers) (r .clause)) (field w (h - 1) 36))
-          × (cond (eqb h 0) 0 (field w′ (h - 1) 37) ≡ cond (eqb h 0) 0 (field w (h - 1) 37))
+          → (cond (eqb h 0) (clauseNode (T .numbers) (r .clause)) (field w′ (h - 1) fields.assumptionNode) ≡ cond (eqb h 0) (clauseNode (T .numbers) (r .clause)) (field w (h - 1) fields.assumptionNode))
+          × (cond (eqb h 0) 0 (field w′ (h - 1) fields.assumptionFrame) ≡ cond (eqb h 0) 0 (field w (h - 1) fields.assumptionFrame))
       go zero c = (refl, refl)
       go (suc q) c =
           let z : suc q - 1 ≡ q = omega arith in
-          rw (ne-eqb (suc q) 0 (λ x. omega arith), z) (e .old q 36 (c .0) (omega arith) (omega arith), e .old q 37 (c .0) (omega arith) (omega arith))
+          rw (ne-eqb (suc q) 0 (λ x. omega arith), z) (e .old q fields.assumptionNode (c .0) (omega arith) (omega arith), e .old q fields.assumptionFrame (c .0) (omega arith) (omega arith))
 
   -- a position
-  pub position-heap : (n : ℕ) (w w′ : List ℕ) (r : Registers) (es : List (Entry Leaf)) → Heap 22 n w w′ → PositionAt n w r es → PositionAt n w′ r es
+  pub position-heap : (n : ℕ) (w w′ : List ℕ) (r : Registers) (es : List (Entry Leaf)) → Heap fields.constantLevel n w w′ → PositionAt n w r es → PositionAt n w′ r es
   position-heap n w w′ r es e c =
       let z = clause-heap n w w′ r (c .rest) e (c .others) in
       let z₀ = z .0 in
@@ -186,7 +187,7 @@ module _ (T : Table) where
   }
 
   -- nodes of a range check
-  due-heap : (n v : ℕ) (w w′ : List ℕ) (a : ℕ) (t x : Term Leaf) (ns : List (Term Leaf)) → Heap 22 n w w′ → DueAt n v w a t x ns → DueAt n v w′ a t x ns
+  due-heap : (n v : ℕ) (w w′ : List ℕ) (a : ℕ) (t x : Term Leaf) (ns : List (Term Leaf)) → Heap fields.constantLevel n w w′ → DueAt n v w a t x ns → DueAt n v w′ a t x ns
   due-heap n v w w′ a t x ns e (inl c) = inl c
   due-heap n v w w′ a t x ns e (inr c) = inr (nodes-heap T n v (x ∷ ns) w w′ a e c)
 
@@ -196,7 +197,7 @@ module _ (T : Table) where
   due-up n v w a t x ns (inr c) = inr (nodes-up T n v v (x ∷ ns) w a (omega arith) c)
 
   -- The whole configuration stays,
-  pub configuration-heap : (n : ℕ) (w w′ : List ℕ) (r : Registers) (c : Configuration) → Heap 22 n w w′ → ConfigurationAt n w r c → ConfigurationAt n w′ r c
+  pub configuration-heap : (n : ℕ) (w w′ : List ℕ) (r : Registers) (c : Configuration) → Heap fields.constantLevel n w w′ → ConfigurationAt n w r c → ConfigurationAt n w′ r c
   unfolding ConfigurationAt CompareAt
   configuration-heap n w w′ r (take s g b) e h =
       (h .0, sequent-heap T n w w′ (r .node) (r .frame) (r .program) (r .level) g e (h .1), branch-heap T n (s .next) w w′ (r .goals) (r .path) (r .line) b e (h .2))

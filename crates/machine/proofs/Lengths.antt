@@ -5,11 +5,13 @@ use mathlib.Core.Path.{_≡_, refl, ap, _∙_}
 use mathlib.Core.List.{List, [], _∷_}
 use lib.Dec.{eqb, ltb, leb}
 use lib.ListN.{length}
-use Rattle.node_table.specs.Layout.{kindOf, labelOf}
+use Rattle.sheet_format.specs.Limits.{variableNames}
+use Rattle.node_table.specs.Layout.{kindOf, labelOf, impliesKind}
 use Rattle.machine.specs.declared.Registers.{Registers}
 use Rattle.machine.specs.declared.Found.{Found}
-use Rattle.machine.specs.Records.{field, put, levelOf, putCell, putLevel, Made, made, putEntry, putGoal, putAssumption, putPath, putUse, putPairs, putNodes}
-use Rattle.machine.specs.Words.{up, tagOf, nameOf, nodeOf, frameOf, slotOf, variableWord, constantWord}
+use Rattle.machine.specs.Fields as fields
+use Rattle.machine.specs.Records.{field, put, levelOf, putCell, putLevel, Made, made, putEntry, putGoal, putAssumption, putPath, putUse, putPairs, putNodes, provedMode, compareMode, tryMode, takeMode}
+use Rattle.machine.specs.Words.{up, tagOf, nameOf, nodeOf, frameOf, slotOf, variableWord, constantWord, constantTag, variableTag}
 use Rattle.machine.specs.Trail.{lowerTo, bindTo, oldLevel, effect, undoEntry, undo}
 use Rattle.machine.specs.Frames.{copyFrame, putVariable, putFresh, putVariables}
 use Rattle.machine.specs.Members.{headOf}
@@ -37,41 +39,41 @@ made-either false x y w p q = q
 -- A trail entry,
 length-entry : (w : List ℕ) (u z k y h : ℕ) → length (putEntry w u z k y h) ≡ length w
 unfolding putEntry puts
-length-entry w u z k y h = length-puts (z ∷ k ∷ y ∷ h ∷ []) w u 18
+length-entry w u z k y h = length-puts (z ∷ k ∷ y ∷ h ∷ []) w u fields.entryLowered
 
 -- a goal,
 length-goal : (w : List ℕ) (u a b c d e : ℕ) → length (putGoal w u a b c d e) ≡ length w
 unfolding putGoal puts
-length-goal w u a b c d e = length-puts (a ∷ b ∷ c ∷ d ∷ e ∷ []) w u 31
+length-goal w u a b c d e = length-puts (a ∷ b ∷ c ∷ d ∷ e ∷ []) w u fields.goalNode
 
 -- an assumption,
 length-assumption : (w : List ℕ) (u a b c : ℕ) → length (putAssumption w u a b c) ≡ length w
 unfolding putAssumption puts
-length-assumption w u a b c = length-puts (a ∷ b ∷ c ∷ []) w u 36
+length-assumption w u a b c = length-puts (a ∷ b ∷ c ∷ []) w u fields.assumptionNode
 
 -- a line,
 length-path : (w : List ℕ) (u a b : ℕ) → length (putPath w u a b) ≡ length w
 unfolding putPath puts
-length-path w u a b = length-puts (a ∷ b ∷ []) w u 39
+length-path w u a b = length-puts (a ∷ b ∷ []) w u fields.pathBefore
 
 -- a member's use,
 length-use : (w : List ℕ) (u a b c : ℕ) → length (putUse w u a b c) ≡ length w
 unfolding putUse puts
-length-use w u a b c = length-puts (a ∷ b ∷ c ∷ []) w u 41
+length-use w u a b c = length-puts (a ∷ b ∷ c ∷ []) w u fields.usePlace
 
 -- a choice point,
 length-choice : (w : List ℕ) (u : ℕ) (r : Registers) → length (saveChoice w u r) ≡ length w
-length-choice w u r = ap length (save-is w u r) ∙ length-puts (saved r) w u 43
+length-choice w u r = ap length (save-is w u r) ∙ length-puts (saved r) w u fields.variables
 
 -- pairs,
 length-pairs : (w : List ℕ) (u a b c d e : ℕ) → length (putPairs w u a b c d e) ≡ length w
 unfolding putPairs puts
-length-pairs w u a b c d e = length-puts (a ∷ b ∷ c ∷ d ∷ e ∷ []) w u 57
+length-pairs w u a b c d e = length-puts (a ∷ b ∷ c ∷ d ∷ e ∷ []) w u fields.goalSideNode
 
 -- nodes.
 length-nodes : (w : List ℕ) (u a b c : ℕ) → length (putNodes w u a b c) ≡ length w
 unfolding putNodes puts
-length-nodes w u a b c = length-puts (a ∷ b ∷ c ∷ []) w u 57
+length-nodes w u a b c = length-puts (a ∷ b ∷ c ∷ []) w u fields.goalSideNode
 
 -- The trail
 
@@ -93,23 +95,23 @@ length-effect w u z k y v h = length-entry (bindTo (lowerTo w z k) y v) u z (old
 -- undoing one entry,
 length-undoEntry : (w : List ℕ) (q : ℕ) → length (undoEntry w q) ≡ length w
 unfolding undoEntry
-length-undoEntry w q = length-lowerTo (bindTo w (field w q 20) 0) (field w q 18) (field w q 19) ∙ length-bindTo w (field w q 20) 0
+length-undoEntry w q = length-lowerTo (bindTo w (field w q fields.entryBound) 0) (field w q fields.entryLowered) (field w q fields.entryLevel) ∙ length-bindTo w (field w q fields.entryBound) 0
 
 -- undoing several,
 length-undo : (n : ℕ) (w : List ℕ) (h mark : ℕ) → length (undo n w h mark) ≡ length w
 unfolding undo
 length-undo zero w h mark = refl
-length-undo (suc n) w h mark = go (eqb h mark) (length-undo n (undoEntry w (h - 1)) (field w (h - 1) 21) mark ∙ length-undoEntry w (h - 1))
+length-undo (suc n) w h mark = go (eqb h mark) (length-undo n (undoEntry w (h - 1)) (field w (h - 1) fields.entryBefore) mark ∙ length-undoEntry w (h - 1))
   where
-    go : (b : Bool) → length (undo n (undoEntry w (h - 1)) (field w (h - 1) 21) mark) ≡ length w
-        → length {A = ℕ} (elim b [ true ↦ w | false ↦ undo n (undoEntry w (h - 1)) (field w (h - 1) 21) mark ]) ≡ length w
+    go : (b : Bool) → length (undo n (undoEntry w (h - 1)) (field w (h - 1) fields.entryBefore) mark) ≡ length w
+        → length {A = ℕ} (elim b [ true ↦ w | false ↦ undo n (undoEntry w (h - 1)) (field w (h - 1) fields.entryBefore) mark ]) ≡ length w
     go true i = refl
     go false i = i
 
 -- taking up an alternative.
 length-failed : (w : List ℕ) (r : Registers) → length (failed w r .memory) ≡ length w
 unfolding failed takeUp
-length-failed w r = made-either (eqb (r .choice) 0) _ (takeUp w r (r .choice - 1)) w refl (length-undo (r .trail) w (r .trail) (field w (r .choice - 1) 44))
+length-failed w r = made-either (eqb (r .choice) 0) _ (takeUp w r (r .choice - 1)) w refl (length-undo (r .trail) w (r .trail) (field w (r .choice - 1) fields.choiceTrail))
 
 -- Frames
 
@@ -117,7 +119,7 @@ length-failed w r = made-either (eqb (r .choice) 0) _ (takeUp w r (r .choice - 1
 length-copy : (n : ℕ) (w : List ℕ) (u f v : ℕ) → length (copyFrame n w u f v) ≡ length w
 unfolding copyFrame
 length-copy zero w u f v = refl
-length-copy (suc n) w u f v = length-copy n (put w u (23 + v) (slotOf w f v)) u f (suc v) ∙ length-put w u (23 + v) (slotOf w f v)
+length-copy (suc n) w u f v = length-copy n (put w u (fields.frame + v) (slotOf w f v)) u f (suc v) ∙ length-put w u (fields.frame + v) (slotOf w f v)
 
 -- making a variable,
 length-variable : (w : List ℕ) (x i : ℕ) → length (putVariable w x i) ≡ length w
@@ -129,7 +131,7 @@ length-fresh : (n : ℕ) (w : List ℕ) (u vs x i : ℕ) → length (putFresh n 
 unfolding putFresh
 length-fresh zero w u vs x i = refl
 length-fresh (suc n) w u vs x i =
-    length-fresh n (put (putVariable w x i) u (23 + vs % 8) (variableWord x)) u (vs / 8) (up x) i ∙ length-put (putVariable w x i) u (23 + vs % 8) (variableWord x) ∙ length-variable w x i
+    length-fresh n (put (putVariable w x i) u (fields.frame + vs % 8) (variableWord x)) u (vs / 8) (up x) i ∙ length-put (putVariable w x i) u (fields.frame + vs % 8) (variableWord x) ∙ length-variable w x i
 
 -- those of the goal.
 pub length-variables : (n : ℕ) (w : List ℕ) (x : ℕ) → length (putVariables n w x) ≡ length w
@@ -152,8 +154,8 @@ length-take t c w r =
     (made-either (eqb k 4) (takeAnd t w r) _ w (length-goal path u _ _ _ _ _ ∙ path-kept)
     (made-either (eqb k 5) (takeOr t w r) _ w (length-choice path u _ ∙ path-kept)
     (made-either (eqb k 6) (takeImplies t w r) _ w (length-assumption path u _ _ _ ∙ path-kept)
-    (made-either (eqb k 7) (takeExists t w r) _ w (length-put (putPath x u (r .path) (r .line)) u 43 (r .next) ∙ length-path x u (r .path) (r .line) ∙ length-fresh 1 copy u (labelOf t (r .node)) (r .next) (r .level) ∙ copied)
-    (made-either (eqb k 8) (takeForall t w r) (takeTrue w r) w (length-path y u (r .path) (r .line) ∙ length-put (put copy u 22 (up (r .level))) u (23 + labelOf t (r .node)) (constantWord u) ∙ length-put copy u 22 (up (r .level)) ∙ copied) path-kept)))))
+    (made-either (eqb k 7) (takeExists t w r) _ w (length-put (putPath x u (r .path) (r .line)) u fields.variables (r .next) ∙ length-path x u (r .path) (r .line) ∙ length-fresh 1 copy u (labelOf t (r .node)) (r .next) (r .level) ∙ copied)
+    (made-either (eqb k 8) (takeForall t w r) (takeTrue w r) w (length-path y u (r .path) (r .line) ∙ length-put (put copy u fields.constantLevel (up (r .level))) u (fields.frame + labelOf t (r .node)) (constantWord u) ∙ length-put copy u fields.constantLevel (up (r .level)) ∙ copied) path-kept)))))
   where
     k : ℕ
     k = kindOf t (r .node)
@@ -168,7 +170,7 @@ length-take t c w r =
     path-kept = length-path w u (r .path) (r .line)
 
     copy : List ℕ
-    copy = copyFrame 8 w u (r .frame) 0
+    copy = copyFrame variableNames w u (r .frame) 0
 
     copied : length copy ≡ length w
     copied = length-copy 8 w u (r .frame) 0
@@ -177,16 +179,16 @@ length-take t c w r =
     x = putFresh 1 copy u (labelOf t (r .node)) (r .next) (r .level)
 
     y : List ℕ
-    y = put (put copy u 22 (up (r .level))) u (23 + labelOf t (r .node)) (constantWord u)
+    y = put (put copy u fields.constantLevel (up (r .level))) u (fields.frame + labelOf t (r .node)) (constantWord u)
 
 -- comparing a pair,
 length-compareWords : (t w : List ℕ) (r : Registers) (e x y : ℕ) → length (compareWords t w r e x y .memory) ≡ length w
 unfolding compareWords compareLeaves compareClosures
 length-compareWords t w r e x y =
-    made-either (eqb (tagOf x) 1) _ _ w (made-either (eqb x y) _ _ w refl refl)
-    (made-either (eqb (tagOf y) 1) _ _ w refl
-    (made-either (eqb (tagOf x) 2) _ _ w (made-either (eqb x y) _ (failed w r) w refl (length-failed w r))
-    (made-either (eqb (tagOf y) 2) (failed w r) _ w (length-failed w r)
+    made-either (eqb (tagOf x) variableTag) _ _ w (made-either (eqb x y) _ _ w refl refl)
+    (made-either (eqb (tagOf y) variableTag) _ _ w refl
+    (made-either (eqb (tagOf x) constantTag) _ _ w (made-either (eqb x y) _ (failed w r) w refl (length-failed w r))
+    (made-either (eqb (tagOf y) constantTag) (failed w r) _ w (length-failed w r)
     (made-either (eqb (labelOf t (nodeOf x)) (labelOf t (nodeOf y))) _ (failed w r) w (length-pairs w (r .acts) (nodeOf x) (frameOf x) (nodeOf y) (frameOf y) e) (length-failed w r)))))
 
 -- after a node,
@@ -198,10 +200,10 @@ length-passNode w r z k e = made-either (eqb e 0) (bindValue w r z k) _ w (lengt
 length-visitWord : (t w : List ℕ) (r : Registers) (e x : ℕ) → length (visitWord t w r e x .memory) ≡ length w
 unfolding visitWord visitVariable visitConstant visitClosure
 length-visitWord t w r e x =
-    made-either (eqb (tagOf x) 1) (visitVariable w r e x) _ w
+    made-either (eqb (tagOf x) variableTag) (visitVariable w r e x) _ w
     (made-either (eqb x (r .variable)) (failed w r) _ w (length-failed w r) (length-passNode w r x (min (levelOf w (nameOf x)) (levelOf w (nameOf (r .variable)))) e))
-    (made-either (eqb (tagOf x) 2) (visitConstant w r e x) (visitClosure t w r e x) w
-    (made-either (leb (field w (nameOf x) 22) (levelOf w (nameOf (r .variable)))) _ (failed w r) w (length-passNode w r 0 0 e) (length-failed w r))
+    (made-either (eqb (tagOf x) constantTag) (visitConstant w r e x) (visitClosure t w r e x) w
+    (made-either (leb (field w (nameOf x) fields.constantLevel) (levelOf w (nameOf (r .variable)))) _ (failed w r) w (length-passNode w r 0 0 e) (length-failed w r))
     (length-passNode (putNodes w (r .acts) (nodeOf x) (frameOf x) e) r 0 0 _ ∙ length-nodes w (r .acts) (nodeOf x) (frameOf x) e))
 
 -- trying a member,
@@ -210,7 +212,7 @@ unfolding tryFound tryMember putTry putBody leaveOthers putPrefix
 length-tryFound t c w r m =
     made-either (eqb (labelOf t (r .node)) (labelOf t (headOf t (m .leaf)))) (tryMember t c w r m) (tryFrom c w (nextMember t w r)) w
     (length-pairs (putTry t c (putPrefix w r m) r m (nextMember t w r)) u _ _ _ _ _
-    ∙ either (eqb (kindOf t (m .leaf)) 6) _ others others (length-goal others u _ _ _ _ _) refl ∙ either (membersLeft c (nextMember t w r)) _ used used (length-choice used u (nextMember t w r)) refl
+    ∙ either (eqb (kindOf t (m .leaf)) impliesKind) _ others others (length-goal others u _ _ _ _ _) refl ∙ either (membersLeft c (nextMember t w r)) _ used used (length-choice used u (nextMember t w r)) refl
     ∙ length-use (putPath (putPrefix w r m) u (r .path) (r .line)) u (r .place) (m .count) (r .next) ∙ length-path (putPrefix w r m) u (r .path) (r .line)
     ∙ length-fresh (m .count) _ u (m .names) (r .next) (r .level) ∙ length-copy 8 w u _ 0)
     (length-tryFrom c w (nextMember t w r))
@@ -228,15 +230,15 @@ length-tryFound t c w r m =
 pub length-act : (t : List ℕ) (c : ℕ) (w : List ℕ) (r : Registers) → length (act t c w r .memory) ≡ length w
 unfolding act dueAct tryNext comparePair checkNode
 length-act t c w r =
-    made-either (eqb (r .mode) 0) (takeGoal t c w r) _ w (length-take t c w r)
-    (made-either (eqb (r .mode) 1) (tryNext t c w r) _ w (length-tryFound t c w r _)
-    (made-either (eqb (r .mode) 2) (comparePair t w r) (checkNode t w r) w (length-compareWords t w r _ _ _) (length-visitWord t w r _ _)))
+    made-either (eqb (r .mode) takeMode) (takeGoal t c w r) _ w (length-take t c w r)
+    (made-either (eqb (r .mode) tryMode) (tryNext t c w r) _ w (length-tryFound t c w r _)
+    (made-either (eqb (r .mode) compareMode) (comparePair t w r) (checkNode t w r) w (length-compareWords t w r _ _ _) (length-visitWord t w r _ _)))
 
 -- and any number of acts.
 pub keepsLength : KeepsLength
 unfolding run
 keepsLength zero t c w r = refl
-keepsLength (suc n) t c w r = go (ltb (r .mode) 4) (keepsLength n t c (act t c w r .memory) (act t c w r .registers) ∙ length-act t c w r)
+keepsLength (suc n) t c w r = go (ltb (r .mode) provedMode) (keepsLength n t c (act t c w r .memory) (act t c w r .registers) ∙ length-act t c w r)
   where
     R : Made
     R = run n t c (act t c w r .memory) (act t c w r .registers)

@@ -14,7 +14,9 @@ use Rattle.unification.proofs.Invariant.{Running}
 use Rattle.search.specs.Configurations.{Branch, Configuration, match}
 use Rattle.search.specs.Steps.{settle}
 use Rattle.search.proofs.Invariant.{Invariant}
+use Rattle.sheet_format.specs.Limits.{maxBudget, numbersPerUnit}
 use Rattle.machine.specs.declared.Registers.{Registers}
+use Rattle.machine.specs.Fields as fields
 use Rattle.machine.specs.Records.{field}
 use Rattle.machine.specs.Words.{lookWord}
 use Rattle.machine.specs.Matching.{pairsFrom, argumentWord, comparePair, dueWord, nodesAfter, checkNode}
@@ -29,7 +31,7 @@ use Rattle.machine.proofs.Alternatives.{StateAt, ResultAt}
 use Rattle.machine.proofs.Comparing.{compare-result}
 use Rattle.machine.proofs.Checking.{visit-result}
 
-module _ (T : Table) (w : List ℕ) (r : Registers) (b : Branch) (ds : List Configuration) (room : 64 * suc (r .acts) ≤ length w) (small : r .acts < 50000) where
+module _ (T : Table) (w : List ℕ) (r : Registers) (b : Branch) (ds : List Configuration) (room : numbersPerUnit * suc (r .acts) ≤ length w) (small : r .acts < maxBudget) where
   -- Comparing the pair that is due.
   pub compare-act : (s : Store) (p : Pair) (ps : List Pair) → Invariant (match (pairs s (p ∷ ps)) b) → StateAt T (r .acts) w r (match (pairs s (p ∷ ps)) b) ds
       → ResultAt T (suc (r .acts)) (comparePair (T .numbers) w r) (settle (matchStep (pairs s (p ∷ ps))) b ++ ds)
@@ -43,9 +45,9 @@ module _ (T : Table) (w : List ℕ) (r : Registers) (b : Branch) (ds : List Conf
       let e = P .2 in
       let good = i .1 .0 .formed in
       let below = i .1 .1 .0 in
-      let k = few-arguments T (field w q 57) j (P .4 .node) (P .4 .more) in
-      let a₁ : WordAt T u (s .next) w (argumentWord (T .numbers) w (r .pairs) 57) (p .goal) = place-word T u (s .next) w (r .pairs) q j 57 (p .goal) (omega arith) e (P .4) in
-      let a₂ : WordAt T u (s .next) w (argumentWord (T .numbers) w (r .pairs) 59) (p .clause) = place-word T u (s .next) w (r .pairs) q j 59 (p .clause) (omega arith) e (P .5) in
+      let k = few-arguments T (field w q fields.goalSideNode) j (P .4 .node) (P .4 .more) in
+      let a₁ : WordAt T u (s .next) w (argumentWord (T .numbers) w (r .pairs) fields.goalSideNode) (p .goal) = place-word T u (s .next) w (r .pairs) q j fields.goalSideNode (p .goal) (omega arith) e (P .4) in
+      let a₂ : WordAt T u (s .next) w (argumentWord (T .numbers) w (r .pairs) fields.clauseSideNode) (p .clause) = place-word T u (s .next) w (r .pairs) q j fields.clauseSideNode (p .clause) (omega arith) e (P .5) in
       let bs = s .bindings in
       let m = st .shared .bounded .bindings in
       let x₁ = look-word T u w s (st .shared .store) (good .bound) (good .below) u a₁ (below .0) (let h = hops-le bs (p .goal) in omega arith) in
@@ -53,8 +55,8 @@ module _ (T : Table) (w : List ℕ) (r : Registers) (b : Branch) (ds : List Conf
       let e₀ : r .pairs / 4 ≡ suc q = ap (λ (z : ℕ). z / 4) e ∙ place-record (suc q) j k in
       let e₁ : r .pairs % 4 + 1 ≡ suc j = ap (λ (z : ℕ). z % 4 + 1) e ∙ ap (λ (z : ℕ). z + 1) (place-argument (suc q) j k) ∙ (omega arith) in
       rw (e₀, e₁)
-      (compare-result T w r s b ds room small (f .2) (st .shared) (pairsFrom (T .numbers) w (suc q) (suc j)) (lookWord u w (argumentWord (T .numbers) w (r .pairs) 57))
-      (lookWord u w (argumentWord (T .numbers) w (r .pairs) 59)) (look bs (p .goal)) (look bs (p .clause)) ps x₁ x₂ (P .6))
+      (compare-result T w r s b ds room small (f .2) (st .shared) (pairsFrom (T .numbers) w (suc q) (suc j)) (lookWord u w (argumentWord (T .numbers) w (r .pairs) fields.goalSideNode))
+      (lookWord u w (argumentWord (T .numbers) w (r .pairs) fields.clauseSideNode)) (look bs (p .goal)) (look bs (p .clause)) ps x₁ x₂ (P .6))
 
   -- the node that is due
   due-word : (v : ℕ) (t x : Term Leaf) (ns : List (Term Leaf)) → WordAt T (r .acts) v w (r .value) t → DueAt T (r .acts) v w (r .nodes) t x ns
@@ -66,10 +68,10 @@ module _ (T : Table) (w : List ℕ) (r : Registers) (b : Branch) (ds : List Conf
       let q = d .0 in
       let j = d .1 in
       let e = d .2 in
-      let k = few-arguments T (field w q 57) j (d .4 .node) (d .4 .more) in
+      let k = few-arguments T (field w q fields.waitingNode) j (d .4 .node) (d .4 .more) in
       let e₀ : r .nodes / 4 ≡ suc q = ap (λ (z : ℕ). z / 4) e ∙ place-record (suc q) j k in
       let e₁ : r .nodes % 4 + 1 ≡ suc j = ap (λ (z : ℕ). z % 4 + 1) e ∙ ap (λ (z : ℕ). z + 1) (place-argument (suc q) j k) ∙ (omega arith) in
-      rw (ne-eqb (r .nodes) 0 (λ z. omega arith), e₀, e₁) (place-word T u n w (r .nodes) q j 57 x (omega arith) e (d .4), d .5)
+      rw (ne-eqb (r .nodes) 0 (λ z. omega arith), e₀, e₁) (place-word T u n w (r .nodes) q j fields.goalSideNode x (omega arith) e (d .4), d .5)
 
   -- Looking at the node that is due.
   pub check-act : (s : Store) (y : ℕ) (t x : Term Leaf) (ns : List (Term Leaf)) (ps : List Pair) → Invariant (match (check s y t x ns ps) b)

@@ -14,7 +14,7 @@ use Rattle.search.specs.Configurations.{Branch, Configuration}
 use Rattle.search.specs.Steps.{settle}
 use Rattle.search.specs.Steps as level1
 use Rattle.machine.specs.declared.Registers.{Registers}
-use Rattle.machine.specs.Records.{made}
+use Rattle.machine.specs.Records.{made, provedMode}
 use Rattle.machine.specs.Changes.{onMode, onGoals, onGoal, onPairs}
 use Rattle.machine.specs.Goals.{dueGoal, proceed}
 use Rattle.machine.specs.Matching.{duePairs}
@@ -31,7 +31,7 @@ module _ (T : Table) where
   unfolding proceed dueGoal onGoal onGoals onMode level1.proceed GoalsAt ResultAt ConfigurationAt storeOf
   proceed-result n w r s b ds h c = go (b .goals) (r .goals) refl (h .waiting)
     where
-      go : (gs : List (Sequent Leaf)) (q : ℕ) → r .goals ≡ q → GoalsAt T n gs w q → ResultAt T n (made w (cond (eqb (r .goals) 0) (onMode r 4) (dueGoal w r (r .goals - 1)))) (level1.proceed s gs (b .path) ++ ds)
+      go : (gs : List (Sequent Leaf)) (q : ℕ) → r .goals ≡ q → GoalsAt T n gs w q → ResultAt T n (made w (cond (eqb (r .goals) 0) (onMode r provedMode) (dueGoal w r (r .goals - 1)))) (level1.proceed s gs (b .path) ++ ds)
       go [] zero e i = rw (eq-eqb (r .goals) 0 e) (record { front = (refl, h .taken); shared = c })
       go [] (suc q) e i = absurd i
       go (g ∷ gs) zero e i = absurd i

@@ -10,8 +10,10 @@ use borrow.Author.Tests.{lt-ltb, le-ltb}
 use Rattle.terms.specs.Terms.{Term, substitute, substitutes}
 use Rattle.unification.specs.Store.{Leaf}
 use Rattle.unification.specs.Matching.{Pair, pushTerms, pushPairs}
+use Rattle.sheet_format.specs.Limits.{maxBudget}
 use Rattle.node_table.specs.Layout.{childCount, childOf}
 use Rattle.node_table.specs.Decoding.{childrenBy, termAt}
+use Rattle.machine.specs.Fields as fields
 use Rattle.machine.specs.Records.{field}
 use Rattle.machine.specs.Words.{wordOf, environmentAt}
 use Rattle.machine.specs.Matching.{placeWord, pairsFrom, nodesFrom, argumentWord}
@@ -21,12 +23,12 @@ use Rattle.machine.proofs.Tables.{Table, Applied, argument-term, few-ar
 use Rattle.machine.proofs.Terms.{FrameIn, framed-heap, framed-up, environment-heap, WordAt, node-word}
 
 -- Reading by pointers.
-pub pairs-from : (t w : List ℕ) (r i : ℕ) → pairsFrom t w (suc r) i ≡ cond (ltb i (childCount t (field w r 57))) (placeWord (suc r) i) (field w r 61)
+pub pairs-from : (t w : List ℕ) (r i : ℕ) → pairsFrom t w (suc r) i ≡ cond (ltb i (childCount t (field w r fields.goalSideNode))) (placeWord (suc r) i) (field w r fields.pairsAfter)
 unfolding pairsFrom
 pairs-from t w r i = let e : suc r - 1 ≡ r = omega arith in rw e
 
 -- of nodes
-pub nodes-from : (t w : List ℕ) (r i : ℕ) → nodesFrom t w (suc r) i ≡ cond (ltb i (childCount t (field w r 57))) (placeWord (suc r) i) (field w r 59)
+pub nodes-from : (t w : List ℕ) (r i : ℕ) → nodesFrom t w (suc r) i ≡ cond (ltb i (childCount t (field w r fields.waitingNode))) (placeWord (suc r) i) (field w r fields.waitingAfter)
 unfolding nodesFrom
 nodes-from t w r i = let e : suc r - 1 ≡ r = omega arith in rw e
 
@@ -48,17 +50,17 @@ module _ (T : Table) where
   -- Pairs from a place on.
   unfoldable pub PairsAt : ℕ → ℕ → List Pair → List ℕ → ℕ → Type 0
   PairsAt n x [] w a = a ≡ 0
-  PairsAt n x (q ∷ ps) w a = (r : ℕ) × (i : ℕ) × (a ≡ 4 * suc r + i) × (r < n) × ArgumentAt n x w (field w r 57) (field w r 58) i (q .goal)
-      × ArgumentAt n x w (field w r 59) (field w r 60) i (q .clause) × PairsAt n x ps w (pairsFrom (T .numbers) w (suc r) (suc i))
+  PairsAt n x (q ∷ ps) w a = (r : ℕ) × (i : ℕ) × (a ≡ 4 * suc r + i) × (r < n) × ArgumentAt n x w (field w r fields.goalSideNode) (field w r fields.goalSideFrame) i (q .goal)
+      × ArgumentAt n x w (field w r fields.clauseSideNode) (field w r fields.clauseSideFrame) i (q .clause) × PairsAt n x ps w (pairsFrom (T .numbers) w (suc r) (suc i))
 
   -- Nodes from a place on.
   unfoldable pub NodesAt : ℕ → ℕ → List (Term Leaf) → List ℕ → ℕ → Type 0
   NodesAt n x [] w a = a ≡ 0
-  NodesAt n x (s ∷ ss) w a = (r : ℕ) × (i : ℕ) × (a ≡ 4 * suc r + i) × (r < n) × ArgumentAt n x w (field w r 57) (field w r 58) i s
+  NodesAt n x (s ∷ ss) w a = (r : ℕ) × (i : ℕ) × (a ≡ 4 * suc r + i) × (r < n) × ArgumentAt n x w (field w r fields.waitingNode) (field w r fields.waitingFrame) i s
       × NodesAt n x ss w (nodesFrom (T .numbers) w (suc r) (suc i))
 
   -- They stay.
-  argument-heap : (n x : ℕ) (w w′ : List ℕ) (a f i : ℕ) (s : Term Leaf) → Heap 22 n w w′ → ArgumentAt n x w a f i s → ArgumentAt n x w′ a f i s
+  argument-heap : (n x : ℕ) (w w′ : List ℕ) (a f i : ℕ) (s : Term Leaf) → Heap fields.constantLevel n w w′ → ArgumentAt n x w a f i s → ArgumentAt n x w′ a f i s
   argument-heap n x w w′ a f i s h c = record {
     node = c .node;
     frame = framed-heap n x w w′ f h (c .frame);
@@ -71,22 +73,22 @@ module _ (T : Table) where
   argument-up n x y w a f i s l c = record { node = c .node; frame = framed-up n x y w f l (c .frame); more = c .more; is = c .is }
 
   -- the two fields of a record that a relation reads
-  argument-fields : (n x : ℕ) (w w′ : List ℕ) (r f i : ℕ) (s : Term Leaf) → Heap 22 n w w′ → r < n → 22 ≤ f → f + 1 < 64 → ArgumentAt n x w (field w r f) (field w r (f + 1)) i s
+  argument-fields : (n x : ℕ) (w w′ : List ℕ) (r f i : ℕ) (s : Term Leaf) → Heap fields.constantLevel n w w′ → r < n → fields.constantLevel ≤ f → f + 1 < 64 → ArgumentAt n x w (field w r f) (field w r (f + 1)) i s
       → ArgumentAt n x w′ (field w′ r f) (field w′ r (f + 1)) i s
   argument-fields n x w w′ r f i s h l a b c = rw (h .old r f l a (omega arith), h .old r (f + 1) l (omega arith) b) (argument-heap n x w w′ (field w r f) (field w r (f + 1)) i s h c)
 
   -- the place after a pair
-  pairs-from-heap : (n : ℕ) (w w′ : List ℕ) (r i : ℕ) → Heap 22 n w w′ → r < n → pairsFrom (T .numbers) w′ (suc r) i ≡ pairsFrom (T .numbers) w (suc r) i
+  pairs-from-heap : (n : ℕ) (w w′ : List ℕ) (r i : ℕ) → Heap fields.constantLevel n w w′ → r < n → pairsFrom (T .numbers) w′ (suc r) i ≡ pairsFrom (T .numbers) w (suc r) i
   pairs-from-heap n w w′ r i h l =
-      rw (pairs-from (T .numbers) w′ r i, pairs-from (T .numbers) w r i, h .old r 57 l (omega arith) (omega arith), h .old r 61 l (omega arith) (omega arith))
+      rw (pairs-from (T .numbers) w′ r i, pairs-from (T .numbers) w r i, h .old r fields.goalSideNode l (omega arith) (omega arith), h .old r fields.pairsAfter l (omega arith) (omega arith))
 
   -- the place after a node
-  nodes-from-heap : (n : ℕ) (w w′ : List ℕ) (r i : ℕ) → Heap 22 n w w′ → r < n → nodesFrom (T .numbers) w′ (suc r) i ≡ nodesFrom (T .numbers) w (suc r) i
+  nodes-from-heap : (n : ℕ) (w w′ : List ℕ) (r i : ℕ) → Heap fields.constantLevel n w w′ → r < n → nodesFrom (T .numbers) w′ (suc r) i ≡ nodesFrom (T .numbers) w (suc r) i
   nodes-from-heap n w w′ r i h l =
-      rw (nodes-from (T .numbers) w′ r i, nodes-from (T .numbers) w r i, h .old r 57 l (omega arith) (omega arith), h .old r 59 l (omega arith) (omega arith))
+      rw (nodes-from (T .numbers) w′ r i, nodes-from (T .numbers) w r i, h .old r fields.goalSideNode l (omega arith) (omega arith), h .old r fields.clauseSideNode l (omega arith) (omega arith))
 
   -- Pairs stay,
-  pub pairs-heap : (n x : ℕ) (ps : List Pair) (w w′ : List ℕ) (a : ℕ) → Heap 22 n w w′ → PairsAt n x ps w a → PairsAt n x ps w′ a
+  pub pairs-heap : (n x : ℕ) (ps : List Pair) (w w′ : List ℕ) (a : ℕ) → Heap fields.constantLevel n w w′ → PairsAt n x ps w a → PairsAt n x ps w′ a
   unfolding PairsAt
   pairs-heap n x [] w w′ a h c = c
   pairs-heap n x (q ∷ ps) w w′ a h c =
@@ -97,8 +99,8 @@ module _ (T : Table) where
         i,
         c .2,
         l,
-        argument-fields n x w w′ r 57 i (q .goal) h l (omega arith) (omega arith) (c .4),
-        argument-fields n x w w′ r 59 i (q .clause) h l (omega arith) (omega arith) (c .5),
+        argument-fields n x w w′ r fields.goalSideNode i (q .goal) h l (omega arith) (omega arith) (c .4),
+        argument-fields n x w w′ r fields.clauseSideNode i (q .clause) h l (omega arith) (omega arith) (c .5),
         rw (pairs-from-heap n w w′ r (suc i) h l) (pairs-heap n x ps w w′ (pairsFrom (T .numbers) w (suc r) (suc i)) h (c .6)),
       )
 
@@ -114,13 +116,13 @@ module _ (T : Table) where
         i,
         c .2,
         omega arith,
-        argument-up n x y w (field w r 57) (field w r 58) i (q .goal) b (c .4),
-        argument-up n x y w (field w r 59) (field w r 60) i (q .clause) b (c .5),
+        argument-up n x y w (field w r fields.goalSideNode) (field w r fields.goalSideFrame) i (q .goal) b (c .4),
+        argument-up n x y w (field w r fields.clauseSideNode) (field w r fields.clauseSideFrame) i (q .clause) b (c .5),
         pairs-up n x y ps w (pairsFrom (T .numbers) w (suc r) (suc i)) b (c .6),
       )
 
   -- Nodes stay,
-  pub nodes-heap : (n x : ℕ) (ss : List (Term Leaf)) (w w′ : List ℕ) (a : ℕ) → Heap 22 n w w′ → NodesAt n x ss w a → NodesAt n x ss w′ a
+  pub nodes-heap : (n x : ℕ) (ss : List (Term Leaf)) (w w′ : List ℕ) (a : ℕ) → Heap fields.constantLevel n w w′ → NodesAt n x ss w a → NodesAt n x ss w′ a
   unfolding NodesAt
   nodes-heap n x [] w w′ a h c = c
   nodes-heap n x (s ∷ ss) w w′ a h c =
@@ -131,7 +133,7 @@ module _ (T : Table) where
         i,
         c .2,
         l,
-        argument-fields n x w w′ r 57 i s h l (omega arith) (omega arith) (c .4),
+        argument-fields n x w w′ r fields.goalSideNode i s h l (omega arith) (omega arith) (c .4),
         rw (nodes-from-heap n w w′ r (suc i) h l) (nodes-heap n x ss w w′ (nodesFrom (T .numbers) w (suc r) (suc i)) h (c .5)),
       )
 
@@ -143,7 +145,7 @@ module _ (T : Table) where
       let r = c .0 in
       let i = c .1 in
       let l = c .3 in
-      (r, i, c .2, omega arith, argument-up n x y w (field w r 57) (field w r 58) i s b (c .4), nodes-up n x y ss w (nodesFrom (T .numbers) w (suc r) (suc i)) b (c .5))
+      (r, i, c .2, omega arith, argument-up n x y w (field w r fields.waitingNode) (field w r fields.waitingFrame) i s b (c .4), nodes-up n x y ss w (nodesFrom (T .numbers) w (suc r) (suc i)) b (c .5))
 
   -- Pushing the arguments of a record.
   pub record Pushed (n x : ℕ) (w : List ℕ) (o : Option (List Pair)) (a : ℕ) : Type 0 where
@@ -152,23 +154,23 @@ module _ (T : Table) where
     pub there : PairsAt n x list w a
 
   -- from argument i on: level 1's `pushPairs`
-  pub push-pairs : (k n x : ℕ) (w : List ℕ) (ps : List Pair) (r i : ℕ) → n ≤ 50000 → r < n → Applied T (field w r 57) → Applied T (field w r 59) → FrameIn n x w (field w r 58) → FrameIn n x w (field w r 60)
-      → childCount (T .numbers) (field w r 57) ≡ childCount (T .numbers) (field w r 59) → i + k ≡ childCount (T .numbers) (field w r 57) → PairsAt n x ps w (field w r 61)
-      → Pushed n x w (pushPairs (substitutes (childrenBy (termAt (T .numbers)) (T .numbers) (field w r 57) k i) (environmentAt w (field w r 58)))
-      (substitutes (childrenBy (termAt (T .numbers)) (T .numbers) (field w r 59) k i) (environmentAt w (field w r 60))) ps) (pairsFrom (T .numbers) w (suc r) i)
+  pub push-pairs : (k n x : ℕ) (w : List ℕ) (ps : List Pair) (r i : ℕ) → n ≤ maxBudget → r < n → Applied T (field w r fields.goalSideNode) → Applied T (field w r fields.clauseSideNode) → FrameIn n x w (field w r fields.goalSideFrame) → FrameIn n x w (field w r fields.clauseSideFrame)
+      → childCount (T .numbers) (field w r fields.goalSideNode) ≡ childCount (T .numbers) (field w r fields.clauseSideNode) → i + k ≡ childCount (T .numbers) (field w r fields.goalSideNode) → PairsAt n x ps w (field w r fields.pairsAfter)
+      → Pushed n x w (pushPairs (substitutes (childrenBy (termAt (T .numbers)) (T .numbers) (field w r fields.goalSideNode) k i) (environmentAt w (field w r fields.goalSideFrame)))
+      (substitutes (childrenBy (termAt (T .numbers)) (T .numbers) (field w r fields.clauseSideNode) k i) (environmentAt w (field w r fields.clauseSideFrame))) ps) (pairsFrom (T .numbers) w (suc r) i)
   unfolding childrenBy substitutes pushPairs PairsAt
   push-pairs zero n x w ps r i z l a b f g e q h =
-      record { list = ps; is = refl; there = rw (pairs-from (T .numbers) w r i, le-ltb i (childCount (T .numbers) (field w r 57)) (omega arith)) h }
+      record { list = ps; is = refl; there = rw (pairs-from (T .numbers) w r i, le-ltb i (childCount (T .numbers) (field w r fields.goalSideNode)) (omega arith)) h }
   push-pairs (suc k) n x w ps r i z l a b f g e q h =
       let c = push-pairs k n x w ps r (suc i) z l a b f g e (omega arith) h in
       let t = T .numbers in
       record {
-        list = record { goal = substitute (termAt t (childOf t (field w r 57) i)) (environmentAt w (field w r 58)); clause = substitute (termAt t (childOf t (field w r 59) i)) (environmentAt w (field w r 60)) } ∷ c .list;
+        list = record { goal = substitute (termAt t (childOf t (field w r fields.goalSideNode) i)) (environmentAt w (field w r fields.goalSideFrame)); clause = substitute (termAt t (childOf t (field w r fields.clauseSideNode) i)) (environmentAt w (field w r fields.clauseSideFrame)) } ∷ c .list;
         is = rw (c .is);
         there = (
           r,
           i,
-          pairs-from t w r i ∙ rw (lt-ltb i (childCount t (field w r 57)) (omega arith)) (place-small (suc r) i (omega arith) (few-arguments T (field w r 57) i a (omega arith))),
+          pairs-from t w r i ∙ rw (lt-ltb i (childCount t (field w r fields.goalSideNode)) (omega arith)) (place-small (suc r) i (omega arith) (few-arguments T (field w r fields.goalSideNode) i a (omega arith))),
           l,
           record { node = a; frame = f; more = omega arith; is = refl },
           record { node = b; frame = g; more = omega arith; is = refl },
@@ -177,23 +179,23 @@ module _ (T : Table) where
       }
 
   -- of one record: level 1's `pushTerms`
-  pub push-nodes : (k n x : ℕ) (w : List ℕ) (ss : List (Term Leaf)) (r i : ℕ) → n ≤ 50000 → r < n → Applied T (field w r 57) → FrameIn n x w (field w r 58)
-      → i + k ≡ childCount (T .numbers) (field w r 57) → NodesAt n x ss w (field w r 59)
-      → NodesAt n x (pushTerms (substitutes (childrenBy (termAt (T .numbers)) (T .numbers) (field w r 57) k i) (environmentAt w (field w r 58))) ss) w (nodesFrom (T .numbers) w (suc r) i)
+  pub push-nodes : (k n x : ℕ) (w : List ℕ) (ss : List (Term Leaf)) (r i : ℕ) → n ≤ maxBudget → r < n → Applied T (field w r fields.waitingNode) → FrameIn n x w (field w r fields.waitingFrame)
+      → i + k ≡ childCount (T .numbers) (field w r fields.waitingNode) → NodesAt n x ss w (field w r fields.waitingAfter)
+      → NodesAt n x (pushTerms (substitutes (childrenBy (termAt (T .numbers)) (T .numbers) (field w r fields.waitingNode) k i) (environmentAt w (field w r fields.waitingFrame))) ss) w (nodesFrom (T .numbers) w (suc r) i)
   unfolding childrenBy substitutes pushTerms NodesAt
-  push-nodes zero n x w ss r i z l a f q h = rw (nodes-from (T .numbers) w r i, le-ltb i (childCount (T .numbers) (field w r 57)) (omega arith)) h
+  push-nodes zero n x w ss r i z l a f q h = rw (nodes-from (T .numbers) w r i, le-ltb i (childCount (T .numbers) (field w r fields.waitingNode)) (omega arith)) h
   push-nodes (suc k) n x w ss r i z l a f q h =
       let t = T .numbers in (
         r,
         i,
-        nodes-from t w r i ∙ rw (lt-ltb i (childCount t (field w r 57)) (omega arith)) (place-small (suc r) i (omega arith) (few-arguments T (field w r 57) i a (omega arith))),
+        nodes-from t w r i ∙ rw (lt-ltb i (childCount t (field w r fields.waitingNode)) (omega arith)) (place-small (suc r) i (omega arith) (few-arguments T (field w r fields.waitingNode) i a (omega arith))),
         l,
         record { node = a; frame = f; more = omega arith; is = refl },
         push-nodes k n x w ss r (suc i) z l a f (omega arith) h,
       )
 
   -- The word of the argument at a place.
-  pub place-word : (n x : ℕ) (w : List ℕ) (a r i f : ℕ) (s : Term Leaf) → n ≤ 50000 → a ≡ 4 * suc r + i → ArgumentAt n x w (field w r f) (field w r (f + 1)) i s
+  pub place-word : (n x : ℕ) (w : List ℕ) (a r i f : ℕ) (s : Term Leaf) → n ≤ maxBudget → a ≡ 4 * suc r + i → ArgumentAt n x w (field w r f) (field w r (f + 1)) i s
       → WordAt T n x w (argumentWord (T .numbers) w a f) s
   place-word n x w a r i f s b e c =
       let t = T .numbers in

@@ -13,9 +13,11 @@ use Rattle.sequents.specs.Sequents.{Environment, Program, hypothesis, Entry, en
 use Rattle.sequents.specs.Derivations.{sheetProgram}
 use Rattle.unification.specs.Store.{Leaf}
 use Rattle.search.specs.Search.{startEnvironment}
+use Rattle.sheet_format.specs.Limits.{maxNodes}
 use Rattle.node_table.specs.Layout.{clauseNode, membersOf}
 use Rattle.node_table.specs.Decoding.{clauseAtNode, clausesFrom}
 use Rattle.machine.specs.declared.Registers.{Registers}
+use Rattle.machine.specs.Fields as fields
 use Rattle.machine.specs.Records.{field}
 use Rattle.machine.specs.Changes.{onMember}
 use Rattle.machine.specs.Words.{up, environmentAt}
@@ -81,13 +83,13 @@ module _ (T : Table) where
       let d = ne-eqb (suc q) 0 (λ x. omega arith) in
       some-left (rw d)
       (subst (λ (x : Clause). PositionAt T n w (onMember r (suc q) 0 0 p) (map (entry e) (members x) ++ entries P)) i
-      (position-start n w (onMember r (suc q) 0 0 p) (field w q 36) (field w q 37) e (entries P) (rw (d, z)) (rw (d, z)) refl a f j (l, P, g, refl)))
+      (position-start n w (onMember r (suc q) 0 0 p) (field w q fields.assumptionNode) (field w q fields.assumptionFrame) e (entries P) (rw (d, z)) (rw (d, z)) refl a f j (l, P, g, refl)))
 
   -- The member that the position names, and the members after it.
   pub record FirstAt (n : ℕ) (w : List ℕ) (r : Registers) (es : List (Entry Leaf)) : Type 0 where
-    pub found : FoundAt T (clauseOf (T .numbers) w r) (r .member) (findMember 1024 (T .numbers) (clauseOf (T .numbers) w r) (r .member))
+    pub found : FoundAt T (clauseOf (T .numbers) w r) (r .member) (findMember maxNodes (T .numbers) (clauseOf (T .numbers) w r) (r .member))
     pub others : List (Entry Leaf)
-    pub are : es ≡ entry (environmentAt w (clauseFrame w r)) (memberOf T (findMember 1024 (T .numbers) (clauseOf (T .numbers) w r) (r .member))) ∷ others
+    pub are : es ≡ entry (environmentAt w (clauseFrame w r)) (memberOf T (findMember maxNodes (T .numbers) (clauseOf (T .numbers) w r) (r .member))) ∷ others
     pub left : MembersAt n w (nextMember (T .numbers) w r) others
 
   -- the clause after this one
@@ -95,7 +97,7 @@ module _ (T : Table) where
   unfolding nextClause RestAt
   next-clause n w r rest c = go (r .hypothesis) c
     where
-      go : (h : ℕ) → RestAt T n w h (r .clause) rest → MembersAt n w (cond (eqb h 0) (onMember r 0 (up (r .clause)) 0 (up (r .place))) (onMember r (field w (h - 1) 38) 0 0 (up (r .place)))) rest
+      go : (h : ℕ) → RestAt T n w h (r .clause) rest → MembersAt n w (cond (eqb h 0) (onMember r 0 (up (r .clause)) 0 (up (r .place))) (onMember r (field w (h - 1) fields.assumptionNext) 0 0 (up (r .place)))) rest
       go zero c =
           let l = c .0 in
           let f = T .made .fewClauses in
@@ -143,8 +145,8 @@ module _ (T : Table) where
       let c = clauseOf t w r in
       let k = r .member in
       let e = environmentAt w (clauseFrame w r) in
-      let F = member-found T 1024 c k (node-small T c (p .clause .0)) (p .clause) (p .member) in
-      let d = drop-nth (members (clauseAtNode t c)) k (memberOf T (findMember 1024 t c k)) (F .member) in
+      let F = member-found T maxNodes c k (node-small T c (p .clause .0)) (p .clause) (p .member) in
+      let d = drop-nth (members (clauseAtNode t c)) k (memberOf T (findMember maxNodes t c k)) (F .member) in
       record {
         found = F;
         others = map (entry e) (drop (suc k) (members (clauseAtNode t c))) ++ p .rest;

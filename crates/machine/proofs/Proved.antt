@@ -13,6 +13,7 @@ use Rattle.search.specs.Search.{Verdict, Outcome, ends, proved, search, ComesTo
 use Rattle.search.proofs.Units.{allUnits}
 use Rattle.search.proofs.After.{proved-all}
 use Rattle.search.proofs.Invariant.{Invariant, step-keeps, start-invariant}
+use Rattle.sheet_format.specs.Limits.{maxBudget, numbersPerUnit}
 use Rattle.node_table.specs.Decoding.{clausesFrom, goalAt}
 use Rattle.machine.specs.Records.{Made}
 use Rattle.machine.specs.Machine.{startMemory, startRegisters, runMachine}
@@ -27,8 +28,8 @@ pub record ProvedAt (T : Table) (m : Made) (s : Store) (ls : List (Line Leaf)) (
   pub state : StateAt T n (m .memory) (m .registers) (done s ls) alternatives
   pub acts : m .registers .acts ≡ n
   pub first : 1 ≤ n
-  pub few : n ≤ 50000
-  pub room : 64 * n ≤ length (m .memory)
+  pub few : n ≤ maxBudget
+  pub room : numbersPerUnit * n ≤ length (m .memory)
   pub formed : Formed s
 
 -- The search takes at least one act.
@@ -38,7 +39,7 @@ not-first cs g v zero h = absurd h
 not-first cs g v (suc n) h = omega arith
 
 -- Every proved search ends in such a state.
-pub proved-at : (T : Table) (budget : ℕ) → budget ≤ 50000 → (w : List ℕ) → 64 * budget ≤ length w → (s : Store) (ls : List (Line Leaf)) (n : ℕ)
+pub proved-at : (T : Table) (budget : ℕ) → budget ≤ maxBudget → (w : List ℕ) → numbersPerUnit * budget ≤ length w → (s : Store) (ls : List (Line Leaf)) (n : ℕ)
     → search budget (clausesFrom (T .numbers) (T .clauses) 0) (goalAt (T .numbers) (T .goal)) ≡ ends (proved s ls) n
     → ProvedAt T (runMachine budget (T .numbers) (T .clauses) (T .goal) w) s ls n
 unfolding Told Invariant runMachine

@@ -17,9 +17,10 @@ use Rattle.search.specs.Configurations.{Branch, Configuration, take, try, match
 use Rattle.search.specs.Steps.{step}
 use Rattle.search.specs.Search.{status, start, advance, after, proved, noProof, Outcome, ends, spent, searchFrom, search}
 use Rattle.search.proofs.Invariant.{Invariant, step-keeps, start-invariant, after-invariant}
+use Rattle.sheet_format.specs.Limits.{maxBudget, numbersPerUnit}
 use Rattle.node_table.specs.Decoding.{clausesFrom, goalAt}
 use Rattle.machine.specs.declared.Registers.{Registers}
-use Rattle.machine.specs.Records.{Made, made}
+use Rattle.machine.specs.Records.{Made, made, noMode, provedMode}
 use Rattle.machine.specs.Changes.{onActs}
 use Rattle.machine.specs.Machine.{act, run, startMemory, startRegisters, runMachine}
 use Rattle.machine.specs.Simulation.{StandsAt, Tells, Stands, Simulates, Follows, Resumes}
@@ -37,12 +38,12 @@ use Rattle.machine.proofs.Start.{start-result}
 run-ended : (n : ℕ) (t : List ℕ) (c : ℕ) (w : List ℕ) (r : Registers) → 4 ≤ r .mode → run n t c w r ≡ made w r
 unfolding run
 run-ended zero t c w r h = refl
-run-ended (suc n) t c w r h = rw (run, le-ltb (r .mode) 4 h)
+run-ended (suc n) t c w r h = rw (run, le-ltb (r .mode) provedMode h)
 
 -- An act is due.
 run-due : (n : ℕ) (t : List ℕ) (c : ℕ) (w : List ℕ) (r : Registers) → r .mode < 4 → run (suc n) t c w r ≡ run n t c (act t c w r .memory) (act t c w r .registers)
 unfolding run
-run-due n t c w r h = rw (run, lt-ltb (r .mode) 4 h)
+run-due n t c w r h = rw (run, lt-ltb (r .mode) provedMode h)
 
 -- The start keeps the length.
 pub start-length : (w : List ℕ) → length (startMemory w) ≡ length w
@@ -53,17 +54,17 @@ start-length w = length-variables 8 w 0
 pub resumes : Resumes
 unfolding run
 resumes t c zero m w r = let e : 0 + m ≡ m = omega arith in ap (λ (k : ℕ). run k t c w r) e
-resumes t c (suc n) m w r = let e : suc n + m ≡ suc (n + m) = omega arith in ap (λ (k : ℕ). run k t c w r) e ∙ go (ltb (r .mode) 4) refl (λ w′ r′. resumes t c n m w′ r′)
+resumes t c (suc n) m w r = let e : suc n + m ≡ suc (n + m) = omega arith in ap (λ (k : ℕ). run k t c w r) e ∙ go (ltb (r .mode) provedMode) refl (λ w′ r′. resumes t c n m w′ r′)
   where
     Rest : Type 0
     Rest = (w′ : List ℕ) (r′ : Registers) → run (n + m) t c w′ r′ ≡ run m t c (run n t c w′ r′ .memory) (run n t c w′ r′ .registers)
 
-    go : (b : Bool) → ltb (r .mode) 4 ≡ b → Rest → run (suc (n + m)) t c w r ≡ run m t c (run (suc n) t c w r .memory) (run (suc n) t c w r .registers)
+    go : (b : Bool) → ltb (r .mode) provedMode ≡ b → Rest → run (suc (n + m)) t c w r ≡ run m t c (run (suc n) t c w r .memory) (run (suc n) t c w r .registers)
     go true q ih =
-        let l = ltb-true (r .mode) 4 q in
+        let l = ltb-true (r .mode) provedMode q in
         run-due (n + m) t c w r l ∙ ih (act t c w r .memory) (act t c w r .registers) ∙ ap (λ (x : Made). run m t c (x .memory) (x .registers)) (sym (run-due n t c w r l))
     go false q ih =
-        let l = ltb-false (r .mode) 4 q in
+        let l = ltb-false (r .mode) provedMode q in
         run-ended (suc (n + m)) t c w r l ∙ sym (run-ended m t c w r l) ∙ ap (λ (x : Made). run m t c (x .memory) (x .registers)) (sym (run-ended (suc n) t c w r l))
 
 module _ (T : Table) where
@@ -93,12 +94,12 @@ module _ (T : Table) where
   stands w r (done s ls ∷ ds) h = stands-at w r s ds ls 4 (h .front .0) (h .shared) (h .front .1)
 
   -- an act that is due
-  act-counts : (w : List ℕ) (r : Registers) → r .acts < 50000 → act (T .numbers) (T .clauses) w r .registers .acts ≡ suc (r .acts)
+  act-counts : (w : List ℕ) (r : Registers) → r .acts < maxBudget → act (T .numbers) (T .clauses) w r .registers .acts ≡ suc (r .acts)
   unfolding act onActs
   act-counts w r h = up-small (r .acts) (omega arith)
 
   -- u acts having been done
-  acted : (u : ℕ) (w : List ℕ) (r : Registers) (c : Configuration) (ds : List Configuration) → r .acts ≡ u → 64 * suc u ≤ length w → u < 50000 → Invariant c → r .mode < 4 → StateAt T u w r c ds
+  acted : (u : ℕ) (w : List ℕ) (r : Registers) (c : Configuration) (ds : List Configuration) → r .acts ≡ u → numbersPerUnit * suc u ≤ length w → u < maxBudget → Invariant c → r .mode < 4 → StateAt T u w r c ds
       → ResultAt T (suc u) (act (T .numbers) (T .clauses) w r) (step u c ++ ds)
   acted u w r c ds e l b i d st =
       subst (λ (n : ℕ). ResultAt T (suc n) (act t (T .clauses) w r) (step n c ++ ds)) e
@@ -121,24 +122,24 @@ module _ (T : Table) where
   ended n w r (done s ls) ds d st = record { result = st; counted = λ q. absurd (omega arith) }
 
   -- one act more
-  follow : (n : ℕ) (w : List ℕ) (r : Registers) (ds : List Configuration) → 64 * suc n ≤ length w → n < 50000 → All Invariant ds → Following n (made w r) ds
+  follow : (n : ℕ) (w : List ℕ) (r : Registers) (ds : List Configuration) → numbersPerUnit * suc n ≤ length w → n < maxBudget → All Invariant ds → Following n (made w r) ds
       → Following (suc n) (run 1 (T .numbers) (T .clauses) w r) (advance n ds)
   unfolding advance ResultAt run act
   follow n w r [] l b i f =
       let e = f .result in
       subst (λ (m : Made). Following (suc n) m []) (sym (run-ended 1 t (T .clauses) w r (omega arith))) (record { result = e; counted = λ q. absurd (omega arith) })
-  follow n w r (c ∷ ds) l b i f = go (ltb (r .mode) 4) refl
+  follow n w r (c ∷ ds) l b i f = go (ltb (r .mode) provedMode) refl
     where
-      go : (x : Bool) → ltb (r .mode) 4 ≡ x → Following (suc n) (run 1 t (T .clauses) w r) (step n c ++ ds)
+      go : (x : Bool) → ltb (r .mode) provedMode ≡ x → Following (suc n) (run 1 t (T .clauses) w r) (step n c ++ ds)
       go true q =
-          let d = ltb-true (r .mode) 4 q in
+          let d = ltb-true (r .mode) provedMode q in
           let e = f .counted d in
           let k = act-counts w r (omega arith) in
           let R = acted n w r c ds e l b (i .0) d (subst (λ (j : ℕ). StateAt T j w r c ds) e (f .result)) in
           subst (λ (m : Made). Following (suc n) m (step n c ++ ds)) (sym (run-due 0 t (T .clauses) w r d))
           (record { result = subst (λ (j : ℕ). ResultAt T j (act t (T .clauses) w r) (step n c ++ ds)) (sym (k ∙ ap suc e)) R; counted = λ z. k ∙ ap suc e })
       go false q =
-          let d = ltb-false (r .mode) 4 q in
+          let d = ltb-false (r .mode) provedMode q in
           subst (λ (m : Made). Following (suc n) m (step n c ++ ds)) (sym (run-ended 1 t (T .clauses) w r d)) (ended n w r c ds d (f .result))
 
   -- The sheet that the table holds.
@@ -150,7 +151,7 @@ module _ (T : Table) where
   goal = goalAt (T .numbers) (T .goal)
 
   -- by induction
-  pub following : (n : ℕ) (w : List ℕ) → n ≤ 50000 → 64 ≤ length w → 64 * n ≤ length w
+  pub following : (n : ℕ) (w : List ℕ) → n ≤ maxBudget → numbersPerUnit ≤ length w → numbersPerUnit * n ≤ length w
       → Following n (runMachine n (T .numbers) (T .clauses) (T .goal) w) (after (clausesFrom (T .numbers) (T .clauses) 0) (goalAt (T .numbers) (T .goal)) n)
   unfolding runMachine run after startRegisters
   following zero w b k l = record { result = start-result T w k; counted = λ q. refl }
@@ -166,7 +167,7 @@ module _ (T : Table) where
   -- What the machine tells, with the whole state at the end of a proved search.
   unfoldable pub Told : Made → Outcome → Type 0
   Told m (ends (proved s ls) n) = (ds : List Configuration) × StateAt T n (m .memory) (m .registers) (done s ls) ds × (m .registers .acts ≡ n)
-  Told m (ends noProof n) = (m .registers .mode ≡ 5) × (m .registers .acts ≡ n)
+  Told m (ends noProof n) = (m .registers .mode ≡ noMode) × (m .registers .acts ≡ n)
   Told m spent = m .registers .mode < 4
 
   -- That is what was stated.
@@ -180,7 +181,7 @@ module _ (T : Table) where
   told-tells m spent h = h
 
   -- a match under way is not the end
-  match-due : {u : ℕ} {w : List ℕ} {r : Registers} {ds : List Configuration} (m : Matching) (b : Branch) → StateAt T u w r (match m b) ds → r .mode ≡ 4 → ⊥
+  match-due : {u : ℕ} {w : List ℕ} {r : Registers} {ds : List Configuration} (m : Matching) (b : Branch) → StateAt T u w r (match m b) ds → r .mode ≡ provedMode → ⊥
   unfolding ConfigurationAt CompareAt
   match-due (pairs s []) b h q = h .front
   match-due (pairs s (p ∷ ps)) b h q = let d = h .front .0 in omega arith
@@ -188,8 +189,8 @@ module _ (T : Table) where
   match-due fail b h q = h .front
 
   -- an act is due
-  go-on : (f u : ℕ) (w : List ℕ) (r : Registers) (c : Configuration) (ds : List Configuration) → r .acts ≡ u → u + suc f ≤ 50000 → 64 * (u + suc f) ≤ length w → All Invariant (c ∷ ds) → StateAt T u w r c ds → r .mode < 4
-      → ((w′ : List ℕ) (r′ : Registers) (ds′ : List Configuration) → r′ .acts ≡ suc u → suc u + f ≤ 50000 → 64 * (suc u + f) ≤ length w′ → All Invariant ds′ → ResultAt T (suc u) (made w′ r′) ds′
+  go-on : (f u : ℕ) (w : List ℕ) (r : Registers) (c : Configuration) (ds : List Configuration) → r .acts ≡ u → u + suc f ≤ maxBudget → numbersPerUnit * (u + suc f) ≤ length w → All Invariant (c ∷ ds) → StateAt T u w r c ds → r .mode < 4
+      → ((w′ : List ℕ) (r′ : Registers) (ds′ : List Configuration) → r′ .acts ≡ suc u → suc u + f ≤ maxBudget → numbersPerUnit * (suc u + f) ≤ length w′ → All Invariant ds′ → ResultAt T (suc u) (made w′ r′) ds′
       → Told (run f (T .numbers) (T .clauses) w′ r′) (searchFrom f (suc u) (status (suc u) ds′)))
       → Told (run (suc f) (T .numbers) (T .clauses) w r) (searchFrom f (suc u) (status (suc u) (step u c ++ ds)))
   go-on f u w r c ds e b l i h d ih =
@@ -200,7 +201,7 @@ module _ (T : Table) where
       (ih (m .memory) (m .registers) (step u c ++ ds) (k ∙ ap suc e) (omega arith) (omega arith) (all-append Invariant (step u c) ds (step-keeps u c (i .0)) (i .1)) (acted u w r c ds e (omega arith) (omega arith) (i .0) d h))
 
   -- What is told within a budget of f acts more, u having been done.
-  pub tells : (f u : ℕ) (w : List ℕ) (r : Registers) (ds : List Configuration) → r .acts ≡ u → u + f ≤ 50000 → 64 * (u + f) ≤ length w → All Invariant ds → ResultAt T u (made w r) ds
+  pub tells : (f u : ℕ) (w : List ℕ) (r : Registers) (ds : List Configuration) → r .acts ≡ u → u + f ≤ maxBudget → numbersPerUnit * (u + f) ≤ length w → All Invariant ds → ResultAt T u (made w r) ds
       → Told (run f (T .numbers) (T .clauses) w r) (searchFrom f u (status u ds))
   unfolding run searchFrom status Told ResultAt ConfigurationAt CompareAt storeOf
   tells zero u w r [] e b l i h = (h, e)
@@ -208,7 +209,7 @@ module _ (T : Table) where
   tells zero u w r (try s a m ms k x ∷ ds) e b l i h = let d = h .front .mode in omega arith
   tells zero u w r (match m x ∷ ds) e b l i h = mode-due T u w r (match m x) (h .front) (λ q. match-due m x h q)
   tells zero u w r (done s ls ∷ ds) e b l i h = (ds, h, e)
-  tells (suc f) u w r [] e b l i h = subst (λ (m : Made). (m .registers .mode ≡ 5) × (m .registers .acts ≡ u)) (sym (run-ended (suc f) t (T .clauses) w r (omega arith))) (h, e)
+  tells (suc f) u w r [] e b l i h = subst (λ (m : Made). (m .registers .mode ≡ noMode) × (m .registers .acts ≡ u)) (sym (run-ended (suc f) t (T .clauses) w r (omega arith))) (h, e)
   tells (suc f) u w r (take s g x ∷ ds) e b l i h = go-on f u w r (take s g x) ds e b l i h (let d = h .front .0 in omega arith) (λ w′ r′ ds′ a c d j k. tells f (suc u) w′ r′ ds′ a c d j k)
   tells (suc f) u w r (try s a m ms k x ∷ ds) e b l i h = go-on f u w r (try s a m ms k x) ds e b l i h (let d = h .front .mode in omega arith) (λ w′ r′ ds′ a c d j k. tells f (suc u) w′ r′ ds′ a c d j k)
   tells (suc f) u w r (match m x ∷ ds) e b l i h = go-on f u w r (match m x) ds e b l i h (mode-due T u w r (match m x) (h .front) (λ q. match-due m x h q)) (λ w′ r′ ds′ a c d j k. tells f (suc u) w′ r′ ds′ a c d j k)
@@ -217,7 +218,7 @@ module _ (T : Table) where
       (sym (run-ended (suc f) t (T .clauses) w r (let d = h .front .0 in omega arith))) (ds, h, e)
 
   -- from the start
-  pub told : (budget : ℕ) → budget ≤ 50000 → (w : List ℕ) → 64 * budget ≤ length w
+  pub told : (budget : ℕ) → budget ≤ maxBudget → (w : List ℕ) → numbersPerUnit * budget ≤ length w
       → Told (runMachine budget (T .numbers) (T .clauses) (T .goal) w) (search budget (clausesFrom (T .numbers) (T .clauses) 0) (goalAt (T .numbers) (T .goal)))
   unfolding runMachine search run Told start status searchFrom startRegisters
   told zero b w l = omega arith

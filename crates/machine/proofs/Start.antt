@@ -9,6 +9,7 @@ use lib.ListN.{length}
 use borrow.Author.Tests.{eqb-true, eqb-false}
 use Rattle.sequents.specs.Derivations.{instanceOf}
 use Rattle.search.specs.Search.{startStore, startGoal, start}
+use Rattle.sheet_format.specs.Limits.{numbersPerUnit}
 use Rattle.node_table.specs.Decoding.{clausesFrom, goalAt}
 use Rattle.machine.specs.Records.{cellOf, levelOf, putCell, made}
 use Rattle.machine.specs.Frames.{putVariable, putVariables}
@@ -42,7 +43,7 @@ length-variable : (w : List ℕ) (x : ℕ) → length (putVariables 1 w x) ≡ l
 length-variable w x = length-variables 1 w x
 
 -- The variables made are blank, and those that were stay so.
-variables-blank : (n : ℕ) (w : List ℕ) (x y : ℕ) → 64 ≤ length w → x + n ≤ 9 → y < x + n → (y < x → Blank w y) → Blank (putVariables n w x) y
+variables-blank : (n : ℕ) (w : List ℕ) (x y : ℕ) → numbersPerUnit ≤ length w → x + n ≤ 9 → y < x + n → (y < x → Blank w y) → Blank (putVariables n w x) y
 unfolding putVariables
 variables-blank zero w x y l b h k = k (omega arith)
 variables-blank (suc n) w x y l b h k =
@@ -54,7 +55,7 @@ variables-blank (suc n) w x y l b h k =
     go false q m = let d = eqb-false y x q in variable-other w x y d (k (omega arith))
 
 -- The state at the start.
-pub start-result : (T : Table) (w : List ℕ) → 64 ≤ length w → ResultAt T 0 (made (startMemory w) (startRegisters (T .goal))) (start (clausesFrom (T .numbers) (T .clauses) 0) (goalAt (T .numbers) (T .goal)))
+pub start-result : (T : Table) (w : List ℕ) → numbersPerUnit ≤ length w → ResultAt T 0 (made (startMemory w) (startRegisters (T .goal))) (start (clausesFrom (T .numbers) (T .clauses) 0) (goalAt (T .numbers) (T .goal)))
 unfolding startMemory startRegisters start startGoal startStore instanceOf ResultAt ConfigurationAt storeOf GoalsAt PathAt FrameAt cell CellAt
 start-result T w l =
     let blank : (y : ℕ) → y < 8 → Blank (putVariables 8 w 0) y = λ y h. variables-blank 8 w 0 y l (omega arith) (omega arith) (λ q. absurd (omega arith)) in

@@ -11,8 +11,10 @@ use Rattle.terms.specs.Lists.{All, update}
 use Rattle.terms.specs.Terms.{Term, leaf, Leaves}
 use Rattle.unification.specs.Store.{Leaf, var, Store, look, lower, bind, freshLevels, past, fresh, boundTo}
 use Rattle.unification.specs.Promises.{Below, BelowBinding, WellBound}
+use Rattle.sheet_format.specs.Limits.{maxNodes}
+use Rattle.machine.specs.Fields as fields
 use Rattle.machine.specs.Records.{cellOf, levelOf, putCell, putLevel}
-use Rattle.machine.specs.Words.{tagOf, nameOf, lookWord, termOf}
+use Rattle.machine.specs.Words.{tagOf, nameOf, lookWord, termOf, variableTag}
 use Rattle.machine.specs.Frames.{putVariable}
 use Rattle.machine.specs.Reading.{variableOf}
 use Rattle.machine.proofs.Records.{There, cell-same, level-same, level-cell, cell-other, cell-level, level-other, length-cell}
@@ -35,9 +37,9 @@ look-bound f w x d =
     rw (lookWord, tag-is x 1 (omega arith), ne-eqb (cellOf w (nameOf (4 * x + 1))) 0 (λ q. d (sym p ∙ q))) (ap (lookWord f w) p)
 
 -- no variable.
-look-other : (f : ℕ) (w : List ℕ) (a : ℕ) → (tagOf a ≡ 1 → ⊥) → lookWord (suc f) w a ≡ a
+look-other : (f : ℕ) (w : List ℕ) (a : ℕ) → (tagOf a ≡ variableTag → ⊥) → lookWord (suc f) w a ≡ a
 unfolding lookWord
-look-other f w a d = rw (lookWord, ne-eqb (tagOf a) 1 d)
+look-other f w a d = rw (lookWord, ne-eqb (tagOf a) variableTag d)
 
 module _ (T : Table) where
   -- A cell: 0 for an unbound variable, else the word of what it is bound to.
@@ -50,7 +52,7 @@ module _ (T : Table) where
     pub levels : (x : ℕ) → x < s .next → levelOf w x ≡ s .level x
 
   -- It stays.
-  cell-heap : (n x : ℕ) (w w′ : List ℕ) (a : ℕ) (o : Option (Term Leaf)) → Heap 22 n w w′ → CellAt n x w a o → CellAt n x w′ a o
+  cell-heap : (n x : ℕ) (w w′ : List ℕ) (a : ℕ) (o : Option (Term Leaf)) → Heap fields.constantLevel n w w′ → CellAt n x w a o → CellAt n x w′ a o
   unfolding CellAt
   cell-heap n x w w′ a none e h = h
   cell-heap n x w w′ a (some t) e h = word-heap T n x w w′ e h
@@ -98,7 +100,7 @@ module _ (T : Table) where
   unfolding bind cell CellAt
   store-bind n w s y a t b g r = record { cells = λ x h. go x h (eqb x y) refl; levels = λ x h. level-cell w y a x ∙ r .levels x h }
     where
-      e : Heap 22 n w (putCell w y a)
+      e : Heap fields.constantLevel n w (putCell w y a)
       e = heap-22 n w (putCell w y a) (heap-cell n w y a)
 
       go : (x : ℕ) → x < s .next → (c : Bool) → eqb x y ≡ c → CellAt n (s .next) (putCell w y a) (cellOf (putCell w y a) x) (cond c (some t) (cell (s .bindings) x))
@@ -119,8 +121,8 @@ module _ (T : Table) where
       w₂ : List ℕ
       w₂ = putLevel w₁ y i
 
-      e : Heap 22 n w w₂
-      e = heap-22 n w w₂ (heap-trans 18 n w w₁ w₂ (heap-cell n w y 0) (heap-level n w₁ y i))
+      e : Heap fields.constantLevel n w w₂
+      e = heap-22 n w w₂ (heap-trans fields.entryLowered n w w₁ w₂ (heap-cell n w y 0) (heap-level n w₁ y i))
 
       cells : (x : ℕ) → x < suc y → (c : Bool) → eqb x y ≡ c → CellAt n (suc y) w₂ (cellOf w₂ x) (cell (s .bindings) x)
       cells x h true q = rw (eqb-true x y q, u) (cell-level w₁ y i y ∙ cell-same w y 0 b)
@@ -158,7 +160,7 @@ module _ (T : Table) where
     look-word (suc f) (word-constant {a = a} {c = c} {k = k} q l e) b h =
         rw (look-other f w a (λ z. let y = ap tagOf q ∙ tag-is c 2 (omega arith) in omega arith), look-con (s .bindings) c k .0) (word-constant q l e)
     look-word (suc f) (word-closure {a = a} {g = g} {ts = ts} m d q l k e i) b h =
-        rw (look-other f w a (λ z. let y = ap tagOf q ∙ tag-is (1024 * d + m) 3 (omega arith) in omega arith), look-app (s .bindings) g ts .0) (word-closure m d q l k e i)
+        rw (look-other f w a (λ z. let y = ap tagOf q ∙ tag-is (maxNodes * d + m) 3 (omega arith) in omega arith), look-app (s .bindings) g ts .0) (word-closure m d q l k e i)
 
   -- The store is read back.
   pub store-bindings : (n : ℕ) (w : List ℕ) (s : Store) → StoreAt n w s → (x : ℕ) → x < s .next → variableOf (T .numbers) w x ≡ boundTo (s .bindings) x

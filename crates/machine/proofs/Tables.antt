@@ -4,7 +4,7 @@ use native.Mathlib.Omega.{arith}
 use mathlib.Core.Path.{_≡_, sym, ap, _∙_}
 use mathlib.Core.List.{List}
 use Rattle.terms.specs.Terms.{leaf, app}
-use Rattle.node_table.specs.Layout.{kindOf, childCount, labelOf, childOf, arityOf}
+use Rattle.node_table.specs.Layout.{kindOf, childCount, labelOf, childOf, arityOf, variableKind, applicationKind}
 use Rattle.node_table.specs.Decoding.{termAt, argumentsAt}
 use Rattle.node_table.specs.WellMade.{IsTerm, Arguments, WellMade}
 use Rattle.node_table.proofs.Decoding.{Nodes, nodes-of, term-variable, term-application}
@@ -31,7 +31,7 @@ module _ (T : Table) where
 
   -- A node of an application.
   abbrev pub ApplicationOf : ℕ → Type 0
-  ApplicationOf n = (n < T .nodes) × IsTerm (T .numbers) n × (kindOf (T .numbers) n ≡ 1)
+  ApplicationOf n = (n < T .nodes) × IsTerm (T .numbers) n × (kindOf (T .numbers) n ≡ applicationKind)
 
   -- nodes have ten bits
   pub node-small : (n : ℕ) → n < T .nodes → n < 1024
@@ -50,11 +50,11 @@ module _ (T : Table) where
   same-count n m a b e = a .1 .many ∙ ap (arityOf (T .numbers)) e ∙ sym (b .1 .many)
 
   -- a variable's name is below 8; any other term is an application
-  pub name-small : (n : ℕ) → TermOf n → kindOf (T .numbers) n ≡ 0 → labelOf (T .numbers) n < 8
+  pub name-small : (n : ℕ) → TermOf n → kindOf (T .numbers) n ≡ variableKind → labelOf (T .numbers) n < 8
   name-small n h e = T .made .term n (h .0) (h .1) .variable e
 
   -- Any other is an application,
-  pub not-variable : (n : ℕ) → TermOf n → (kindOf (T .numbers) n ≡ 0 → ⊥) → kindOf (T .numbers) n ≡ 1
+  pub not-variable : (n : ℕ) → TermOf n → (kindOf (T .numbers) n ≡ variableKind → ⊥) → kindOf (T .numbers) n ≡ applicationKind
   not-variable n h d = let k = T .made .term n (h .0) (h .1) .kind in omega arith
 
   -- which has arguments.
@@ -62,7 +62,7 @@ module _ (T : Table) where
   applied n h = (h .0, T .made .term n (h .0) (h .1) .application (h .2))
 
   -- The term of a variable's node,
-  pub variable-is : (n : ℕ) → TermOf n → kindOf (T .numbers) n ≡ 0 → termAt (T .numbers) n ≡ leaf (labelOf (T .numbers) n)
+  pub variable-is : (n : ℕ) → TermOf n → kindOf (T .numbers) n ≡ variableKind → termAt (T .numbers) n ≡ leaf (labelOf (T .numbers) n)
   variable-is n h e = term-variable (T .numbers) (T .nodes) nodes-are n (h .0) (h .1) e
 
   -- and of an application's.

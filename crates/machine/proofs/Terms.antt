@@ -10,8 +10,10 @@ use Rattle.terms.specs.Terms.{Term, leaf, app, nil, Terms, substitute, substitu
 use Rattle.unification.specs.Store.{Leaf, var, con}
 use Rattle.unification.proofs.Stores.{below-more}
 use Rattle.search.proofs.Invariant.{EnvironmentBelow}
-use Rattle.node_table.specs.Layout.{kindOf, labelOf}
+use Rattle.sheet_format.specs.Limits.{maxBudget, maxNodes, variableNames}
+use Rattle.node_table.specs.Layout.{kindOf, labelOf, variableKind}
 use Rattle.node_table.specs.Decoding.{termAt, argumentsAt}
+use Rattle.machine.specs.Fields as fields
 use Rattle.machine.specs.Records.{field}
 use Rattle.machine.specs.Words.{closureWord, slotOf, wordOf, leafOf, environmentAt, termOf}
 use Rattle.machine.proofs.Words.{variable-small, closure-small, tag-is, name-is, node-is, frame-is}
@@ -26,7 +28,7 @@ pub data LeafAt (n a : ℕ) : Type 0 where
 -- A frame: 0, or made before act n and all its slots leaves.
 unfoldable pub FrameAt : ℕ → List ℕ → ℕ → Type 0
 FrameAt n w zero = Unit {0}
-FrameAt n w (suc r) = (r < n) × ((v : ℕ) → v < 8 → LeafAt n (field w r (23 + v)))
+FrameAt n w (suc r) = (r < n) × ((v : ℕ) → v < variableNames → LeafAt n (field w r (fields.frame + v)))
 
 -- An act later: a leaf,
 pub leaf-up : (n a : ℕ) → LeafAt n a → LeafAt (suc n) a
@@ -37,7 +39,7 @@ leaf-up n a (constant-at c e h) = constant-at c e (omega arith)
 pub frame-up : (n : ℕ) (w : List ℕ) (f : ℕ) → FrameAt n w f → FrameAt (suc n) w f
 unfolding FrameAt
 frame-up n w zero h = tt
-frame-up n w (suc r) h = (let l = h .0 in omega arith, λ v l. leaf-up n (field w r (23 + v)) (h .1 v l))
+frame-up n w (suc r) h = (let l = h .0 in omega arith, λ v l. leaf-up n (field w r (fields.frame + v)) (h .1 v l))
 
 -- Frames were made before.
 pub frame-le : (n : ℕ) (w : List ℕ) (f : ℕ) → FrameAt n w f → f ≤ n
@@ -46,13 +48,13 @@ frame-le n w zero h = omega arith
 frame-le n w (suc r) h = let l = h .0 in omega arith
 
 -- A frame stays.
-pub frame-heap : (n : ℕ) (w w′ : List ℕ) (f : ℕ) → Heap 22 n w w′ → FrameAt n w f → FrameAt n w′ f
+pub frame-heap : (n : ℕ) (w w′ : List ℕ) (f : ℕ) → Heap fields.constantLevel n w w′ → FrameAt n w f → FrameAt n w′ f
 unfolding FrameAt
 frame-heap n w w′ zero e h = tt
-frame-heap n w w′ (suc r) e h = (h .0, λ v l. rw (e .old r (23 + v) (h .0) (omega arith) (omega arith)) (h .1 v l))
+frame-heap n w w′ (suc r) e h = (h .0, λ v l. rw (e .old r (fields.frame + v) (h .0) (omega arith) (omega arith)) (h .1 v l))
 
 -- its slots
-pub slot-leaf : (n : ℕ) (w : List ℕ) (f v : ℕ) → v < 8 → FrameAt n w f → LeafAt n (slotOf w f v)
+pub slot-leaf : (n : ℕ) (w : List ℕ) (f v : ℕ) → v < variableNames → FrameAt n w f → LeafAt n (slotOf w f v)
 unfolding FrameAt slotOf
 slot-leaf n w zero v l h = variable-at v (variable-small v (omega arith))
 slot-leaf n w (suc r) v l h =
@@ -60,12 +62,12 @@ slot-leaf n w (suc r) v l h =
     rw (ne-eqb (suc r) 0 (λ q. omega arith), e) (h .1 v l)
 
 -- They stay.
-pub slot-heap : (n : ℕ) (w w′ : List ℕ) (f v : ℕ) → v < 8 → Heap 22 n w w′ → FrameAt n w f → slotOf w′ f v ≡ slotOf w f v
+pub slot-heap : (n : ℕ) (w w′ : List ℕ) (f v : ℕ) → v < variableNames → Heap fields.constantLevel n w w′ → FrameAt n w f → slotOf w′ f v ≡ slotOf w f v
 unfolding FrameAt slotOf
 slot-heap n w w′ zero v l e h = refl
 slot-heap n w w′ (suc r) v l e h =
     let p : suc r - 1 ≡ r = omega arith in
-    rw (ne-eqb (suc r) 0 (λ q. omega arith), p) (e .old r (23 + v) (h .0) (omega arith) (omega arith))
+    rw (ne-eqb (suc r) 0 (λ q. omega arith), p) (e .old r (fields.frame + v) (h .0) (omega arith) (omega arith))
 
 -- what a leaf's word stands for
 pub variable-leaf : (w : List ℕ) (x : ℕ) → leafOf w (4 * x + 1) ≡ var x
@@ -73,17 +75,17 @@ unfolding leafOf
 variable-leaf w x = rw (tag-is x 1 (omega arith), name-is x 1 (omega arith))
 
 -- of a constant
-pub constant-leaf : (w : List ℕ) (c : ℕ) → leafOf w (4 * c + 2) ≡ con c (field w c 22)
+pub constant-leaf : (w : List ℕ) (c : ℕ) → leafOf w (4 * c + 2) ≡ con c (field w c fields.constantLevel)
 unfolding leafOf
 constant-leaf w c = rw (tag-is c 2 (omega arith), name-is c 2 (omega arith))
 
 -- It stays.
-pub leaf-heap : (n : ℕ) (w w′ : List ℕ) (a : ℕ) → Heap 22 n w w′ → LeafAt n a → leafOf w′ a ≡ leafOf w a
+pub leaf-heap : (n : ℕ) (w w′ : List ℕ) (a : ℕ) → Heap fields.constantLevel n w w′ → LeafAt n a → leafOf w′ a ≡ leafOf w a
 leaf-heap n w w′ a e (variable-at x q) = rw (q, variable-leaf w′ x, variable-leaf w x)
-leaf-heap n w w′ a e (constant-at c q h) = rw (q, constant-leaf w′ c, constant-leaf w c, e .old c 22 h (omega arith) (omega arith))
+leaf-heap n w w′ a e (constant-at c q h) = rw (q, constant-leaf w′ c, constant-leaf w c, e .old c fields.constantLevel h (omega arith) (omega arith))
 
 -- an environment stays
-pub environment-heap : (n : ℕ) (w w′ : List ℕ) (f : ℕ) → Heap 22 n w w′ → FrameAt n w f → environmentAt w′ f ≡ environmentAt w f
+pub environment-heap : (n : ℕ) (w w′ : List ℕ) (f : ℕ) → Heap fields.constantLevel n w w′ → FrameAt n w f → environmentAt w′ f ≡ environmentAt w f
 unfolding environmentAt
 environment-heap n w w′ f e h = fun-ext (λ v. go v (ltb v 8) refl)
   where
@@ -94,7 +96,7 @@ environment-heap n w w′ f e h = fun-ext (λ v. go v (ltb v 8) refl)
     go v false q = refl
 
 -- What a name stands for.
-pub environment-name : (w : List ℕ) (f v : ℕ) → v < 8 → environmentAt w f v ≡ leaf (leafOf w (slotOf w f v))
+pub environment-name : (w : List ℕ) (f v : ℕ) → v < variableNames → environmentAt w f v ≡ leaf (leafOf w (slotOf w f v))
 unfolding environmentAt
 environment-name w f v l = rw (lt-ltb v 8 l)
 
@@ -104,7 +106,7 @@ pub record FrameIn (n x : ℕ) (w : List ℕ) (f : ℕ) : Type 0 where
   pub below : EnvironmentBelow x (environmentAt w f)
 
 -- It stays,
-pub framed-heap : (n x : ℕ) (w w′ : List ℕ) (f : ℕ) → Heap 22 n w w′ → FrameIn n x w f → FrameIn n x w′ f
+pub framed-heap : (n x : ℕ) (w w′ : List ℕ) (f : ℕ) → Heap fields.constantLevel n w w′ → FrameIn n x w f → FrameIn n x w′ f
 framed-heap n x w w′ f e h =
     record { frame = frame-heap n w w′ f e (h .frame); below = subst (EnvironmentBelow x) (sym (environment-heap n w w′ f e (h .frame))) (h .below) }
 
@@ -120,14 +122,14 @@ module _ (T : Table) where
   -- The word of a term; frames hold variables below x.
   pub data WordAt (n x : ℕ) (w : List ℕ) : ℕ → Term Leaf → Type 0 where
     word-variable : {a y : ℕ} → a ≡ 4 * y + 1 → WordAt n x w a (leaf (var y))
-    word-constant : {a c k : ℕ} → a ≡ 4 * c + 2 → c < n → field w c 22 ≡ k → WordAt n x w a (leaf (con c k))
-    word-closure : {a g : ℕ} {ts : Terms Leaf} (m f : ℕ) → a ≡ 4 * (1024 * f + m) + 3 → ApplicationOf T m → FrameIn n x w f → labelOf (T .numbers) m ≡ g
+    word-constant : {a c k : ℕ} → a ≡ 4 * c + 2 → c < n → field w c fields.constantLevel ≡ k → WordAt n x w a (leaf (con c k))
+    word-closure : {a g : ℕ} {ts : Terms Leaf} (m f : ℕ) → a ≡ 4 * (maxNodes * f + m) + 3 → ApplicationOf T m → FrameIn n x w f → labelOf (T .numbers) m ≡ g
         → substitutes (argumentsAt (T .numbers) m) (environmentAt w f) ≡ ts → WordAt n x w a (app g ts)
 
   -- It stays,
-  pub word-heap : (n x : ℕ) (w w′ : List ℕ) {a : ℕ} {s : Term Leaf} → Heap 22 n w w′ → WordAt n x w a s → WordAt n x w′ a s
+  pub word-heap : (n x : ℕ) (w w′ : List ℕ) {a : ℕ} {s : Term Leaf} → Heap fields.constantLevel n w w′ → WordAt n x w a s → WordAt n x w′ a s
   word-heap n x w w′ e (word-variable q) = word-variable q
-  word-heap n x w w′ e (word-constant {c = c} q h k) = word-constant q h (e .old c 22 h (omega arith) (omega arith) ∙ k)
+  word-heap n x w w′ e (word-constant {c = c} q h k) = word-constant q h (e .old c fields.constantLevel h (omega arith) (omega arith) ∙ k)
   word-heap n x w w′ e (word-closure m f q b h l k) =
       word-closure m f q b (framed-heap n x w w′ f e h) l (ap (substitutes (argumentsAt (T .numbers) m)) (environment-heap n w w′ f e (h .frame)) ∙ k)
 
@@ -149,15 +151,15 @@ module _ (T : Table) where
   leaf-word n x w a (constant-at c e h) = subst (λ (l : Leaf). WordAt n x w a (leaf l)) (sym (ap (leafOf w) e ∙ constant-leaf w c)) (word-constant {c = c} e h refl)
 
   -- The word of a term's node in a frame.
-  pub node-word : (n x : ℕ) (w : List ℕ) (m f : ℕ) → n ≤ 50000 → TermOf T m → FrameIn n x w f
+  pub node-word : (n x : ℕ) (w : List ℕ) (m f : ℕ) → n ≤ maxBudget → TermOf T m → FrameIn n x w f
       → WordAt n x w (wordOf (T .numbers) w m f) (substitute (termAt (T .numbers) m) (environmentAt w f))
   unfolding wordOf substitute
-  node-word n x w m f b h k = go (eqb (kindOf (T .numbers) m) 0) refl
+  node-word n x w m f b h k = go (eqb (kindOf (T .numbers) m) variableKind) refl
     where
       t : List ℕ
       t = T .numbers
 
-      go : (q : Bool) → eqb (kindOf t m) 0 ≡ q → WordAt n x w (cond q (slotOf w f (labelOf t m)) (closureWord m f)) (substitute (termAt t m) (environmentAt w f))
+      go : (q : Bool) → eqb (kindOf t m) variableKind ≡ q → WordAt n x w (cond q (slotOf w f (labelOf t m)) (closureWord m f)) (substitute (termAt t m) (environmentAt w f))
       go true e =
           let z = eqb-true (kindOf t m) 0 e in
           let l = name-small T m h z in
@@ -174,7 +176,7 @@ module _ (T : Table) where
   word-term n x w (word-variable {y = y} q) = rw (q, tag-is y 1 (omega arith)) (ap leaf (variable-leaf w y))
   word-term n x w (word-constant {c = c} q h k) = rw (q, tag-is c 2 (omega arith)) (ap leaf (constant-leaf w c ∙ ap (con c) k))
   word-term n x w (word-closure m f q b h l k) =
-      rw (q, tag-is (1024 * f + m) 3 (omega arith), node-is m f (node-small T m (b .0)), frame-is m f (node-small T m (b .0)), application-is T m b) (ap₂ app l k)
+      rw (q, tag-is (maxNodes * f + m) 3 (omega arith), node-is m f (node-small T m (b .0)), frame-is m f (node-small T m (b .0)), application-is T m b) (ap₂ app l k)
 
   -- No word is 0.
   pub word-nonzero : {n x : ℕ} {w : List ℕ} {a : ℕ} {t : Term Leaf} → WordAt n x w a t → a ≡ 0 → ⊥

@@ -8,6 +8,8 @@ use lib.Dec.{eqb}
 use lib.ListN.{length, getD}
 use borrow.Author.Tests.{eqb-true, eqb-false, eq-eqb, ne-eqb}
 use Rattle.terms.specs.Lists.{All}
+use Rattle.sheet_format.specs.Limits.{numbersPerUnit}
+use Rattle.machine.specs.Fields as fields
 use Rattle.machine.specs.Records.{field, put, cellOf, levelOf, putCell, putLevel, putEntry}
 use Rattle.machine.specs.Words.{nameOf}
 use Rattle.machine.specs.Trail.{lowerTo, bindTo, oldLevel, effect, undoEntry, undo}
@@ -15,21 +17,21 @@ use Rattle.machine.proofs.Records.{field-agree, There, cell-same, level
 use Rattle.machine.proofs.Heap.{Heap, Grow, heap-refl, heap-trans, heap-low, heap-22, heap-cell, heap-level, heap-both, grow-puts}
 
 -- The writes by a variable's word: what they leave as it was.
-pub heap-lowerTo : (n : ℕ) (w : List ℕ) (a k : ℕ) → Heap 18 n w (lowerTo w a k)
+pub heap-lowerTo : (n : ℕ) (w : List ℕ) (a k : ℕ) → Heap fields.entryLowered n w (lowerTo w a k)
 unfolding lowerTo
 heap-lowerTo n w a k = go (eqb a 0)
   where
-    go : (b : Bool) → Heap 18 n w (cond b w (putLevel w (nameOf a) k))
-    go true = heap-refl 18 n w
+    go : (b : Bool) → Heap fields.entryLowered n w (cond b w (putLevel w (nameOf a) k))
+    go true = heap-refl fields.entryLowered n w
     go false = heap-level n w (nameOf a) k
 
 -- Binding leaves records,
-pub heap-bindTo : (n : ℕ) (w : List ℕ) (a v : ℕ) → Heap 18 n w (bindTo w a v)
+pub heap-bindTo : (n : ℕ) (w : List ℕ) (a v : ℕ) → Heap fields.entryLowered n w (bindTo w a v)
 unfolding bindTo
 heap-bindTo n w a v = go (eqb a 0)
   where
-    go : (b : Bool) → Heap 18 n w (cond b w (putCell w (nameOf a) v))
-    go true = heap-refl 18 n w
+    go : (b : Bool) → Heap fields.entryLowered n w (cond b w (putCell w (nameOf a) v))
+    go true = heap-refl fields.entryLowered n w
     go false = heap-cell n w (nameOf a) v
 
 -- lowering leaves cells,
@@ -88,24 +90,24 @@ undoAll [] w = w
 undoAll (r ∷ rs) w = undoAll rs (undoEntry w r)
 
 -- One entry leaves records,
-heap-undoEntry : (n : ℕ) (w : List ℕ) (r : ℕ) → Heap 18 n w (undoEntry w r)
+heap-undoEntry : (n : ℕ) (w : List ℕ) (r : ℕ) → Heap fields.entryLowered n w (undoEntry w r)
 unfolding undoEntry
 heap-undoEntry n w r =
-    heap-trans 18 n w (bindTo w (field w r 20) 0) (undoEntry w r) (heap-bindTo n w (field w r 20) 0) (heap-lowerTo n (bindTo w (field w r 20) 0) (field w r 18) (field w r 19))
+    heap-trans fields.entryLowered n w (bindTo w (field w r fields.entryBound) 0) (undoEntry w r) (heap-bindTo n w (field w r fields.entryBound) 0) (heap-lowerTo n (bindTo w (field w r fields.entryBound) 0) (field w r fields.entryLowered) (field w r fields.entryLevel))
 
 -- and so do all.
-pub heap-undoAll : (n : ℕ) (rs : List ℕ) (w : List ℕ) → Heap 18 n w (undoAll rs w)
+pub heap-undoAll : (n : ℕ) (rs : List ℕ) (w : List ℕ) → Heap fields.entryLowered n w (undoAll rs w)
 unfolding undoAll
-heap-undoAll n [] w = heap-refl 18 n w
-heap-undoAll n (r ∷ rs) w = heap-trans 18 n w (undoEntry w r) (undoAll rs (undoEntry w r)) (heap-undoEntry n w r) (heap-undoAll n rs (undoEntry w r))
+heap-undoAll n [] w = heap-refl fields.entryLowered n w
+heap-undoAll n (r ∷ rs) w = heap-trans fields.entryLowered n w (undoEntry w r) (undoAll rs (undoEntry w r)) (heap-undoEntry n w r) (heap-undoAll n rs (undoEntry w r))
 
 -- One entry keeps the order of two memories.
 grow-undoEntry : (n k r : ℕ) (w w′ : List ℕ) → r < n → Grow n k w w′ → Grow n k (undoEntry w r) (undoEntry w′ r)
 unfolding undoEntry
 grow-undoEntry n k r w w′ l g =
     let h = g .heap in
-    rw (h .old r 18 l (omega arith) (omega arith), h .old r 19 l (omega arith) (omega arith), h .old r 20 l (omega arith) (omega arith))
-    (grow-lowerTo n k (field w r 18) (field w r 19) (bindTo w (field w r 20) 0) (bindTo w′ (field w r 20) 0) (grow-bindTo n k (field w r 20) 0 w w′ g))
+    rw (h .old r fields.entryLowered l (omega arith) (omega arith), h .old r fields.entryLevel l (omega arith) (omega arith), h .old r fields.entryBound l (omega arith) (omega arith))
+    (grow-lowerTo n k (field w r fields.entryLowered) (field w r fields.entryLevel) (bindTo w (field w r fields.entryBound) 0) (bindTo w′ (field w r fields.entryBound) 0) (grow-bindTo n k (field w r fields.entryBound) 0 w w′ g))
 
 -- two memories in order, the entries of records that both have undone
 pub grow-undoAll : (n k : ℕ) (rs : List ℕ) (w w′ : List ℕ) → All (λ r. r < n) rs → Grow n k w w′ → Grow n k (undoAll rs w) (undoAll rs w′)
@@ -116,28 +118,28 @@ grow-undoAll n k (r ∷ rs) w w′ l g = grow-undoAll n k rs (undoEntry w r) (un
 -- An entry
 
 -- Its fields are written in a row.
-entry-is : (w : List ℕ) (u z k y h : ℕ) → putEntry w u z k y h ≡ puts (z ∷ k ∷ y ∷ h ∷ []) w u 18
+entry-is : (w : List ℕ) (u z k y h : ℕ) → putEntry w u z k y h ≡ puts (z ∷ k ∷ y ∷ h ∷ []) w u fields.entryLowered
 unfolding putEntry puts
 entry-is w u z k y h = refl
 
 -- It leaves older records.
 pub grow-entry : (n k : ℕ) (w : List ℕ) (u z i y h : ℕ) → n ≤ u → Grow n k w (putEntry w u z i y h)
-grow-entry n k w u z i y h l = rw (entry-is w u z i y h) (grow-puts (z ∷ i ∷ y ∷ h ∷ []) w n k u 18 l (omega arith) (omega arith))
+grow-entry n k w u z i y h l = rw (entry-is w u z i y h) (grow-puts (z ∷ i ∷ y ∷ h ∷ []) w n k u fields.entryLowered l (omega arith) (omega arith))
 
 -- its four fields
-entry-at : (w : List ℕ) (u z k y h i : ℕ) → 64 * u + 63 < length w → i < 4 → field (putEntry w u z k y h) u (18 + i) ≡ getD (z ∷ k ∷ y ∷ h ∷ []) i 0
-entry-at w u z k y h i l b = rw (entry-is w u z k y h) (puts-at (z ∷ k ∷ y ∷ h ∷ []) w u 18 i (omega arith) l b)
+entry-at : (w : List ℕ) (u z k y h i : ℕ) → numbersPerUnit * u + 63 < length w → i < 4 → field (putEntry w u z k y h) u (fields.entryLowered + i) ≡ getD (z ∷ k ∷ y ∷ h ∷ []) i 0
+entry-at w u z k y h i l b = rw (entry-is w u z k y h) (puts-at (z ∷ k ∷ y ∷ h ∷ []) w u fields.entryLowered i (omega arith) l b)
 
 -- it lies below all that is read back as data, in its own record too
-heap-entry : (n : ℕ) (w : List ℕ) (u z k y h : ℕ) → Heap 22 n w (putEntry w u z k y h)
+heap-entry : (n : ℕ) (w : List ℕ) (u z k y h : ℕ) → Heap fields.constantLevel n w (putEntry w u z k y h)
 unfolding putEntry
 heap-entry n w u z k y h =
-    let a = put w u 18 z in
-    let b = put a u 19 k in
-    let c = put b u 20 y in
-    let d = put c u 21 h in
-    heap-trans 22 n w a d (heap-low 22 n w u 18 z (omega arith) (omega arith))
-    (heap-trans 22 n a b d (heap-low 22 n a u 19 k (omega arith) (omega arith)) (heap-trans 22 n b c d (heap-low 22 n b u 20 y (omega arith) (omega arith)) (heap-low 22 n c u 21 h (omega arith) (omega arith))))
+    let a = put w u fields.entryLowered z in
+    let b = put a u fields.entryLevel k in
+    let c = put b u fields.entryBound y in
+    let d = put c u fields.entryBefore h in
+    heap-trans fields.constantLevel n w a d (heap-low fields.constantLevel n w u fields.entryLowered z (omega arith) (omega arith))
+    (heap-trans fields.constantLevel n a b d (heap-low fields.constantLevel n a u fields.entryLevel k (omega arith) (omega arith)) (heap-trans fields.constantLevel n b c d (heap-low fields.constantLevel n b u fields.entryBound y (omega arith) (omega arith)) (heap-low fields.constantLevel n c u fields.entryBefore h (omega arith) (omega arith))))
 
 -- The word of a variable whose place is in memory, or 0; one that is unbound besides.
 abbrev pub LowerAt : ℕ → List ℕ → Type 0
@@ -178,25 +180,25 @@ level-back z i x w v f e h = go (eqb z 0) f h (eqb x (nameOf z)) refl
 -- An act that lowers and binds
 
 -- Older records stay.
-pub heap-effect : (n : ℕ) (w : List ℕ) (u z i y a h : ℕ) → n ≤ u → Heap 18 n w (effect w u z i y a h)
+pub heap-effect : (n : ℕ) (w : List ℕ) (u z i y a h : ℕ) → n ≤ u → Heap fields.entryLowered n w (effect w u z i y a h)
 unfolding effect
 heap-effect n w u z i y a h l =
     let w₁ = lowerTo w z i in
     let w₂ = bindTo w₁ y a in
-    heap-trans 18 n w w₁ (effect w u z i y a h) (heap-lowerTo n w z i)
-    (heap-trans 18 n w₁ w₂ (effect w u z i y a h) (heap-bindTo n w₁ y a) (grow-entry n 0 w₂ u z (oldLevel w z) y h l .heap))
+    heap-trans fields.entryLowered n w w₁ (effect w u z i y a h) (heap-lowerTo n w z i)
+    (heap-trans fields.entryLowered n w₁ w₂ (effect w u z i y a h) (heap-bindTo n w₁ y a) (grow-entry n 0 w₂ u z (oldLevel w z) y h l .heap))
 
 -- what is read back as data stays in every record
-pub heap-effect-22 : (n : ℕ) (w : List ℕ) (u z i y a h : ℕ) → Heap 22 n w (effect w u z i y a h)
+pub heap-effect-22 : (n : ℕ) (w : List ℕ) (u z i y a h : ℕ) → Heap fields.constantLevel n w (effect w u z i y a h)
 unfolding effect
 heap-effect-22 n w u z i y a h =
     let w₁ = lowerTo w z i in
     let w₂ = bindTo w₁ y a in
-    heap-trans 22 n w w₁ (effect w u z i y a h) (heap-22 n w w₁ (heap-lowerTo n w z i))
-    (heap-trans 22 n w₁ w₂ (effect w u z i y a h) (heap-22 n w₁ w₂ (heap-bindTo n w₁ y a)) (heap-entry n w₂ u z (oldLevel w z) y h))
+    heap-trans fields.constantLevel n w w₁ (effect w u z i y a h) (heap-22 n w w₁ (heap-lowerTo n w z i))
+    (heap-trans fields.constantLevel n w₁ w₂ (effect w u z i y a h) (heap-22 n w₁ w₂ (heap-bindTo n w₁ y a)) (heap-entry n w₂ u z (oldLevel w z) y h))
 
 -- the entry before it
-pub effect-before : (w : List ℕ) (u z i y a h : ℕ) → 64 * u + 63 < length w → field (effect w u z i y a h) u 21 ≡ h
+pub effect-before : (w : List ℕ) (u z i y a h : ℕ) → numbersPerUnit * u + 63 < length w → field (effect w u z i y a h) u fields.entryBefore ≡ h
 unfolding effect
 effect-before w u z i y a h l =
     let w₁ = lowerTo w z i in
@@ -206,7 +208,7 @@ effect-before w u z i y a h l =
     entry-at w₂ u z (oldLevel w z) y h 3 (omega arith) (omega arith)
 
 -- Undone, it leaves everything readable as it was.
-pub undo-effect : (n j : ℕ) (w : List ℕ) (u z i y a h : ℕ) → n ≤ u → 64 * u + 63 < length w → LowerAt z w → FreeAt y w → Grow n j w (undoEntry (effect w u z i y a h) u)
+pub undo-effect : (n j : ℕ) (w : List ℕ) (u z i y a h : ℕ) → n ≤ u → numbersPerUnit * u + 63 < length w → LowerAt z w → FreeAt y w → Grow n j w (undoEntry (effect w u z i y a h) u)
 unfolding undoEntry effect
 undo-effect n j w u z i y a h l len lz fy =
     let w₁ = lowerTo w z i in
@@ -219,10 +221,10 @@ undo-effect n j w u z i y a h l len lz fy =
     let l₃ = g₃ .heap .len in
     let w₄ = bindTo w₃ y 0 in
     let l₄ = heap-bindTo n w₃ y 0 .len in
-    let e : (i : ℕ) → i < 4 → field w₃ u (18 + i) ≡ getD (z ∷ k ∷ y ∷ h ∷ []) i 0 = λ i b. entry-at w₂ u z k y h i (omega arith) b in
+    let e : (i : ℕ) → i < 4 → field w₃ u (fields.entryLowered + i) ≡ getD (z ∷ k ∷ y ∷ h ∷ []) i 0 = λ i b. entry-at w₂ u z k y h i (omega arith) b in
     rw (e 0 (omega arith), e 1 (omega arith), e 2 (omega arith)) (record {
-      heap = heap-trans 18 n w w₁ (lowerTo w₄ z k) (heap-lowerTo n w z i)
-          (heap-trans 18 n w₁ w₂ (lowerTo w₄ z k) (heap-bindTo n w₁ y a) (heap-trans 18 n w₂ w₃ (lowerTo w₄ z k) (g₃ .heap) (heap-trans 18 n w₃ w₄ (lowerTo w₄ z k) (heap-bindTo n w₃ y 0) (heap-lowerTo n w₄ z k))));
+      heap = heap-trans fields.entryLowered n w w₁ (lowerTo w₄ z k) (heap-lowerTo n w z i)
+          (heap-trans fields.entryLowered n w₁ w₂ (lowerTo w₄ z k) (heap-bindTo n w₁ y a) (heap-trans fields.entryLowered n w₂ w₃ (lowerTo w₄ z k) (g₃ .heap) (heap-trans fields.entryLowered n w₃ w₄ (lowerTo w₄ z k) (heap-bindTo n w₃ y 0) (heap-lowerTo n w₄ z k))));
       cells = λ x b.
           cell-lowerTo w₄ z k x
           ∙ cell-back y a x w₁ w₃ (λ q. (cell-lowerTo w z i (nameOf y) ∙ fy q .0, let m = fy q .1 in omega arith)) (omega arith) (λ x. grow-entry n (suc x) w₂ u z k y h l .cells x (omega arith))
@@ -236,14 +238,14 @@ undo-effect n j w u z i y a h l len lz fy =
 -- The trail from head h down to the mark, linked through field 21: newer entries in later records.
 unfoldable pub Chain : List ℕ → List ℕ → ℕ → ℕ → Type 0
 Chain [] w h mark = h ≡ mark
-Chain (r ∷ rs) w h mark = (h ≡ suc r) × (mark ≤ r) × (field w r 21 ≤ r) × Chain rs w (field w r 21) mark
+Chain (r ∷ rs) w h mark = (h ≡ suc r) × (mark ≤ r) × (field w r fields.entryBefore ≤ r) × Chain rs w (field w r fields.entryBefore) mark
 
 -- It stays.
-pub chain-heap : (n : ℕ) (rs : List ℕ) (w w′ : List ℕ) (h mark : ℕ) → All (λ r. r < n) rs → Heap 18 n w w′ → Chain rs w h mark → Chain rs w′ h mark
+pub chain-heap : (n : ℕ) (rs : List ℕ) (w w′ : List ℕ) (h mark : ℕ) → All (λ r. r < n) rs → Heap fields.entryLowered n w w′ → Chain rs w h mark → Chain rs w′ h mark
 unfolding Chain
 chain-heap n [] w w′ h mark l g c = c
 chain-heap n (r ∷ rs) w w′ h mark l g c =
-    rw (g .old r 21 (l .0) (omega arith) (omega arith)) (c .0, c .1, c .2, chain-heap n rs w w′ (field w r 21) mark (l .1) g (c .3))
+    rw (g .old r fields.entryBefore (l .0) (omega arith) (omega arith)) (c .0, c .1, c .2, chain-heap n rs w w′ (field w r fields.entryBefore) mark (l .1) g (c .3))
 
 -- The mark is not above the head.
 pub chain-le : (rs : List ℕ) (w : List ℕ) (h mark : ℕ) → Chain rs w h mark → mark ≤ h
@@ -263,4 +265,4 @@ undo-chain (r ∷ rs) n (suc f) w h mark a l c =
     let b = c .2 in
     let p : h - 1 ≡ r = omega arith in
     rw (undo, ne-eqb h mark (λ z. omega arith), p)
-    (undo-chain rs n f (undoEntry w r) (field w r 21) mark (a .1) (omega arith) (chain-heap n rs w (undoEntry w r) (field w r 21) mark (a .1) (heap-undoEntry n w r) (c .3)))
+    (undo-chain rs n f (undoEntry w r) (field w r fields.entryBefore) mark (a .1) (omega arith) (chain-heap n rs w (undoEntry w r) (field w r fields.entryBefore) mark (a .1) (heap-undoEntry n w r) (c .3)))

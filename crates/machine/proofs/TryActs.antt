@@ -14,7 +14,8 @@ use Rattle.unification.specs.Promises.{Formed}
 use Rattle.search.specs.Configurations.{Branch, branch, Atom, Configuration, try}
 use Rattle.search.specs.Steps as level1
 use Rattle.search.proofs.Invariant.{EnvironmentBelow}
-use Rattle.node_table.specs.Layout.{kindOf, labelOf}
+use Rattle.sheet_format.specs.Limits.{maxBudget, maxNodes, numbersPerUnit}
+use Rattle.node_table.specs.Layout.{kindOf, labelOf, atomKind}
 use Rattle.node_table.specs.Decoding.{argumentsAt}
 use Rattle.node_table.proofs.Decoding.{goal-atom}
 use Rattle.machine.specs.declared.Registers.{Registers}
@@ -49,7 +50,7 @@ pub append-assoc : {A : Type 0} (x y z : List A) → (x ++ y) ++ z ≡ x ++ (y +
 append-assoc [] y z = refl
 append-assoc (a ∷ x) y z = ap (a ∷_) (append-assoc x y z)
 
-module _ (T : Table) (w : List ℕ) (r : Registers) (b : Branch) (ds : List Configuration) (room : 64 * suc (r .acts) ≤ length w) (small : r .acts < 50000) where
+module _ (T : Table) (w : List ℕ) (r : Registers) (b : Branch) (ds : List Configuration) (room : numbersPerUnit * suc (r .acts) ≤ length w) (small : r .acts < maxBudget) where
   -- The table.
   abbrev t : List ℕ
   t = T .numbers
@@ -105,7 +106,7 @@ module _ (T : Table) (w : List ℕ) (r : Registers) (b : Branch) (ds : List Conf
       let N = next-is T w r in
       let p = f .place in
       let l = f .low in
-      let m = findMember 1024 t (clauseOf t w r) (r .member) in
+      let m = findMember maxNodes t (clauseOf t w r) (r .member) in
       let Q : nextMember t w r ≡ onMember r (N .0) (N .1) (N .2) (suc (r .place)) = N .3 ∙ ap (onMember r (N .0) (N .1) (N .2)) (up-small (r .place) (omega arith)) in
       let X : x ≡ entry (environmentAt w (clauseFrame w r)) (memberOf T m) = head-is x (entry (environmentAt w (clauseFrame w r)) (memberOf T m)) xs (F .others) (F .are) in
       let Y : xs ≡ F .others = tail-is x (entry (environmentAt w (clauseFrame w r)) (memberOf T m)) xs (F .others) (F .are) in
@@ -117,7 +118,7 @@ module _ (T : Table) (w : List ℕ) (r : Registers) (b : Branch) (ds : List Conf
       subst (λ (y : Entry Leaf). R y xs) (sym X) (subst (λ (ys : List (Entry Leaf)). R (entry (environmentAt w (clauseFrame w r)) (memberOf T m)) ys) (sym Y) base)
 
   -- Taking an atom.
-  pub take-atom : (s : Store) (g : Sequent Leaf) → kindOf (T .numbers) (r .node) ≡ 2 → SequentAt T (r .acts) w (r .node) (r .frame) (r .program) (r .level) g → EnvironmentBelow (s .next) (g .environment) → BranchAt T (r .acts) (s .next) w (r .goals) (r .path) (r .line) b
+  pub take-atom : (s : Store) (g : Sequent Leaf) → kindOf (T .numbers) (r .node) ≡ atomKind → SequentAt T (r .acts) w (r .node) (r .frame) (r .program) (r .level) g → EnvironmentBelow (s .next) (g .environment) → BranchAt T (r .acts) (s .next) w (r .goals) (r .path) (r .line) b
       → SharedAt T (r .acts) w (r .next) (r .trail) (r .choice) s ds
       → ResultAt T (suc (r .acts)) (takeAtom (T .clauses) w r) (level1.takeGoal (r .acts) s (g .goal) (g .environment) (g .program) (g .level) b ++ ds)
   unfolding takeAtom level1.takeGoal onMember

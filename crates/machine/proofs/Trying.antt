@@ -18,11 +18,12 @@ use Rattle.search.specs.Configurations.{Branch, branch, Atom, Configuration, tr
 use Rattle.search.specs.Steps.{settle}
 use Rattle.search.specs.Steps as level1
 use Rattle.search.proofs.Invariant.{EnvironmentBelow, prefix-below}
-use Rattle.node_table.specs.Layout.{kindOf, labelOf, childOf, membersOf}
+use Rattle.node_table.specs.Layout.{kindOf, labelOf, childOf, membersOf, impliesKind}
 use Rattle.node_table.specs.Decoding.{argumentsAt, goalAt}
 use Rattle.machine.specs.declared.Registers.{Registers}
 use Rattle.machine.specs.declared.Found.{Found}
-use Rattle.machine.specs.Records.{field, Made, made, putGoal, putPath, putUse, putChoice, putChosen, putPosition, putPairs}
+use Rattle.machine.specs.Fields as fields
+use Rattle.machine.specs.Records.{field, Made, made, putGoal, putPath, putUse, putChoice, putChosen, putPosition, putPairs, clauseLine, tryMode}
 use Rattle.machine.specs.Changes.{onMode, onNext, onTrail, onChoice, onGoals, onPath, onGoal, onMember}
 use Rattle.machine.specs.Words.{narrow, up, environmentAt}
 use Rattle.machine.specs.Frames.{copyFrame, putFresh}
@@ -64,7 +65,7 @@ module _ (T : Table) where
   try-from n w r s a es k b ds (none-left e z) at p l m br sh = rw (e, z) (failed-result T n (s .next) w r ds (sh .trail) (sh .alternatives))
   try-from n w r s a [] k b ds (some-left e p) at pl l m br sh = let f = position-first T n w r [] p in absurd (not-empty _ (f .others) (f .are))
   try-from n w r s a (x ∷ xs) k b ds (some-left e p) at pl l m br sh = rw e (record {
-    front = record { mode = refl; atom = at; position = position-same T n w r (onMode r 1) (x ∷ xs) refl refl refl p; place = pl; first = l; low = m; branch = br };
+    front = record { mode = refl; atom = at; position = position-same T n w r (onMode r tryMode) (x ∷ xs) refl refl refl p; place = pl; first = l; low = m; branch = br };
     shared = sh;
   })
 
@@ -77,10 +78,10 @@ module _ (T : Table) where
       q = onMember r (r .hypothesis) (r .clause) (up (r .member)) (up (r .place))
 
       go : (b c : Bool) → (h : ℕ) × (i : ℕ) × (k : ℕ)
-          × (cond b q (cond c (onMember r 0 (up (r .clause)) 0 (up (r .place))) (onMember r (field w (r .hypothesis - 1) 38) 0 0 (up (r .place)))) ≡ onMember r h i k (up (r .place)))
+          × (cond b q (cond c (onMember r 0 (up (r .clause)) 0 (up (r .place))) (onMember r (field w (r .hypothesis - 1) fields.assumptionNext) 0 0 (up (r .place)))) ≡ onMember r h i k (up (r .place)))
       go true c = (r .hypothesis, r .clause, up (r .member), refl)
       go false true = (0, up (r .clause), 0, refl)
-      go false false = (field w (r .hypothesis - 1) 38, 0, 0, refl)
+      go false false = (field w (r .hypothesis - 1) fields.assumptionNext, 0, 0, refl)
 
 -- Names and fresh variables.
 variables-are : (l : List ℕ) (x : ℕ) → variablesFrom (length l) x ≡ freshVariables l x
@@ -182,17 +183,17 @@ module _ (w : List ℕ) (u p l k n x : ℕ) (c : Bool) (l₂ : List ℕ) (d : Bo
       puts-out l₄ a₃ u 57 u (43 + i) (omega arith) (omega arith) (inl (omega arith)) ∙ if-out d l₃ a₂ u 31 u (43 + i) (omega arith) (omega arith) (inr (omega arith)) ∙ if-at c l₂ a₁ u 43 i e (omega arith) (omega arith) (omega arith)
 
   -- the number of variables
-  next-left : c ≡ false → field a₄ u 43 ≡ x
+  next-left : c ≡ false → field a₄ u fields.variables ≡ x
   unfolding putsIf
   next-left e =
       puts-out l₄ a₃ u 57 u 43 (omega arith) (omega arith) (inl (omega arith)) ∙ if-out d l₃ a₂ u 31 u 43 (omega arith) (omega arith) (inr (omega arith))
-      ∙ ap (λ (b : Bool). field (putsIf b l₂ a₁ u 43) u 43) e ∙ puts-at l₁ w u 39 4 (omega arith) (omega arith) (omega arith)
+      ∙ ap (λ (b : Bool). field (putsIf b l₂ a₁ u 43) u fields.variables) e ∙ puts-at l₁ w u 39 4 (omega arith) (omega arith) (omega arith)
 
   -- either way
-  next-at : field a₄ u 43 ≡ x
+  next-at : field a₄ u fields.variables ≡ x
   next-at = go c refl
     where
-      go : (b : Bool) → c ≡ b → field a₄ u 43 ≡ x
+      go : (b : Bool) → c ≡ b → field a₄ u fields.variables ≡ x
       go true e = choice-at e 0 (omega arith) ∙ h₂
       go false e = next-left e
 
@@ -260,15 +261,15 @@ module _ (T : Table) (w : List ℕ) (r : Registers) (s : Store) (a : Atom) (k : 
 
   -- the goals: the body, then those of before
   body-waits : (w′ : List ℕ) → Heap 22 (r .acts) w w′ → FrameMade w′ (r .acts) env
-      → (eqb (kindOf (T .numbers) (m .leaf)) 6 ≡ true → (i : ℕ) → i < 5 → field w′ (r .acts) (31 + i) ≡ getD (childOf (T .numbers) (m .leaf) 0 ∷ suc (r .acts) ∷ r .program ∷ r .level ∷ r .goals ∷ []) i 0)
-      → GoalsAt T (suc (r .acts)) (bodySequent (bodyOf T (m .leaf)) env (a .program) (a .level) ++ b .goals) w′ (cond (eqb (kindOf (T .numbers) (m .leaf)) 6) (suc (r .acts)) (r .goals))
+      → (eqb (kindOf (T .numbers) (m .leaf)) impliesKind ≡ true → (i : ℕ) → i < 5 → field w′ (r .acts) (31 + i) ≡ getD (childOf (T .numbers) (m .leaf) 0 ∷ suc (r .acts) ∷ r .program ∷ r .level ∷ r .goals ∷ []) i 0)
+      → GoalsAt T (suc (r .acts)) (bodySequent (bodyOf T (m .leaf)) env (a .program) (a .level) ++ b .goals) w′ (cond (eqb (kindOf (T .numbers) (m .leaf)) impliesKind) (suc (r .acts)) (r .goals))
   unfolding bodyOf bodySequent GoalsAt
-  body-waits w′ e M f = go (eqb (kindOf t (m .leaf)) 6) refl f
+  body-waits w′ e M f = go (eqb (kindOf t (m .leaf)) impliesKind) refl f
     where
       before : GoalsAt T (suc (r .acts)) (b .goals) w′ (r .goals)
       before = goals-up T u (b .goals) w′ (r .goals) (goals-heap T u (b .goals) w w′ (r .goals) e (branch₀ .waiting))
 
-      go : (d : Bool) → eqb (kindOf t (m .leaf)) 6 ≡ d → (d ≡ true → (i : ℕ) → i < 5 → field w′ (r .acts) (31 + i) ≡ getD (childOf t (m .leaf) 0 ∷ suc (r .acts) ∷ r .program ∷ r .level ∷ r .goals ∷ []) i 0)
+      go : (d : Bool) → eqb (kindOf t (m .leaf)) impliesKind ≡ d → (d ≡ true → (i : ℕ) → i < 5 → field w′ (r .acts) (31 + i) ≡ getD (childOf t (m .leaf) 0 ∷ suc (r .acts) ∷ r .program ∷ r .level ∷ r .goals ∷ []) i 0)
           → GoalsAt T (suc (r .acts)) (bodySequent (cond d (some (goalAt t (childOf t (m .leaf) 0))) none) env (a .program) (a .level) ++ b .goals) w′ (cond d (suc (r .acts)) (r .goals))
       go true z f =
           let k = eqb-true (kindOf t (m .leaf)) 6 z in
@@ -302,17 +303,17 @@ module _ (T : Table) (w : List ℕ) (r : Registers) (s : Store) (a : Atom) (k : 
 
   -- The result, over memories given by equations.
   try-held : (w₁ w₂ w′ : List ℕ) → w₁ ≡ copyFrame 8 w (r .acts) (clauseFrame w r) 0 → w₂ ≡ putFresh (m .count) w₁ (r .acts) (m .names) (s .next) (a .level)
-      → w′ ≡ puts (r .node ∷ r .frame ∷ headOf (T .numbers) (m .leaf) ∷ suc (r .acts) ∷ 0 ∷ []) (putsIf (eqb (kindOf (T .numbers) (m .leaf)) 6) (childOf (T .numbers) (m .leaf) 0 ∷ suc (r .acts) ∷ r .program ∷ r .level ∷ r .goals ∷ [])
+      → w′ ≡ puts (r .node ∷ r .frame ∷ headOf (T .numbers) (m .leaf) ∷ suc (r .acts) ∷ 0 ∷ []) (putsIf (eqb (kindOf (T .numbers) (m .leaf)) impliesKind) (childOf (T .numbers) (m .leaf) 0 ∷ suc (r .acts) ∷ r .program ∷ r .level ∷ r .goals ∷ [])
       (putsIf (membersLeft (T .clauses) (onMember r h i j (suc (r .place)))) (saved (onMember r h i j (suc (r .place)))) (puts (r .path ∷ r .line ∷ r .place ∷ m .count ∷ s .next ∷ []) w₂ (r .acts) 39) (r .acts) 43) (r .acts) 31) (r .acts) 57
-      → ResultAt T (suc (r .acts)) (made w′ (duePairs w′ (onGoals (onChoice (onNext (onPath r (suc (r .acts)) 7) (s .next + m .count)) (cond (membersLeft (T .clauses) (onMember r h i j (suc (r .place)))) (suc (r .acts)) (r .choice)))
-      (cond (eqb (kindOf (T .numbers) (m .leaf)) 6) (suc (r .acts)) (r .goals))) (pairsFrom (T .numbers) w′ (suc (r .acts)) 0)))
+      → ResultAt T (suc (r .acts)) (made w′ (duePairs w′ (onGoals (onChoice (onNext (onPath r (suc (r .acts)) clauseLine) (s .next + m .count)) (cond (membersLeft (T .clauses) (onMember r h i j (suc (r .place)))) (suc (r .acts)) (r .choice)))
+      (cond (eqb (kindOf (T .numbers) (m .leaf)) impliesKind) (suc (r .acts)) (r .goals))) (pairsFrom (T .numbers) w′ (suc (r .acts)) 0)))
       (settle (comparing (fresh (digits (m .count) (m .names)) (a .level) s) (pushPairs (a .arguments) (substitutes (argumentsAt (T .numbers) (headOf (T .numbers) (m .leaf))) env) []))
       (branch (bodySequent (bodyOf T (m .leaf)) env (a .program) (a .level) ++ b .goals) (Dclause k (freshVariables (digits (m .count) (m .names)) (s .next)) ∷ b .path))
       ++ (level1.tryFrom s a others (suc k) b ++ ds))
   unfolding onGoals onChoice onNext onPath lineAt PairsAt fresh
   try-held w₁ w₂ w′ z₁ z₂ z =
       let x = s .next in
-      let d = eqb (kindOf t (m .leaf)) 6 in
+      let d = eqb (kindOf t (m .leaf)) impliesKind in
       let c = membersLeft (T .clauses) q in
       let hd = headOf t (m .leaf) in
       let l₂ = saved q in
@@ -334,7 +335,7 @@ module _ (T : Table) (w : List ℕ) (r : Registers) (s : Store) (a : Atom) (k : 
       let fr : SameFrames w₂ w′ = rw z (try-same w₂ u (r .path) (r .line) (r .place) (m .count) x c l₂ d l₃ l₄ room₂ n₂ h₂ refl refl) in
       let M : FrameMade w′ u env = made-same w₂ w′ u env fr (F .frame) in
       let pa : (n : ℕ) → n < 4 → field w′ u (39 + n) ≡ getD (r .path ∷ r .line ∷ r .place ∷ m .count ∷ x ∷ []) n 0 = λ n b. rw z (path-at w₂ u (r .path) (r .line) (r .place) (m .count) x c l₂ d l₃ l₄ room₂ n₂ h₂ refl refl n b) in
-      let na : field w′ u 43 ≡ x = rw z (next-at w₂ u (r .path) (r .line) (r .place) (m .count) x c l₂ d l₃ l₄ room₂ n₂ h₂ refl refl) in
+      let na : field w′ u fields.variables ≡ x = rw z (next-at w₂ u (r .path) (r .line) (r .place) (m .count) x c l₂ d l₃ l₄ room₂ n₂ h₂ refl refl) in
       let ca : c ≡ true → SavedAt w′ u q = λ y n b. rw z (choice-at w₂ u (r .path) (r .line) (r .place) (m .count) x c l₂ d l₃ l₄ room₂ n₂ h₂ refl refl y n b) in
       let ba : d ≡ true → (n : ℕ) → n < 5 → field w′ u (31 + n) ≡ getD l₃ n 0 = λ y n b. rw z (body-at w₂ u (r .path) (r .line) (r .place) (m .count) x c l₂ d l₃ l₄ room₂ n₂ h₂ refl refl y n b) in
       let qa : (n : ℕ) → n < 5 → field w′ u (57 + n) ≡ getD l₄ n 0 = λ n b. rw z (pairs-at w₂ u (r .path) (r .line) (r .place) (m .count) x c l₂ d l₃ l₄ room₂ n₂ h₂ refl refl n b) in
@@ -346,7 +347,7 @@ module _ (T : Table) (w : List ℕ) (r : Registers) (s : Store) (a : Atom) (k : 
       let sh = shared-grow T u w w′ (r .next) (r .trail) (r .choice) s ds gr shared in
       let ln : lineAt w′ u 7 ≡ Dclause k (freshVariables prefix x) =
       ap₂ Dclause (pa 2 (omega arith) ∙ place) (ap₂ variablesFrom (pa 3 (omega arith) ∙ sym (digits-length (m .count) (m .names))) na ∙ variables-are prefix x) in
-      pushed-result T (suc u) w′ (onGoals (onChoice (onNext (onPath r (suc u) 7) (x + m .count)) (cond c (suc u) (r .choice))) (cond d (suc u) (r .goals))) s₂
+      pushed-result T (suc u) w′ (onGoals (onChoice (onNext (onPath r (suc u) clauseLine) (x + m .count)) (cond c (suc u) (r .choice))) (cond d (suc u) (r .goals))) s₂
       (branch (bodySequent (bodyOf T (m .leaf)) env (a .program) (a .level) ++ b .goals) (Dclause k (freshVariables prefix x) ∷ b .path)) (level1.tryFrom s a others (suc k) b ++ ds) _
       (pairsFrom t w′ (suc u) 0)
       (subst (λ (ts : Terms Leaf). Pushed T (suc u) (s₂ .next) w′ (pushPairs ts (substitutes (argumentsAt t hd) env) []) (pairsFrom t w′ (suc u) 0)) (atom .arguments) P)
@@ -367,9 +368,9 @@ module _ (T : Table) (w : List ℕ) (r : Registers) (s : Store) (a : Atom) (k : 
   unfoldable tryOutcome : List ℕ → ℕ → ℕ → ℕ → Registers → Made
   tryOutcome w₂ x n v q′ =
       let w′ =
-      puts (r .node ∷ r .frame ∷ headOf (T .numbers) (m .leaf) ∷ v ∷ 0 ∷ []) (putsIf (eqb (kindOf (T .numbers) (m .leaf)) 6) (childOf (T .numbers) (m .leaf) 0 ∷ v ∷ r .program ∷ r .level ∷ r .goals ∷ [])
+      puts (r .node ∷ r .frame ∷ headOf (T .numbers) (m .leaf) ∷ v ∷ 0 ∷ []) (putsIf (eqb (kindOf (T .numbers) (m .leaf)) impliesKind) (childOf (T .numbers) (m .leaf) 0 ∷ v ∷ r .program ∷ r .level ∷ r .goals ∷ [])
       (putsIf (membersLeft (T .clauses) q′) (saved q′) (puts (r .path ∷ r .line ∷ r .place ∷ m .count ∷ x ∷ []) w₂ (r .acts) 39) (r .acts) 43) (r .acts) 31) (r .acts) 57 in
-      made w′ (duePairs w′ (onGoals (onChoice (onNext (onPath r v 7) n) (cond (membersLeft (T .clauses) q′) v (r .choice))) (cond (eqb (kindOf (T .numbers) (m .leaf)) 6) v (r .goals))) (pairsFrom (T .numbers) w′ v 0))
+      made w′ (duePairs w′ (onGoals (onChoice (onNext (onPath r v clauseLine) n) (cond (membersLeft (T .clauses) q′) v (r .choice))) (cond (eqb (kindOf (T .numbers) (m .leaf)) impliesKind) v (r .goals))) (pairsFrom (T .numbers) w′ v 0))
 
   -- It is what the machine does.
   outcome-is : tryMember (T .numbers) (T .clauses) w r m ≡ tryOutcome (putPrefix w r m) (r .next) (narrow (r .next + m .count)) (up (r .acts)) (nextMember (T .numbers) w r)

@@ -2,6 +2,7 @@
 use Prim.Native.Nat.{ℕ, suc, _+_, _-_, _*_, _/_, _%_, _≤_, _<_}
 use native.Mathlib.Omega.{arith}
 use mathlib.Core.Path.{_≡_, ap, _∙_}
+use Rattle.sheet_format.specs.Limits.{maxBudget, maxNodes}
 use Rattle.machine.specs.Words.{narrow, up, variableWord, constantWord, closureWord, tagOf, nameOf, nodeOf, frameOf}
 use Rattle.machine.specs.Matching.{placeWord}
 
@@ -21,14 +22,14 @@ unfolding variableWord
 variable-small x h = narrow-small (4 * x + 1) (omega arith)
 
 -- a constant's,
-pub constant-small : (c : ℕ) → c ≤ 50000 → constantWord c ≡ 4 * c + 2
+pub constant-small : (c : ℕ) → c ≤ maxBudget → constantWord c ≡ 4 * c + 2
 unfolding constantWord
 constant-small c h = narrow-small (4 * c + 2) (omega arith)
 
 -- a closure's,
-pub closure-small : (n f : ℕ) → n < 1024 → f ≤ 50001 → closureWord n f ≡ 4 * (1024 * f + n) + 3
+pub closure-small : (n f : ℕ) → n < 1024 → f ≤ 50001 → closureWord n f ≡ 4 * (maxNodes * f + n) + 3
 unfolding closureWord
-closure-small n f h k = narrow-small (4 * (1024 * f + n) + 3) (omega arith)
+closure-small n f h k = narrow-small (4 * (maxNodes * f + n) + 3) (omega arith)
 
 -- a place.
 pub place-small : (p i : ℕ) → p ≤ 50001 → i < 4 → placeWord p i ≡ 4 * p + i
@@ -44,11 +45,11 @@ div4 : (p t : ℕ) → t < 4 → (4 * p + t) / 4 ≡ p
 div4 p t h = omega arith
 
 -- ten bits for a node,
-mod1024 : (p t : ℕ) → t < 1024 → (1024 * p + t) % 1024 ≡ t
+mod1024 : (p t : ℕ) → t < 1024 → (maxNodes * p + t) % 1024 ≡ t
 mod1024 p t h = omega arith
 
 -- the frame above them.
-div1024 : (p t : ℕ) → t < 1024 → (1024 * p + t) / 1024 ≡ p
+div1024 : (p t : ℕ) → t < 1024 → (maxNodes * p + t) / 1024 ≡ p
 div1024 p t h = omega arith
 
 -- The tag,
@@ -62,14 +63,14 @@ unfolding nameOf
 name-is p t h = div4 p t h
 
 -- the node,
-pub node-is : (n f : ℕ) → n < 1024 → nodeOf (4 * (1024 * f + n) + 3) ≡ n
+pub node-is : (n f : ℕ) → n < 1024 → nodeOf (4 * (maxNodes * f + n) + 3) ≡ n
 unfolding nodeOf
-node-is n f h = rw (div4 (1024 * f + n) 3 (omega arith)) (mod1024 f n h)
+node-is n f h = rw (div4 (maxNodes * f + n) 3 (omega arith)) (mod1024 f n h)
 
 -- the frame.
-pub frame-is : (n f : ℕ) → n < 1024 → frameOf (4 * (1024 * f + n) + 3) ≡ f
+pub frame-is : (n f : ℕ) → n < 1024 → frameOf (4 * (maxNodes * f + n) + 3) ≡ f
 unfolding frameOf
-frame-is n f h = rw (div4 (1024 * f + n) 3 (omega arith)) (div1024 f n h)
+frame-is n f h = rw (div4 (maxNodes * f + n) 3 (omega arith)) (div1024 f n h)
 
 -- The same of a word given by an equation.
 pub tag-of : (a p t : ℕ) → t < 4 → a ≡ 4 * p + t → tagOf a ≡ t

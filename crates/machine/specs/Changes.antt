@@ -1,6 +1,7 @@
 -- Changes of the registers, a few at a time.
 use Prim.Native.Nat.{ℕ}
 use Rattle.machine.specs.declared.Registers.{Registers}
+use Rattle.machine.specs.Records.{checkMode, compareMode, takeMode}
 
 -- One more act is done.
 unfoldable pub onActs : Registers → ℕ → Registers
@@ -32,7 +33,7 @@ onPath r p l = record { acts = r .acts; mode = r .mode; next = r .next; trail = 
 
 -- A goal is due.
 unfoldable pub onGoal : Registers → ℕ → ℕ → ℕ → ℕ → Registers
-onGoal r n f h i = record { acts = r .acts; mode = 0; next = r .next; trail = r .trail; choice = r .choice; goals = r .goals; path = r .path; line = r .line; node = n; frame = f; program = h; level = i; hypothesis = r .hypothesis; clause = r .clause; member = r .member; place = r .place; pairs = r .pairs; variable = r .variable; value = r .value; nodes = r .nodes }
+onGoal r n f h i = record { acts = r .acts; mode = takeMode; next = r .next; trail = r .trail; choice = r .choice; goals = r .goals; path = r .path; line = r .line; node = n; frame = f; program = h; level = i; hypothesis = r .hypothesis; clause = r .clause; member = r .member; place = r .place; pairs = r .pairs; variable = r .variable; value = r .value; nodes = r .nodes }
 
 -- The member to try.
 unfoldable pub onMember : Registers → ℕ → ℕ → ℕ → ℕ → Registers
@@ -40,11 +41,11 @@ onMember r h c k p = record { acts = r .acts; mode = r .mode; next = r .next; tr
 
 -- A pair is due.
 unfoldable pub onPairs : Registers → ℕ → Registers
-onPairs r a = record { acts = r .acts; mode = 2; next = r .next; trail = r .trail; choice = r .choice; goals = r .goals; path = r .path; line = r .line; node = r .node; frame = r .frame; program = r .program; level = r .level; hypothesis = r .hypothesis; clause = r .clause; member = r .member; place = r .place; pairs = a; variable = r .variable; value = r .value; nodes = r .nodes }
+onPairs r a = record { acts = r .acts; mode = compareMode; next = r .next; trail = r .trail; choice = r .choice; goals = r .goals; path = r .path; line = r .line; node = r .node; frame = r .frame; program = r .program; level = r .level; hypothesis = r .hypothesis; clause = r .clause; member = r .member; place = r .place; pairs = a; variable = r .variable; value = r .value; nodes = r .nodes }
 
 -- A range check is due, of the value v for the variable x; then the pairs a.
 unfoldable pub onCheck : Registers → ℕ → ℕ → ℕ → Registers
-onCheck r a x v = record { acts = r .acts; mode = 3; next = r .next; trail = r .trail; choice = r .choice; goals = r .goals; path = r .path; line = r .line; node = r .node; frame = r .frame; program = r .program; level = r .level; hypothesis = r .hypothesis; clause = r .clause; member = r .member; place = r .place; pairs = a; variable = x; value = v; nodes = 0 }
+onCheck r a x v = record { acts = r .acts; mode = checkMode; next = r .next; trail = r .trail; choice = r .choice; goals = r .goals; path = r .path; line = r .line; node = r .node; frame = r .frame; program = r .program; level = r .level; hypothesis = r .hypothesis; clause = r .clause; member = r .member; place = r .place; pairs = a; variable = x; value = v; nodes = 0 }
 
 -- The nodes of a range check that wait.
 unfoldable pub onNodes : Registers → ℕ → Registers

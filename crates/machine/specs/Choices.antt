@@ -5,33 +5,34 @@ use mathlib.Core.Bool.{cond}
 use mathlib.Core.List.{List}
 use lib.Dec.{eqb}
 use Rattle.machine.specs.declared.Registers.{Registers}
-use Rattle.machine.specs.Records.{field, put, Made, made, putChoice, putChosen, putPosition}
+use Rattle.machine.specs.Fields as fields
+use Rattle.machine.specs.Records.{field, put, Made, made, putChoice, putChosen, putPosition, noMode, takeMode, tryMode}
 use Rattle.machine.specs.Changes.{onMode, onNext, onTrail, onChoice, onGoals, onPath, onGoal, onMember}
 use Rattle.machine.specs.Trail.{undo}
 
 -- A choice point in record u. Place 0 stands for a goal to take.
 unfoldable pub saveChoice : List ℕ → ℕ → Registers → List ℕ
 saveChoice w u r =
-    putPosition (putChosen (putChoice (put w u 43 (r .next)) u (r .trail) (r .choice) (r .goals) (r .path) (r .line)) u (r .node) (r .frame) (r .program) (r .level)) u
+    putPosition (putChosen (putChoice (put w u fields.variables (r .next)) u (r .trail) (r .choice) (r .goals) (r .path) (r .line)) u (r .node) (r .frame) (r .program) (r .level)) u
     (r .hypothesis) (r .clause) (r .member) (r .place)
 
 -- The registers of the choice point in record q: what it goes on with,
 unfoldable pub resumeGoal : List ℕ → Registers → ℕ → Registers
-resumeGoal w r q = onGoal r (field w q 49) (field w q 50) (field w q 51) (field w q 52)
+resumeGoal w r q = onGoal r (field w q fields.choiceNode) (field w q fields.choiceFrame) (field w q fields.choiceProgram) (field w q fields.choiceLevel)
 
 unfoldable pub resumeMember : List ℕ → Registers → ℕ → Registers
-resumeMember w r q = onMode (onMember r (field w q 53) (field w q 54) (field w q 55) (field w q 56)) (cond (eqb (field w q 56) 0) 0 1)
+resumeMember w r q = onMode (onMember r (field w q fields.choiceHypothesis) (field w q fields.choiceClause) (field w q fields.choiceMember) (field w q fields.choicePlace)) (cond (eqb (field w q fields.choicePlace) 0) takeMode tryMode)
 
 -- the branch, and what was open before it.
 unfoldable pub resumeBranch : List ℕ → Registers → ℕ → Registers
-resumeBranch w r q = onPath (onGoals (onChoice (onTrail (onNext r (field w q 43)) (field w q 44)) (field w q 45)) (field w q 46)) (field w q 47) (field w q 48)
+resumeBranch w r q = onPath (onGoals (onChoice (onTrail (onNext r (field w q fields.variables)) (field w q fields.choiceTrail)) (field w q fields.choiceBefore)) (field w q fields.choiceGoals)) (field w q fields.choicePath) (field w q fields.choiceLine)
 
 unfoldable pub resume : List ℕ → Registers → ℕ → Registers
 resume w r q = resumeMember w (resumeGoal w (resumeBranch w r q) q) q
 
 unfoldable pub takeUp : List ℕ → Registers → ℕ → Made
-takeUp w r q = made (undo (r .trail) w (r .trail) (field w q 44)) (resume w r q)
+takeUp w r q = made (undo (r .trail) w (r .trail) (field w q fields.choiceTrail)) (resume w r q)
 
 -- Failure: the latest choice point, or no.
 unfoldable pub failed : List ℕ → Registers → Made
-failed w r = cond (eqb (r .choice) 0) (made w (onMode r 5)) (takeUp w r (r .choice - 1))
+failed w r = cond (eqb (r .choice) 0) (made w (onMode r noMode)) (takeUp w r (r .choice - 1))

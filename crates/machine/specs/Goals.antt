@@ -3,9 +3,11 @@ use Prim.Native.Nat.{ℕ, _+_, _-_}
 use mathlib.Core.Bool.{Bool, true, cond}
 use mathlib.Core.List.{List}
 use lib.Dec.{eqb, ltb}
-use Rattle.node_table.specs.Layout.{kindOf, labelOf, childOf}
+use Rattle.sheet_format.specs.Limits.{variableNames}
+use Rattle.node_table.specs.Layout.{kindOf, labelOf, childOf, existsKind, forallKind, impliesKind, orKind, andKind, atomKind}
 use Rattle.machine.specs.declared.Registers.{Registers}
-use Rattle.machine.specs.Records.{field, put, Made, made, putGoal, putAssumption, putPath}
+use Rattle.machine.specs.Fields as fields
+use Rattle.machine.specs.Records.{field, put, Made, made, putGoal, putAssumption, putPath, allLine, someLine, assumeLine, leftLine, rightLine, andLine, trueLine, tryMode, provedMode}
 use Rattle.machine.specs.Changes.{onMode, onNext, onChoice, onGoals, onPath, onGoal, onMember}
 use Rattle.machine.specs.Words.{up, constantWord}
 use Rattle.machine.specs.Frames.{copyFrame, putFresh}
@@ -13,18 +15,18 @@ use Rattle.machine.specs.Choices.{saveChoice, failed}
 
 -- The goal that waits in record q is due.
 unfoldable pub dueGoal : List ℕ → Registers → ℕ → Registers
-dueGoal w r q = onGoal (onGoals r (field w q 35)) (field w q 31) (field w q 32) (field w q 33) (field w q 34)
+dueGoal w r q = onGoal (onGoals r (field w q fields.goalNext)) (field w q fields.goalNode) (field w q fields.goalFrame) (field w q fields.goalProgram) (field w q fields.goalLevel)
 
 -- "Always the front goal is taken"; "An empty list is proved".
 unfoldable pub proceed : List ℕ → Registers → Registers
-proceed w r = cond (eqb (r .goals) 0) (onMode r 4) (dueGoal w r (r .goals - 1))
+proceed w r = cond (eqb (r .goals) 0) (onMode r provedMode) (dueGoal w r (r .goals - 1))
 
 -- The member that the registers name is due, if there is one; c is the number of the sheet's clauses.
 unfoldable pub membersLeft : ℕ → Registers → Bool
 membersLeft c r = cond (eqb (r .hypothesis) 0) (ltb (r .clause) c) true
 
 unfoldable pub tryFrom : ℕ → List ℕ → Registers → Made
-tryFrom c w r = cond (membersLeft c r) (made w (onMode r 1)) (failed w r)
+tryFrom c w r = cond (membersLeft c r) (made w (onMode r tryMode)) (failed w r)
 
 -- "atom: members are tried in turn, assumptions first, latest first, then the sheet's in order."
 unfoldable pub takeAtom : ℕ → List ℕ → Registers → Made
@@ -34,49 +36,49 @@ takeAtom c w r = tryFrom c w (onMember r (r .program) 0 0 1)
 unfoldable pub takeTrue : List ℕ → Registers → Made
 takeTrue w r =
     let w′ = putPath w (r .acts) (r .path) (r .line) in
-    made w′ (proceed w′ (onPath r (up (r .acts)) 0))
+    made w′ (proceed w′ (onPath r (up (r .acts)) trueLine))
 
 -- "&: left, then right."
 unfoldable pub takeAnd : List ℕ → List ℕ → Registers → Made
 takeAnd t w r =
     made (putGoal (putPath w (r .acts) (r .path) (r .line)) (r .acts) (childOf t (r .node) 1) (r .frame) (r .program) (r .level) (r .goals))
-    (onGoal (onGoals (onPath r (up (r .acts)) 1) (up (r .acts))) (childOf t (r .node) 0) (r .frame) (r .program) (r .level))
+    (onGoal (onGoals (onPath r (up (r .acts)) andLine) (up (r .acts))) (childOf t (r .node) 0) (r .frame) (r .program) (r .level))
 
 -- "|: left; right is the alternative."
 unfoldable pub rightBranch : List ℕ → Registers → Registers
-rightBranch t r = onMember (onGoal (onPath r (up (r .acts)) 3) (childOf t (r .node) 1) (r .frame) (r .program) (r .level)) 0 0 0 0
+rightBranch t r = onMember (onGoal (onPath r (up (r .acts)) rightLine) (childOf t (r .node) 1) (r .frame) (r .program) (r .level)) 0 0 0 0
 
 unfoldable pub takeOr : List ℕ → List ℕ → Registers → Made
 takeOr t w r =
     made (saveChoice (putPath w (r .acts) (r .path) (r .line)) (r .acts) (rightBranch t r))
-    (onGoal (onChoice (onPath r (up (r .acts)) 2) (up (r .acts))) (childOf t (r .node) 0) (r .frame) (r .program) (r .level))
+    (onGoal (onChoice (onPath r (up (r .acts)) leftLine) (up (r .acts))) (childOf t (r .node) 0) (r .frame) (r .program) (r .level))
 
 -- ">: the clause is assumed in front of that goal's program."
 unfoldable pub takeImplies : List ℕ → List ℕ → Registers → Made
 takeImplies t w r =
     made (putAssumption (putPath w (r .acts) (r .path) (r .line)) (r .acts) (childOf t (r .node) 0) (r .frame) (r .program))
-    (onGoal (onPath r (up (r .acts)) 4) (childOf t (r .node) 1) (r .frame) (up (r .acts)) (r .level))
+    (onGoal (onPath r (up (r .acts)) assumeLine) (childOf t (r .node) 1) (r .frame) (up (r .acts)) (r .level))
 
 -- "E: a fresh variable of level I."
 unfoldable pub takeExists : List ℕ → List ℕ → Registers → Made
 takeExists t w r =
-    made (put (putPath (putFresh 1 (copyFrame 8 w (r .acts) (r .frame) 0) (r .acts) (labelOf t (r .node)) (r .next) (r .level)) (r .acts) (r .path) (r .line)) (r .acts) 43 (r .next))
-    (onGoal (onNext (onPath r (up (r .acts)) 5) (up (r .next))) (childOf t (r .node) 0) (up (r .acts)) (r .program) (r .level))
+    made (put (putPath (putFresh 1 (copyFrame variableNames w (r .acts) (r .frame) 0) (r .acts) (labelOf t (r .node)) (r .next) (r .level)) (r .acts) (r .path) (r .line)) (r .acts) fields.variables (r .next))
+    (onGoal (onNext (onPath r (up (r .acts)) someLine) (up (r .next))) (childOf t (r .node) 0) (up (r .acts)) (r .program) (r .level))
 
 -- "U: a fresh made constant of level I + 1, and the goal's level rises to that." The constant is named by the act.
 unfoldable pub putConstant : List ℕ → ℕ → ℕ → ℕ → List ℕ
-putConstant w u v i = put (put w u 22 i) u (23 + v) (constantWord u)
+putConstant w u v i = put (put w u fields.constantLevel i) u (fields.frame + v) (constantWord u)
 
 unfoldable pub takeForall : List ℕ → List ℕ → Registers → Made
 takeForall t w r =
-    made (putPath (putConstant (copyFrame 8 w (r .acts) (r .frame) 0) (r .acts) (labelOf t (r .node)) (up (r .level))) (r .acts) (r .path) (r .line))
-    (onGoal (onPath r (up (r .acts)) 6) (childOf t (r .node) 0) (up (r .acts)) (r .program) (up (r .level)))
+    made (putPath (putConstant (copyFrame variableNames w (r .acts) (r .frame) 0) (r .acts) (labelOf t (r .node)) (up (r .level))) (r .acts) (r .path) (r .line))
+    (onGoal (onPath r (up (r .acts)) allLine) (childOf t (r .node) 0) (up (r .acts)) (r .program) (up (r .level)))
 
 -- By the kind of the goal's node.
 unfoldable pub takeGoal : List ℕ → ℕ → List ℕ → Registers → Made
 takeGoal t c w r =
-    cond (eqb (kindOf t (r .node)) 2) (takeAtom c w r)
-    (cond (eqb (kindOf t (r .node)) 4) (takeAnd t w r)
-    (cond (eqb (kindOf t (r .node)) 5) (takeOr t w r)
-    (cond (eqb (kindOf t (r .node)) 6) (takeImplies t w r)
-    (cond (eqb (kindOf t (r .node)) 7) (takeExists t w r) (cond (eqb (kindOf t (r .node)) 8) (takeForall t w r) (takeTrue w r))))))
+    cond (eqb (kindOf t (r .node)) atomKind) (takeAtom c w r)
+    (cond (eqb (kindOf t (r .node)) andKind) (takeAnd t w r)
+    (cond (eqb (kindOf t (r .node)) orKind) (takeOr t w r)
+    (cond (eqb (kindOf t (r .node)) impliesKind) (takeImplies t w r)
+    (cond (eqb (kindOf t (r .node)) existsKind) (takeExists t w r) (cond (eqb (kindOf t (r .node)) forallKind) (takeForall t w r) (takeTrue w r))))))

@@ -3,8 +3,9 @@ use Prim.Native.Nat.{ℕ, zero, suc}
 use mathlib.Core.Bool.{true, false, cond}
 use mathlib.Core.List.{List}
 use lib.Dec.{eqb, ltb}
+use Rattle.sheet_format.specs.Limits.{variableNames}
 use Rattle.machine.specs.declared.Registers.{Registers}
-use Rattle.machine.specs.Records.{Made, made}
+use Rattle.machine.specs.Records.{Made, made, takeMode, provedMode, tryMode, compareMode}
 use Rattle.machine.specs.Changes.{onActs}
 use Rattle.machine.specs.Words.{up}
 use Rattle.machine.specs.Frames.{putVariables}
@@ -15,8 +16,8 @@ use Rattle.machine.specs.Trying.{tryNext}
 -- The act that is due: t is the table, c the number of the sheet's clauses.
 unfoldable pub dueAct : List ℕ → ℕ → List ℕ → Registers → Made
 dueAct t c w r =
-    cond (eqb (r .mode) 0) (takeGoal t c w r)
-    (cond (eqb (r .mode) 1) (tryNext t c w r) (cond (eqb (r .mode) 2) (comparePair t w r) (checkNode t w r)))
+    cond (eqb (r .mode) takeMode) (takeGoal t c w r)
+    (cond (eqb (r .mode) tryMode) (tryNext t c w r) (cond (eqb (r .mode) compareMode) (comparePair t w r) (checkNode t w r)))
 
 -- "Each of these four acts takes one unit".
 unfoldable pub act : List ℕ → ℕ → List ℕ → Registers → Made
@@ -27,17 +28,17 @@ act t c w r =
 -- At most n acts: while one is due.
 unfoldable pub run : ℕ → List ℕ → ℕ → List ℕ → Registers → Made
 run zero t c w r = made w r
-run (suc n) t c w r = elim (ltb (r .mode) 4) [ true ↦ run n t c (act t c w r .memory) (act t c w r .registers) | false ↦ made w r ]
+run (suc n) t c w r = elim (ltb (r .mode) provedMode) [ true ↦ run n t c (act t c w r .memory) (act t c w r .registers) | false ↦ made w r ]
 
 -- The start: the eight variables of the goal's names are made, the goal is due.
 unfoldable pub startMemory : List ℕ → List ℕ
-startMemory w = putVariables 8 w 0
+startMemory w = putVariables variableNames w 0
 
 unfoldable pub startRegisters : ℕ → Registers
 startRegisters goal = record {
   acts = 0;
-  mode = 0;
-  next = 8;
+  mode = takeMode;
+  next = variableNames;
   trail = 0;
   choice = 0;
   goals = 0;

@@ -5,28 +5,30 @@ use Prim.Native.Nat.{ℕ, _+_, _-_, _*_, _/_, _%_, min}
 use mathlib.Core.Bool.{cond}
 use mathlib.Core.List.{List}
 use lib.Dec.{eqb, ltb, leb}
+use Rattle.sheet_format.specs.Limits.{maxArity}
 use Rattle.node_table.specs.Layout.{childCount, labelOf, childOf}
 use Rattle.machine.specs.declared.Registers.{Registers}
+use Rattle.machine.specs.Fields as fields
 use Rattle.machine.specs.Records.{field, levelOf, Made, made, putPairs, putNodes}
 use Rattle.machine.specs.Changes.{onTrail, onPairs, onCheck, onNodes}
-use Rattle.machine.specs.Words.{narrow, up, tagOf, nameOf, nodeOf, frameOf, wordOf, lookWord}
+use Rattle.machine.specs.Words.{narrow, up, tagOf, nameOf, nodeOf, frameOf, wordOf, lookWord, variableTag, constantTag}
 use Rattle.machine.specs.Trail.{effect}
 use Rattle.machine.specs.Choices.{failed}
 use Rattle.machine.specs.Goals.{proceed}
 
 unfoldable pub placeWord : ℕ → ℕ → ℕ
-placeWord p i = narrow (4 * p + i)
+placeWord p i = narrow (maxArity * p + i)
 
 -- The place of argument i in the record of pointer p, if it has one; else what comes after the record.
 unfoldable pub pairsFrom : List ℕ → List ℕ → ℕ → ℕ → ℕ
-pairsFrom t w p i = cond (ltb i (childCount t (field w (p - 1) 57))) (placeWord p i) (field w (p - 1) 61)
+pairsFrom t w p i = cond (ltb i (childCount t (field w (p - 1) fields.goalSideNode))) (placeWord p i) (field w (p - 1) fields.pairsAfter)
 
 unfoldable pub nodesFrom : List ℕ → List ℕ → ℕ → ℕ → ℕ
-nodesFrom t w p i = cond (ltb i (childCount t (field w (p - 1) 57))) (placeWord p i) (field w (p - 1) 59)
+nodesFrom t w p i = cond (ltb i (childCount t (field w (p - 1) fields.waitingNode))) (placeWord p i) (field w (p - 1) fields.waitingAfter)
 
 -- The argument at a place: f is the field of the node, the frame is in the next one.
 unfoldable pub argumentWord : List ℕ → List ℕ → ℕ → ℕ → ℕ
-argumentWord t w a f = wordOf t w (childOf t (field w (a / 4 - 1) f) (a % 4)) (field w (a / 4 - 1) (f + 1))
+argumentWord t w a f = wordOf t w (childOf t (field w (a / maxArity - 1) f) (a % maxArity)) (field w (a / maxArity - 1) (f + 1))
 
 -- The pairs at place a are due; where none is left, the next goal.
 unfoldable pub duePairs : List ℕ → Registers → ℕ → Registers
@@ -47,15 +49,15 @@ compareLeaves w r e x y = cond (eqb x y) (made w (duePairs w r e)) (failed w r)
 -- "Goal side a variable: range check the other side, then bind. Else clause side a variable: likewise." Both are looked through.
 unfoldable pub compareWords : List ℕ → List ℕ → Registers → ℕ → ℕ → ℕ → Made
 compareWords t w r e x y =
-    cond (eqb (tagOf x) 1) (cond (eqb x y) (made w (duePairs w r e)) (made w (onCheck r e x y)))
-    (cond (eqb (tagOf y) 1) (made w (onCheck r e y x))
-    (cond (eqb (tagOf x) 2) (compareLeaves w r e x y) (cond (eqb (tagOf y) 2) (failed w r) (compareClosures t w r e x y))))
+    cond (eqb (tagOf x) variableTag) (cond (eqb x y) (made w (duePairs w r e)) (made w (onCheck r e x y)))
+    (cond (eqb (tagOf y) variableTag) (made w (onCheck r e y x))
+    (cond (eqb (tagOf x) constantTag) (compareLeaves w r e x y) (cond (eqb (tagOf y) constantTag) (failed w r) (compareClosures t w r e x y))))
 
 -- One act. Each act binds at most once, so that as many turns as acts done suffice to look through.
 unfoldable pub comparePair : List ℕ → List ℕ → Registers → Made
 comparePair t w r =
-    compareWords t w r (pairsFrom t w (r .pairs / 4) (r .pairs % 4 + 1)) (lookWord (r .acts) w (argumentWord t w (r .pairs) 57))
-    (lookWord (r .acts) w (argumentWord t w (r .pairs) 59))
+    compareWords t w r (pairsFrom t w (r .pairs / maxArity) (r .pairs % maxArity + 1)) (lookWord (r .acts) w (argumentWord t w (r .pairs) fields.goalSideNode))
+    (lookWord (r .acts) w (argumentWord t w (r .pairs) fields.clauseSideNode))
 
 -- No node is left: lower z to k, bind, go on with the pairs.
 unfoldable pub bindValue : List ℕ → Registers → ℕ → ℕ → Made
@@ -72,7 +74,7 @@ unfoldable pub visitVariable : List ℕ → Registers → ℕ → ℕ → Made
 visitVariable w r e x = cond (eqb x (r .variable)) (failed w r) (passNode w r x (min (levelOf w (nameOf x)) (levelOf w (nameOf (r .variable)))) e)
 
 unfoldable pub visitConstant : List ℕ → Registers → ℕ → ℕ → Made
-visitConstant w r e x = cond (leb (field w (nameOf x) 22) (levelOf w (nameOf (r .variable)))) (passNode w r 0 0 e) (failed w r)
+visitConstant w r e x = cond (leb (field w (nameOf x) fields.constantLevel) (levelOf w (nameOf (r .variable)))) (passNode w r 0 0 e) (failed w r)
 
 unfoldable pub visitClosure : List ℕ → List ℕ → Registers → ℕ → ℕ → Made
 visitClosure t w r e x =
@@ -80,14 +82,14 @@ visitClosure t w r e x =
     passNode w′ r 0 0 (nodesFrom t w′ (up (r .acts)) 0)
 
 unfoldable pub visitWord : List ℕ → List ℕ → Registers → ℕ → ℕ → Made
-visitWord t w r e x = cond (eqb (tagOf x) 1) (visitVariable w r e x) (cond (eqb (tagOf x) 2) (visitConstant w r e x) (visitClosure t w r e x))
+visitWord t w r e x = cond (eqb (tagOf x) variableTag) (visitVariable w r e x) (cond (eqb (tagOf x) constantTag) (visitConstant w r e x) (visitClosure t w r e x))
 
 -- The node that is due: at first the whole value. After it, the nodes left.
 unfoldable pub dueWord : List ℕ → List ℕ → Registers → ℕ
-dueWord t w r = cond (eqb (r .nodes) 0) (r .value) (argumentWord t w (r .nodes) 57)
+dueWord t w r = cond (eqb (r .nodes) 0) (r .value) (argumentWord t w (r .nodes) fields.waitingNode)
 
 unfoldable pub nodesAfter : List ℕ → List ℕ → ℕ → ℕ
-nodesAfter t w a = cond (eqb a 0) 0 (nodesFrom t w (a / 4) (a % 4 + 1))
+nodesAfter t w a = cond (eqb a 0) 0 (nodesFrom t w (a / maxArity) (a % maxArity + 1))
 
 unfoldable pub checkNode : List ℕ → List ℕ → Registers → Made
 checkNode t w r = visitWord t w r (nodesAfter t w (r .nodes)) (lookWord (r .acts) w (dueWord t w r))

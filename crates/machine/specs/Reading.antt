@@ -8,7 +8,8 @@ use Rattle.terms.specs.Terms.{Term, leaf}
 use Rattle.sequents.specs.Sequents.{Dtrue, Dand, Dleft, Dright, Dassume, Line, plain, Dsome, Dall, Dclause}
 use Rattle.unification.specs.Store.{Leaf, var, con, Store, boundTo}
 use Rattle.machine.specs.declared.Registers.{Registers}
-use Rattle.machine.specs.Records.{field, cellOf, levelOf}
+use Rattle.machine.specs.Fields as fields
+use Rattle.machine.specs.Records.{field, cellOf, levelOf, trueLine, andLine, leftLine, rightLine, assumeLine, someLine, allLine}
 use Rattle.machine.specs.Words.{termOf}
 
 -- What a variable is bound to; itself, if to nothing.
@@ -29,15 +30,15 @@ variablesFrom (suc n) x = leaf (var x) ∷ variablesFrom n (suc x)
 -- The line of the path in record q; which of the eight it is stands with the pointer to it (Records).
 unfoldable pub lineAt : List ℕ → ℕ → ℕ → Line Leaf
 lineAt w q k =
-    cond (eqb k 0) (plain Dtrue)
-    (cond (eqb k 1) (plain Dand)
-    (cond (eqb k 2) (plain Dleft)
-    (cond (eqb k 3) (plain Dright)
-    (cond (eqb k 4) (plain Dassume)
-    (cond (eqb k 5) (Dsome (leaf (var (field w q 43))))
-    (cond (eqb k 6) (Dall (leaf (con q (field w q 22)))) (Dclause (field w q 41) (variablesFrom (field w q 42) (field w q 43)))))))))
+    cond (eqb k trueLine) (plain Dtrue)
+    (cond (eqb k andLine) (plain Dand)
+    (cond (eqb k leftLine) (plain Dleft)
+    (cond (eqb k rightLine) (plain Dright)
+    (cond (eqb k assumeLine) (plain Dassume)
+    (cond (eqb k someLine) (Dsome (leaf (var (field w q fields.variables))))
+    (cond (eqb k allLine) (Dall (leaf (con q (field w q fields.constantLevel)))) (Dclause (field w q fields.usePlace) (variablesFrom (field w q fields.useCount) (field w q fields.variables)))))))))
 
 -- The path from pointer p on, latest line first, at most n lines.
 unfoldable pub pathFrom : ℕ → List ℕ → ℕ → ℕ → List (Line Leaf)
 pathFrom zero w p k = []
-pathFrom (suc n) w p k = elim (eqb p 0) [ true ↦ [] | false ↦ lineAt w (p - 1) k ∷ pathFrom n w (field w (p - 1) 39) (field w (p - 1) 40) ]
+pathFrom (suc n) w p k = elim (eqb p 0) [ true ↦ [] | false ↦ lineAt w (p - 1) k ∷ pathFrom n w (field w (p - 1) fields.pathBefore) (field w (p - 1) fields.pathLine) ]

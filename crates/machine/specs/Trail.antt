@@ -3,6 +3,7 @@ use Prim.Native.Nat.{ℕ, zero, suc, _-_}
 use mathlib.Core.Bool.{true, false, cond}
 use mathlib.Core.List.{List}
 use lib.Dec.{eqb}
+use Rattle.machine.specs.Fields as fields
 use Rattle.machine.specs.Records.{field, levelOf, putCell, putLevel, putEntry}
 use Rattle.machine.specs.Words.{nameOf}
 
@@ -22,9 +23,9 @@ effect w u z k y v before = putEntry (bindTo (lowerTo w z k) y v) u z (oldLevel 
 
 -- Undo the entry in record q.
 unfoldable pub undoEntry : List ℕ → ℕ → List ℕ
-undoEntry w q = lowerTo (bindTo w (field w q 20) 0) (field w q 18) (field w q 19)
+undoEntry w q = lowerTo (bindTo w (field w q fields.entryBound) 0) (field w q fields.entryLowered) (field w q fields.entryLevel)
 
 -- Undo the entries from h down to the mark, at most n of them.
 unfoldable pub undo : ℕ → List ℕ → ℕ → ℕ → List ℕ
 undo zero w h mark = w
-undo (suc n) w h mark = elim (eqb h mark) [ true ↦ w | false ↦ undo n (undoEntry w (h - 1)) (field w (h - 1) 21) mark ]
+undo (suc n) w h mark = elim (eqb h mark) [ true ↦ w | false ↦ undo n (undoEntry w (h - 1)) (field w (h - 1) fields.entryBefore) mark ]

@@ -3,10 +3,12 @@ use Prim.Native.Nat.{ℕ, _+_, _-_}
 use mathlib.Core.Bool.{cond}
 use mathlib.Core.List.{List}
 use lib.Dec.{eqb, ltb}
-use Rattle.node_table.specs.Layout.{kindOf, labelOf, childOf, membersOf, clauseNode}
+use Rattle.sheet_format.specs.Limits.{maxNodes, variableNames}
+use Rattle.node_table.specs.Layout.{kindOf, labelOf, childOf, membersOf, clauseNode, impliesKind}
 use Rattle.machine.specs.declared.Registers.{Registers}
 use Rattle.machine.specs.declared.Found.{Found}
-use Rattle.machine.specs.Records.{field, Made, made, putGoal, putPath, putUse, putPairs}
+use Rattle.machine.specs.Fields as fields
+use Rattle.machine.specs.Records.{field, Made, made, putGoal, putPath, putUse, putPairs, clauseLine}
 use Rattle.machine.specs.Changes.{onNext, onChoice, onGoals, onPath, onMember}
 use Rattle.machine.specs.Words.{narrow, up}
 use Rattle.machine.specs.Frames.{copyFrame, putFresh}
@@ -17,21 +19,21 @@ use Rattle.machine.specs.Matching.{pairsFrom, duePairs}
 
 -- The clause whose member is due: its node and its frame.
 unfoldable pub clauseOf : List ℕ → List ℕ → Registers → ℕ
-clauseOf t w r = cond (eqb (r .hypothesis) 0) (clauseNode t (r .clause)) (field w (r .hypothesis - 1) 36)
+clauseOf t w r = cond (eqb (r .hypothesis) 0) (clauseNode t (r .clause)) (field w (r .hypothesis - 1) fields.assumptionNode)
 
 unfoldable pub clauseFrame : List ℕ → Registers → ℕ
-clauseFrame w r = cond (eqb (r .hypothesis) 0) 0 (field w (r .hypothesis - 1) 37)
+clauseFrame w r = cond (eqb (r .hypothesis) 0) 0 (field w (r .hypothesis - 1) fields.assumptionFrame)
 
 -- The clause after it, and the member after it.
 unfoldable pub nextClause : List ℕ → Registers → Registers
-nextClause w r = cond (eqb (r .hypothesis) 0) (onMember r 0 (up (r .clause)) 0 (up (r .place))) (onMember r (field w (r .hypothesis - 1) 38) 0 0 (up (r .place)))
+nextClause w r = cond (eqb (r .hypothesis) 0) (onMember r 0 (up (r .clause)) 0 (up (r .place))) (onMember r (field w (r .hypothesis - 1) fields.assumptionNext) 0 0 (up (r .place)))
 
 unfoldable pub nextMember : List ℕ → List ℕ → Registers → Registers
 nextMember t w r = cond (ltb (up (r .member)) (membersOf t (clauseOf t w r))) (onMember r (r .hypothesis) (r .clause) (up (r .member)) (up (r .place))) (nextClause w r)
 
 -- "The prefix gets fresh variables of level I."
 unfoldable pub putPrefix : List ℕ → Registers → Found → List ℕ
-putPrefix w r m = putFresh (m .count) (copyFrame 8 w (r .acts) (clauseFrame w r) 0) (r .acts) (m .names) (r .next) (r .level)
+putPrefix w r m = putFresh (m .count) (copyFrame variableNames w (r .acts) (clauseFrame w r) 0) (r .acts) (m .names) (r .next) (r .level)
 
 -- "the members left are the alternative": s are the registers at the next member.
 unfoldable pub leaveOthers : ℕ → List ℕ → ℕ → Registers → List ℕ
@@ -39,7 +41,7 @@ leaveOthers c w u s = cond (membersLeft c s) (saveChoice w u s) w
 
 -- "the body, if any, is the new goal"
 unfoldable pub putBody : List ℕ → List ℕ → Registers → ℕ → List ℕ
-putBody t w r n = cond (eqb (kindOf t n) 6) (putGoal w (r .acts) (childOf t n 0) (up (r .acts)) (r .program) (r .level) (r .goals)) w
+putBody t w r n = cond (eqb (kindOf t n) impliesKind) (putGoal w (r .acts) (childOf t n 0) (up (r .acts)) (r .program) (r .level) (r .goals)) w
 
 -- The path, the alternative and the body of a try.
 unfoldable pub putTry : List ℕ → ℕ → List ℕ → Registers → Found → Registers → List ℕ
@@ -48,8 +50,8 @@ putTry t c w r m s = putBody t (leaveOthers c (putUse (putPath w (r .acts) (r .p
 -- The registers after it.
 unfoldable pub tried : List ℕ → ℕ → Registers → Found → Registers → Registers
 tried t c r m s =
-    onGoals (onChoice (onNext (onPath r (up (r .acts)) 7) (narrow (r .next + m .count))) (cond (membersLeft c s) (up (r .acts)) (r .choice)))
-    (cond (eqb (kindOf t (m .leaf)) 6) (up (r .acts)) (r .goals))
+    onGoals (onChoice (onNext (onPath r (up (r .acts)) clauseLine) (narrow (r .next + m .count))) (cond (membersLeft c s) (up (r .acts)) (r .choice)))
+    (cond (eqb (kindOf t (m .leaf)) impliesKind) (up (r .acts)) (r .goals))
 
 -- The predicates agree: the argument pairs are due.
 unfoldable pub tryMember : List ℕ → ℕ → List ℕ → Registers → Found → Made
@@ -64,4 +66,4 @@ tryFound t c w r m = cond (eqb (labelOf t (r .node)) (labelOf t (headOf t (m .le
 
 -- One act.
 unfoldable pub tryNext : List ℕ → ℕ → List ℕ → Registers → Made
-tryNext t c w r = tryFound t c w r (findMember 1024 t (clauseOf t w r) (r .member))
+tryNext t c w r = tryFound t c w r (findMember maxNodes t (clauseOf t w r) (r .member))

@@ -1,10 +1,14 @@
 // The engine's machine: see specs/ for its definitions, proofs/ for the simulation of the search.
+pub mod fields;
+pub mod lines;
+pub mod modes;
+pub mod tags;
 
 // All of the machine's state that is not in the work buffer. A pointer is the number of a record plus 1, and 0 for none.
 pub struct Registers {
     // the number of acts done, which is the number of the record that the next act may write
     pub acts: u32,
-    // the act that is due, or the verdict (specs/Records.antt)
+    // the act that is due, or the verdict (modes)
     pub mode: u32,
     // the number of variables made
     pub next: u32,
@@ -13,7 +17,7 @@ pub struct Registers {
     pub choice: u32,
     pub goals: u32,
     pub path: u32,
-    // which line the path's latest record is
+    // which line the path's latest record is (lines)
     pub line: u32,
     // the goal to take, or the atom whose members are tried: node, frame, assumptions, level
     pub node: u32,

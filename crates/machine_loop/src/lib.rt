@@ -3,12 +3,14 @@
 use clause_acts::backchaining::try_next;
 use goal_acts::take_goal;
 use machine::Registers;
+use machine::modes;
 use machine_memory::frames::put_variables;
 use machine_memory::registers::on_acts;
 use machine_memory::words::up;
 use match_acts::comparing::compare_pair;
 use match_acts::range_check::check_node;
 use node_table::members;
+use sheet_format::limits;
 ghost use mathlib.Core.Path.{_≡_};
 ghost use Rattle.machine.specs.Records.{made};
 ghost use Rattle.machine.specs.Words.{up};
@@ -19,13 +21,13 @@ ghost use Rattle.machine.specs.Machine.{dueAct, act, run, startMemory, startReg
 pub fn due_act(t: &[u32], c: u32, w: &mut [u32], r: Registers) -> Registers
     ensures { λ s. ⌜ made (now (w .exit)) s ≡ dueAct (now (t .entry)) c (now (w .entry)) r ⌝ }
 {
-    if r.mode == 0 {
+    if r.mode == modes::TAKE {
         return take_goal(t, c, w, r);
     }
-    if r.mode == 1 {
+    if r.mode == modes::TRY {
         return try_next(t, c, w, r);
     }
-    if r.mode == 2 {
+    if r.mode == modes::COMPARE {
         return compare_pair(t, w, r);
     }
     check_node(t, w, r)
@@ -48,13 +50,13 @@ pub fn run(n: u32, t: &[u32], c: u32, w: &mut [u32], from: Registers) -> Registe
     let mut r = from;
     let mut left = n;
     'members: while 0 < left {
-        if 3 < r.mode {
+        if modes::CHECK < r.mode {
             return r;
         }
         r = act(t, c, w, r);
         left -= 1; // a goal taken or a member tried
-        while 1 < r.mode {
-            if 3 < r.mode {
+        while modes::TRY < r.mode {
+            if modes::CHECK < r.mode {
                 return r;
             }
             if left == 0 {
@@ -63,7 +65,7 @@ pub fn run(n: u32, t: &[u32], c: u32, w: &mut [u32], from: Registers) -> Registe
             r = act(t, c, w, r);
             left -= 1; // a pair compared or a node looked at
             // A mismatch: a member is due.
-            if r.mode == 1 {
+            if r.mode == modes::TRY {
                 continue 'members;
             }
         }
@@ -75,7 +77,7 @@ pub fn run(n: u32, t: &[u32], c: u32, w: &mut [u32], from: Registers) -> Registe
 pub fn start_memory(w: &mut [u32])
     ensures { λ _. ⌜ now (w .exit) ≡ startMemory (now (w .entry)) ⌝ }
 {
-    put_variables(8, w, 0);
+    put_variables(limits::VARIABLE_NAMES, w, 0);
 }
 
 pub fn start_registers(goal: u32) -> Registers
@@ -83,8 +85,8 @@ pub fn start_registers(goal: u32) -> Registers
 {
     Registers {
         acts: 0,
-        mode: 0,
-        next: 8,
+        mode: modes::TAKE,
+        next: limits::VARIABLE_NAMES,
         trail: 0,
         choice: 0,
         goals: 0,

@@ -1,7 +1,9 @@
 // The cells of the engine's machine on the lent work buffer: fields of records, variables, slots of frames. Each function is a
 // definition of the crate machine, and its contract says so. A read past the buffer's end gives 0, a write there does nothing.
+use machine::fields;
 use memory::get;
 use memory::wide;
+use sheet_format::limits::NUMBERS_PER_UNIT;
 ghost use mathlib.Core.Path.{_≡_};
 ghost use Prim.Native.Nat.{_+_, _-_};
 ghost use Rattle.machine.specs.Records.{field, put, cellOf, levelOf, putCell, putLevel};
@@ -10,51 +12,51 @@ ghost use Rattle.machine.specs.Records.{field, put, cellOf, levelOf, putCell, p
 pub fn field(w: &[u32], u: u32, f: u32) -> u32
     ensures { λ r. ⌜ r ≡ field (now (w .entry)) u f ⌝ }
 {
-    get(w, 64 * wide(u) + wide(f))
+    get(w, NUMBERS_PER_UNIT * wide(u) + wide(f))
 }
 
 pub fn put_field(w: &mut [u32], u: u32, f: u32, a: u32)
     ensures { λ _. ⌜ now (w .exit) ≡ put (now (w .entry)) u f a ⌝ }
 {
-    memory::put(w, 64 * wide(u) + wide(f), a);
+    memory::put(w, NUMBERS_PER_UNIT * wide(u) + wide(f), a);
 }
 
 // The binding and the level of variable x.
 pub fn cell_of(w: &[u32], x: u32) -> u32
     ensures { λ r. ⌜ r ≡ cellOf (now (w .entry)) x ⌝ }
 {
-    field(w, x / 9, x % 9)
+    field(w, x / fields::CELLS, x % fields::CELLS)
 }
 
 pub fn level_of(w: &[u32], x: u32) -> u32
     ensures { λ r. ⌜ r ≡ levelOf (now (w .entry)) x ⌝ }
 {
-    field(w, x / 9, 9 + x % 9)
+    field(w, x / fields::CELLS, fields::LEVELS + x % fields::CELLS)
 }
 
 pub fn put_cell(w: &mut [u32], x: u32, a: u32)
     ensures { λ _. ⌜ now (w .exit) ≡ putCell (now (w .entry)) x a ⌝ }
 {
-    put_field(w, x / 9, x % 9, a);
+    put_field(w, x / fields::CELLS, x % fields::CELLS, a);
 }
 
 pub fn put_level(w: &mut [u32], x: u32, a: u32)
     ensures { λ _. ⌜ now (w .exit) ≡ putLevel (now (w .entry)) x a ⌝ }
 {
-    put_field(w, x / 9, 9 + x % 9, a);
+    put_field(w, x / fields::CELLS, fields::LEVELS + x % fields::CELLS, a);
 }
 
 // What name v stands for in the frame of record u.
 pub fn slot(w: &[u32], u: u32, v: u32) -> u32
     ensures { λ r. ⌜ r ≡ field (now (w .entry)) u (23 + v) ⌝ }
 {
-    get(w, 64 * wide(u) + (23 + wide(v)))
+    get(w, NUMBERS_PER_UNIT * wide(u) + (fields::FRAME + wide(v)))
 }
 
 pub fn put_slot(w: &mut [u32], u: u32, v: u32, a: u32)
     ensures { λ _. ⌜ now (w .exit) ≡ put (now (w .entry)) u (23 + v) a ⌝ }
 {
-    memory::put(w, 64 * wide(u) + (23 + wide(v)), a);
+    memory::put(w, NUMBERS_PER_UNIT * wide(u) + (fields::FRAME + wide(v)), a);
 }
 
 // The record of a pointer.

@@ -6,6 +6,8 @@ use super::registers::on_member;
 use super::registers::on_mode;
 use super::trail::undo;
 use machine::Registers;
+use machine::fields;
+use machine::modes;
 ghost use mathlib.Core.Path.{_≡_};
 ghost use Rattle.machine.specs.Records.{made};
 ghost use Rattle.machine.specs.Choices.{resumeGoal, resumeMember, resumeBranch, resume, takeUp, failed};
@@ -14,10 +16,10 @@ ghost use Rattle.machine.specs.Choices.{resumeGoal, resumeMember, resumeBranch,
 pub fn resume_goal(w: &[u32], r: Registers, q: u32) -> Registers
     ensures { λ s. ⌜ s ≡ resumeGoal (now (w .entry)) r q ⌝ }
 {
-    let node = field(w, q, 49);
-    let frame = field(w, q, 50);
-    let program = field(w, q, 51);
-    let level = field(w, q, 52);
+    let node = field(w, q, fields::CHOICE_NODE);
+    let frame = field(w, q, fields::CHOICE_FRAME);
+    let program = field(w, q, fields::CHOICE_PROGRAM);
+    let level = field(w, q, fields::CHOICE_LEVEL);
     on_goal(r, node, frame, program, level)
 }
 
@@ -25,12 +27,18 @@ pub fn resume_goal(w: &[u32], r: Registers, q: u32) -> Registers
 pub fn resume_member(w: &[u32], r: Registers, q: u32) -> Registers
     ensures { λ s. ⌜ s ≡ resumeMember (now (w .entry)) r q ⌝ }
 {
-    let place = field(w, q, 56);
-    let s = on_member(r, field(w, q, 53), field(w, q, 54), field(w, q, 55), place);
+    let place = field(w, q, fields::CHOICE_PLACE);
+    let s = on_member(
+        r,
+        field(w, q, fields::CHOICE_HYPOTHESIS),
+        field(w, q, fields::CHOICE_CLAUSE),
+        field(w, q, fields::CHOICE_MEMBER),
+        place,
+    );
     if place == 0 {
-        return on_mode(s, 0);
+        return on_mode(s, modes::TAKE);
     }
-    on_mode(s, 1)
+    on_mode(s, modes::TRY)
 }
 
 // its branch, and what was open before it.
@@ -38,12 +46,12 @@ pub fn resume_branch(w: &[u32], r: Registers, q: u32) -> Registers
     ensures { λ s. ⌜ s ≡ resumeBranch (now (w .entry)) r q ⌝ }
 {
     let mut s = r;
-    s.next = field(w, q, 43);
-    s.trail = field(w, q, 44);
-    s.choice = field(w, q, 45);
-    s.goals = field(w, q, 46);
-    s.path = field(w, q, 47);
-    s.line = field(w, q, 48);
+    s.next = field(w, q, fields::VARIABLES);
+    s.trail = field(w, q, fields::CHOICE_TRAIL);
+    s.choice = field(w, q, fields::CHOICE_BEFORE);
+    s.goals = field(w, q, fields::CHOICE_GOALS);
+    s.path = field(w, q, fields::CHOICE_PATH);
+    s.line = field(w, q, fields::CHOICE_LINE);
     s
 }
 
@@ -58,7 +66,7 @@ pub fn take_up(w: &mut [u32], r: Registers, q: u32) -> Registers
     ensures { λ s. ⌜ made (now (w .exit)) s ≡ takeUp (now (w .entry)) r q ⌝ }
 {
     let s = resume(w, r, q);
-    let mark = field(w, q, 44);
+    let mark = field(w, q, fields::CHOICE_TRAIL);
     let trail = r.trail;
     undo(trail, w, trail, mark);
     s
@@ -70,7 +78,7 @@ pub fn failed(w: &mut [u32], r: Registers) -> Registers
 {
     let choice = r.choice;
     if choice == 0 {
-        return on_mode(r, 5);
+        return on_mode(r, modes::NO);
     }
     take_up(w, r, choice - 1)
 }

@@ -5,6 +5,7 @@ use super::cells::put_slot;
 use super::words::slot_of;
 use super::words::up;
 use super::words::variable_word;
+use sheet_format::limits;
 ghost use mathlib.Core.Path.{_≡_};
 ghost use Prim.Native.Nat.{_+_, _<_};
 ghost use Rattle.machine.specs.Frames.{copyFrame, putVariable, putFresh, putVariables};
@@ -41,8 +42,8 @@ pub fn put_fresh(n: u32, w: &mut [u32], u: u32, vs: u32, x: u32, i: u32)
     let mut fresh = x;
     while 0 < left {
         put_variable(w, fresh, i);
-        put_slot(w, u, names % 8, variable_word(fresh));
-        names = names / 8;
+        put_slot(w, u, names % limits::VARIABLE_NAMES, variable_word(fresh));
+        names = names / limits::VARIABLE_NAMES;
         fresh = up(fresh);
         left -= 1;
     }

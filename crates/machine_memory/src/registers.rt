@@ -5,6 +5,8 @@ use super::records::put_choice;
 use super::records::put_chosen;
 use super::records::put_position;
 use machine::Registers;
+use machine::fields;
+use machine::modes;
 ghost use mathlib.Core.Path.{_≡_};
 ghost use Rattle.machine.specs.Records.{made};
 ghost use Rattle.machine.specs.Changes.{onActs, onMode, onNext, onTrail, onChoice, onGoals, onPath, onGoal, onMember, onPairs, onCheck, onNodes};
@@ -79,7 +81,7 @@ pub fn on_goal(r: Registers, n: u32, f: u32, h: u32, i: u32) -> Registers
     ensures { λ s. ⌜ s ≡ onGoal r n f h i ⌝ }
 {
     let mut s = r;
-    s.mode = 0;
+    s.mode = modes::TAKE;
     s.node = n;
     s.frame = f;
     s.program = h;
@@ -104,7 +106,7 @@ pub fn on_pairs(r: Registers, a: u32) -> Registers
     ensures { λ s. ⌜ s ≡ onPairs r a ⌝ }
 {
     let mut s = r;
-    s.mode = 2;
+    s.mode = modes::COMPARE;
     s.pairs = a;
     s
 }
@@ -114,7 +116,7 @@ pub fn on_check(r: Registers, a: u32, x: u32, v: u32) -> Registers
     ensures { λ s. ⌜ s ≡ onCheck r a x v ⌝ }
 {
     let mut s = r;
-    s.mode = 3;
+    s.mode = modes::CHECK;
     s.pairs = a;
     s.variable = x;
     s.value = v;
@@ -135,7 +137,7 @@ pub fn on_nodes(r: Registers, a: u32) -> Registers
 pub fn save_choice(w: &mut [u32], u: u32, r: Registers)
     ensures { λ _. ⌜ now (w .exit) ≡ saveChoice (now (w .entry)) u r ⌝ }
 {
-    put_field(w, u, 43, r.next);
+    put_field(w, u, fields::VARIABLES, r.next);
     put_choice(w, u, r.trail, r.choice, r.goals, r.path, r.line);
     put_chosen(w, u, r.node, r.frame, r.program, r.level);
     put_position(w, u, r.hypothesis, r.clause, r.member, r.place);

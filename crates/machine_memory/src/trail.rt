@@ -7,6 +7,7 @@ use super::cells::put_level;
 use super::cells::record_of;
 use super::records::put_entry;
 use super::words::name_of;
+use machine::fields;
 ghost use mathlib.Core.Path.{_≡_};
 ghost use Prim.Native.Nat.{_<_};
 ghost use Rattle.machine.specs.Trail.{lowerTo, bindTo, oldLevel, effect, undoEntry, undo};
@@ -53,9 +54,9 @@ pub fn effect(w: &mut [u32], u: u32, z: u32, k: u32, y: u32, v: u32, before: u32
 pub fn undo_entry(w: &mut [u32], q: u32)
     ensures { λ _. ⌜ now (w .exit) ≡ undoEntry (now (w .entry)) q ⌝ }
 {
-    let lowered = field(w, q, 18);
-    let level = field(w, q, 19);
-    let bound = field(w, q, 20);
+    let lowered = field(w, q, fields::ENTRY_LOWERED);
+    let level = field(w, q, fields::ENTRY_LEVEL);
+    let bound = field(w, q, fields::ENTRY_BOUND);
     bind_to(w, bound, 0);
     lower_to(w, lowered, level);
 }
@@ -71,7 +72,7 @@ pub fn undo(n: u32, w: &mut [u32], h: u32, mark: u32)
             return;
         }
         let q = record_of(at);
-        let before = field(w, q, 21);
+        let before = field(w, q, fields::ENTRY_BEFORE);
         undo_entry(w, q);
         at = before;
         entries -= 1;

@@ -2,12 +2,26 @@
 // Each function is a definition of the crate machine, and its contract says so.
 use super::cells::cell_of;
 use super::cells::slot;
+use machine::tags;
 use memory::wide;
 use node_table::kind;
+use node_table::kinds;
 use node_table::label;
+use sheet_format::limits;
 ghost use mathlib.Core.Path.{_≡_};
 ghost use Prim.Native.Nat.{_+_, _-_};
 ghost use Rattle.machine.specs.Words.{narrow, up, variableWord, constantWord, closureWord, tagOf, nameOf, nodeOf, frameOf, slotOf, wordOf, lookWord};
+
+// The tags, their number and the number of nodes as addends and factors of words.
+pub const TAGS: usize = tags::COUNT as usize;
+
+pub const VARIABLE_TAG: usize = tags::VARIABLE as usize;
+
+const CONSTANT_TAG: usize = tags::CONSTANT as usize;
+
+const CLOSURE_TAG: usize = tags::CLOSURE as usize;
+
+const NODES: usize = limits::MAX_NODES as usize;
 
 // A number kept in 32 bits, and the number after it.
 pub fn narrow(a: usize) -> u32
@@ -26,44 +40,44 @@ pub fn up(a: u32) -> u32
 pub fn variable_word(x: u32) -> u32
     ensures { λ r. ⌜ r ≡ variableWord x ⌝ }
 {
-    narrow(4 * wide(x) + 1)
+    narrow(TAGS * wide(x) + VARIABLE_TAG)
 }
 
 pub fn constant_word(c: u32) -> u32
     ensures { λ r. ⌜ r ≡ constantWord c ⌝ }
 {
-    narrow(4 * wide(c) + 2)
+    narrow(TAGS * wide(c) + CONSTANT_TAG)
 }
 
 pub fn closure_word(n: u32, f: u32) -> u32
     ensures { λ r. ⌜ r ≡ closureWord n f ⌝ }
 {
-    narrow(4 * (1024 * wide(f) + wide(n)) + 3)
+    narrow(TAGS * (NODES * wide(f) + wide(n)) + CLOSURE_TAG)
 }
 
-// The parts of a word: 1 a variable, 2 a made constant, 3 a closure.
+// The parts of a word: its tag says whether it is a variable, a made constant or a closure.
 pub fn tag_of(a: u32) -> u32
     ensures { λ r. ⌜ r ≡ tagOf a ⌝ }
 {
-    a % 4
+    a % tags::COUNT
 }
 
 pub fn name_of(a: u32) -> u32
     ensures { λ r. ⌜ r ≡ nameOf a ⌝ }
 {
-    a / 4
+    a / tags::COUNT
 }
 
 pub fn node_of(a: u32) -> u32
     ensures { λ r. ⌜ r ≡ nodeOf a ⌝ }
 {
-    a / 4 % 1024
+    a / tags::COUNT % limits::MAX_NODES
 }
 
 pub fn frame_of(a: u32) -> u32
     ensures { λ r. ⌜ r ≡ frameOf a ⌝ }
 {
-    a / 4 / 1024
+    a / tags::COUNT / limits::MAX_NODES
 }
 
 // What name v stands for in frame f; frame 0 is the first environment.
@@ -80,7 +94,7 @@ pub fn slot_of(w: &[u32], f: u32, v: u32) -> u32
 pub fn word_of(t: &[u32], w: &[u32], n: u32, f: u32) -> u32
     ensures { λ r. ⌜ r ≡ wordOf (now (t .entry)) (now (w .entry)) n f ⌝ }
 {
-    if kind(t, n) == 0 {
+    if kind(t, n) == kinds::VARIABLE {
         return slot_of(w, f, label(t, n));
     }
     closure_word(n, f)
@@ -93,7 +107,7 @@ pub fn look_word(n: u32, w: &[u32], a: u32) -> u32
     let mut bindings = n;
     let mut at = a;
     while 0 < bindings {
-        if tag_of(at) != 1 {
+        if tag_of(at) != tags::VARIABLE {
             return at;
         }
         let b = cell_of(w, name_of(at));

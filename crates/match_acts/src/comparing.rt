@@ -4,6 +4,8 @@ use super::pairs::argument_word;
 use super::pairs::due_pairs;
 use super::pairs::pairs_from;
 use machine::Registers;
+use machine::fields;
+use machine::tags;
 use machine_memory::choice_points::failed;
 use machine_memory::records::put_pairs;
 use machine_memory::registers::on_check;
@@ -13,6 +15,7 @@ use machine_memory::words::node_of;
 use machine_memory::words::tag_of;
 use machine_memory::words::up;
 use node_table::label;
+use sheet_format::limits;
 ghost use mathlib.Core.Path.{_≡_};
 ghost use Prim.Native.Nat.{_+_};
 ghost use Rattle.machine.specs.Records.{made};
@@ -47,20 +50,20 @@ pub fn compare_words(t: &[u32], w: &mut [u32], r: Registers, e: u32, x: u32, y: 
     ensures { λ s. ⌜ made (now (w .exit)) s ≡ compareWords (now (t .entry)) (now (w .entry)) r e x y ⌝ }
 {
     let a = tag_of(x);
-    if a == 1 {
+    if a == tags::VARIABLE {
         if x == y {
             return due_pairs(w, r, e);
         }
         return on_check(r, e, x, y);
     }
     let b = tag_of(y);
-    if b == 1 {
+    if b == tags::VARIABLE {
         return on_check(r, e, y, x);
     }
-    if a == 2 {
+    if a == tags::CONSTANT {
         return compare_leaves(w, r, e, x, y);
     }
-    if b == 2 {
+    if b == tags::CONSTANT {
         return failed(w, r);
     }
     compare_closures(t, w, r, e, x, y)
@@ -72,8 +75,8 @@ pub fn compare_pair(t: &[u32], w: &mut [u32], r: Registers) -> Registers
 {
     let a = r.pairs;
     let u = r.acts;
-    let e = pairs_from(t, w, a / 4, a % 4 + 1);
-    let x = look_word(u, w, argument_word(t, w, a, 57));
-    let y = look_word(u, w, argument_word(t, w, a, 59));
+    let e = pairs_from(t, w, a / limits::MAX_ARITY, a % limits::MAX_ARITY + 1);
+    let x = look_word(u, w, argument_word(t, w, a, fields::GOAL_SIDE_NODE));
+    let y = look_word(u, w, argument_word(t, w, a, fields::CLAUSE_SIDE_NODE));
     compare_words(t, w, r, e, x, y)
 }

@@ -2,6 +2,7 @@
 // Each function is a definition of the crate machine, and its contract says so.
 use super::pairs::due_pairs;
 use machine::Registers;
+use machine::fields;
 use machine_memory::cells::field;
 use machine_memory::cells::level_of;
 use machine_memory::choice_points::failed;
@@ -64,7 +65,7 @@ pub fn visit_variable(w: &mut [u32], r: Registers, e: u32, x: u32) -> Registers
 pub fn visit_constant(w: &mut [u32], r: Registers, e: u32, x: u32) -> Registers
     ensures { λ s. ⌜ made (now (w .exit)) s ≡ visitConstant (now (w .entry)) r e x ⌝ }
 {
-    let level = field(w, name_of(x), 22);
+    let level = field(w, name_of(x), fields::CONSTANT_LEVEL);
     let limit = level_of(w, name_of(r.variable));
     if level <= limit {
         return pass_node(w, r, 0, 0, e);

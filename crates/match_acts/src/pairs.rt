@@ -2,6 +2,7 @@
 // Each function is a definition of the crate machine, and its contract says so.
 use goal_acts::goals::proceed;
 use machine::Registers;
+use machine::fields;
 use machine_memory::cells::field;
 use machine_memory::cells::record_of;
 use machine_memory::registers::on_pairs;
@@ -11,16 +12,20 @@ use memory::get;
 use memory::wide;
 use node_table::child;
 use node_table::child_count;
+use sheet_format::limits;
+use sheet_format::limits::NUMBERS_PER_UNIT;
 ghost use mathlib.Core.Path.{_≡_};
 ghost use Prim.Native.Nat.{_+_};
 ghost use Rattle.machine.specs.Records.{field};
 ghost use Rattle.machine.specs.Matching.{placeWord, pairsFrom, nodesFrom, argumentWord, duePairs};
 
+const ARGUMENTS: usize = limits::MAX_ARITY as usize;
+
 // The place of argument i in the record of pointer p, in one number.
 pub fn place_word(p: u32, i: u32) -> u32
     ensures { λ r. ⌜ r ≡ placeWord p i ⌝ }
 {
-    narrow(4 * wide(p) + wide(i))
+    narrow(ARGUMENTS * wide(p) + wide(i))
 }
 
 // The place of argument i of the pairs at pointer p, or what comes after them.
@@ -28,10 +33,10 @@ pub fn pairs_from(t: &[u32], w: &[u32], p: u32, i: u32) -> u32
     ensures { λ r. ⌜ r ≡ pairsFrom (now (t .entry)) (now (w .entry)) p i ⌝ }
 {
     let q = record_of(p);
-    if i < child_count(t, field(w, q, 57)) {
+    if i < child_count(t, field(w, q, fields::GOAL_SIDE_NODE)) {
         return place_word(p, i);
     }
-    field(w, q, 61)
+    field(w, q, fields::PAIRS_AFTER)
 }
 
 // The same for the nodes of a range check.
@@ -39,25 +44,25 @@ pub fn nodes_from(t: &[u32], w: &[u32], p: u32, i: u32) -> u32
     ensures { λ r. ⌜ r ≡ nodesFrom (now (t .entry)) (now (w .entry)) p i ⌝ }
 {
     let q = record_of(p);
-    if i < child_count(t, field(w, q, 57)) {
+    if i < child_count(t, field(w, q, fields::WAITING_NODE)) {
         return place_word(p, i);
     }
-    field(w, q, 59)
+    field(w, q, fields::WAITING_AFTER)
 }
 
 // The field after field f of record u.
 fn field_after(w: &[u32], u: u32, f: u32) -> u32
     ensures { λ r. ⌜ r ≡ field (now (w .entry)) u (f + 1) ⌝ }
 {
-    get(w, 64 * wide(u) + (wide(f) + 1))
+    get(w, NUMBERS_PER_UNIT * wide(u) + (wide(f) + 1))
 }
 
 // The word of the argument at place a; its node is in field f of the record, its frame in the next one.
 pub fn argument_word(t: &[u32], w: &[u32], a: u32, f: u32) -> u32
     ensures { λ r. ⌜ r ≡ argumentWord (now (t .entry)) (now (w .entry)) a f ⌝ }
 {
-    let q = record_of(a / 4);
-    let node = child(t, field(w, q, f), a % 4);
+    let q = record_of(a / limits::MAX_ARITY);
+    let node = child(t, field(w, q, f), a % limits::MAX_ARITY);
     word_of(t, w, node, field_after(w, q, f))
 }
 

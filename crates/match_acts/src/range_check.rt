@@ -5,12 +5,15 @@ use super::occurs_check::visit_variable;
 use super::pairs::argument_word;
 use super::pairs::nodes_from;
 use machine::Registers;
+use machine::fields;
+use machine::tags;
 use machine_memory::records::put_nodes;
 use machine_memory::words::frame_of;
 use machine_memory::words::look_word;
 use machine_memory::words::node_of;
 use machine_memory::words::tag_of;
 use machine_memory::words::up;
+use sheet_format::limits;
 ghost use mathlib.Core.Path.{_≡_};
 ghost use Prim.Native.Nat.{_+_};
 ghost use Rattle.machine.specs.Records.{made};
@@ -31,10 +34,10 @@ pub fn visit_word(t: &[u32], w: &mut [u32], r: Registers, e: u32, x: u32) -> Reg
     ensures { λ s. ⌜ made (now (w .exit)) s ≡ visitWord (now (t .entry)) (now (w .entry)) r e x ⌝ }
 {
     let a = tag_of(x);
-    if a == 1 {
+    if a == tags::VARIABLE {
         return visit_variable(w, r, e, x);
     }
-    if a == 2 {
+    if a == tags::CONSTANT {
         return visit_constant(w, r, e, x);
     }
     visit_closure(t, w, r, e, x)
@@ -48,7 +51,7 @@ pub fn due_word(t: &[u32], w: &[u32], r: Registers) -> u32
     if a == 0 {
         return r.value;
     }
-    argument_word(t, w, a, 57)
+    argument_word(t, w, a, fields::WAITING_NODE)
 }
 
 // The nodes after the one at place a.
@@ -58,7 +61,7 @@ pub fn nodes_after(t: &[u32], w: &[u32], a: u32) -> u32
     if a == 0 {
         return 0;
     }
-    nodes_from(t, w, a / 4, a % 4 + 1)
+    nodes_from(t, w, a / limits::MAX_ARITY, a % limits::MAX_ARITY + 1)
 }
 
 // One act: the node of a range check that is due.

@@ -9,7 +9,7 @@ use lib.Dec.{eqb}
 use borrow.Author.Tests.{eqb-true, eqb-false}
 use Rattle.terms.specs.Terms.{Term, leaf, app, cons}
 use Rattle.formulas.specs.Formulas.{Goal, atom, truth, and, or, implies, exists, forall, fact, rule, both, each}
-use Rattle.node_table.specs.Layout.{kindOf, childCount, labelOf, childOf}
+use Rattle.node_table.specs.Layout.{kindOf, childCount, labelOf, childOf, forallKind, impliesKind, andKind, atomKind, existsKind, orKind, trueKind, applicationKind, variableKind}
 use Rattle.node_table.specs.Decoding.{childrenBy, termBy, termAt, argumentsAt, goalBy, clauseBy, goalAt, clauseAtNode}
 use Rattle.node_table.specs.WellMade.{IsTerm, IsGoal, IsClause, Arguments, TermNode, GoalNode, ClauseNode, WellMade}
 use Rattle.node_table.proofs.Same.{Same, same-self, same-kind, same-count, same-label, same-child}
@@ -61,56 +61,56 @@ clause-kind k h =
 -- by kind, at any fuel
 
 module _ (f : ℕ) (t : List ℕ) (n : ℕ) where
-  pub termBy-variable : kindOf t n ≡ 0 → termBy (suc f) t n ≡ leaf (labelOf t n)
+  pub termBy-variable : kindOf t n ≡ variableKind → termBy (suc f) t n ≡ leaf (labelOf t n)
   unfolding termBy
   termBy-variable e = rw (termBy, e)
 
-  pub termBy-application : kindOf t n ≡ 1 → termBy (suc f) t n ≡ app (labelOf t n) (childrenBy (termBy f t) t n (childCount t n) 0)
+  pub termBy-application : kindOf t n ≡ applicationKind → termBy (suc f) t n ≡ app (labelOf t n) (childrenBy (termBy f t) t n (childCount t n) 0)
   unfolding termBy
   termBy-application e = rw (termBy, e)
 
-  pub goalBy-atom : kindOf t n ≡ 2 → goalBy (suc f) t n ≡ atom (labelOf t n) (argumentsAt t n)
+  pub goalBy-atom : kindOf t n ≡ atomKind → goalBy (suc f) t n ≡ atom (labelOf t n) (argumentsAt t n)
   unfolding goalBy
   goalBy-atom e = rw (goalBy, e)
 
-  pub goalBy-true : kindOf t n ≡ 3 → goalBy (suc f) t n ≡ truth
+  pub goalBy-true : kindOf t n ≡ trueKind → goalBy (suc f) t n ≡ truth
   unfolding goalBy
   goalBy-true e = rw (goalBy, e, e, e, e, e, e)
 
-  pub goalBy-and : kindOf t n ≡ 4 → goalBy (suc f) t n ≡ and (goalBy f t (childOf t n 0)) (goalBy f t (childOf t n 1))
+  pub goalBy-and : kindOf t n ≡ andKind → goalBy (suc f) t n ≡ and (goalBy f t (childOf t n 0)) (goalBy f t (childOf t n 1))
   unfolding goalBy
   goalBy-and e = rw (goalBy, e, e)
 
-  pub goalBy-or : kindOf t n ≡ 5 → goalBy (suc f) t n ≡ or (goalBy f t (childOf t n 0)) (goalBy f t (childOf t n 1))
+  pub goalBy-or : kindOf t n ≡ orKind → goalBy (suc f) t n ≡ or (goalBy f t (childOf t n 0)) (goalBy f t (childOf t n 1))
   unfolding goalBy
   goalBy-or e = rw (goalBy, e, e, e)
 
-  pub goalBy-implies : kindOf t n ≡ 6 → goalBy (suc f) t n ≡ implies (clauseBy f t (childOf t n 0)) (goalBy f t (childOf t n 1))
+  pub goalBy-implies : kindOf t n ≡ impliesKind → goalBy (suc f) t n ≡ implies (clauseBy f t (childOf t n 0)) (goalBy f t (childOf t n 1))
   unfolding goalBy
   goalBy-implies e = rw (goalBy, e, e, e, e)
 
-  pub goalBy-exists : kindOf t n ≡ 7 → goalBy (suc f) t n ≡ exists (labelOf t n) (goalBy f t (childOf t n 0))
+  pub goalBy-exists : kindOf t n ≡ existsKind → goalBy (suc f) t n ≡ exists (labelOf t n) (goalBy f t (childOf t n 0))
   unfolding goalBy
   goalBy-exists e = rw (goalBy, e, e, e, e, e)
 
-  pub goalBy-forall : kindOf t n ≡ 8 → goalBy (suc f) t n ≡ forall (labelOf t n) (goalBy f t (childOf t n 0))
+  pub goalBy-forall : kindOf t n ≡ forallKind → goalBy (suc f) t n ≡ forall (labelOf t n) (goalBy f t (childOf t n 0))
   unfolding goalBy
   goalBy-forall e = rw (goalBy, e, e, e, e, e, e)
 
-  pub clauseBy-fact : kindOf t n ≡ 2 → clauseBy (suc f) t n ≡ fact (labelOf t n) (argumentsAt t n)
+  pub clauseBy-fact : kindOf t n ≡ atomKind → clauseBy (suc f) t n ≡ fact (labelOf t n) (argumentsAt t n)
   unfolding clauseBy
   clauseBy-fact e = rw (clauseBy, e, e, e)
 
-  pub clauseBy-both : kindOf t n ≡ 4 → clauseBy (suc f) t n ≡ both (clauseBy f t (childOf t n 0)) (clauseBy f t (childOf t n 1))
+  pub clauseBy-both : kindOf t n ≡ andKind → clauseBy (suc f) t n ≡ both (clauseBy f t (childOf t n 0)) (clauseBy f t (childOf t n 1))
   unfolding clauseBy
   clauseBy-both e = rw (clauseBy, e)
 
-  pub clauseBy-rule : kindOf t n ≡ 6
+  pub clauseBy-rule : kindOf t n ≡ impliesKind
       → clauseBy (suc f) t n ≡ rule (goalBy f t (childOf t n 0)) (labelOf t (childOf t n 1)) (argumentsAt t (childOf t n 1))
   unfolding clauseBy
   clauseBy-rule e = rw (clauseBy, e, e)
 
-  pub clauseBy-each : kindOf t n ≡ 8 → clauseBy (suc f) t n ≡ each (labelOf t n) (clauseBy f t (childOf t n 0))
+  pub clauseBy-each : kindOf t n ≡ forallKind → clauseBy (suc f) t n ≡ each (labelOf t n) (clauseBy f t (childOf t n 0))
   unfolding clauseBy
   clauseBy-each e = rw (clauseBy, e, e, e)
 
@@ -145,7 +145,7 @@ module _ (t u : List ℕ) (symbols nodes : ℕ) (same : Same t u symbols nodes) 
         decided (termBy (suc f) u n ≡ termBy (suc g) t n) (kindOf t n) 0
         (λ z. termBy-variable f u n (e ∙ z) ∙ ap leaf l ∙ sym (termBy-variable g t n z))
         (λ z.
-        let y : kindOf t n ≡ 1 = omega arith in
+        let y : kindOf t n ≡ applicationKind = omega arith in
         termBy-application f u n (e ∙ y) ∙ ap₂ app l (arguments-agree (termBy f u) (termBy g t) n h (m .application y) ih) ∙ sym (termBy-application g t n y))
 
     pub term-agree : (f g n : ℕ) → n < f → n < g → n < nodes → IsTerm t n → termBy f u n ≡ termBy g t n
@@ -255,61 +255,61 @@ module _ (t : List ℕ) (nodes : ℕ) (made : Nodes t nodes) (n : ℕ) (h : n < 
   unfolding clauseAtNode
   clause-below i l q = clause-agree t t 0 nodes (same-self t 0 nodes) made n (suc i) i l (omega arith) (omega arith) q
 
-  pub term-variable : IsTerm t n → kindOf t n ≡ 0 → termAt t n ≡ leaf (labelOf t n)
+  pub term-variable : IsTerm t n → kindOf t n ≡ variableKind → termAt t n ≡ leaf (labelOf t n)
   unfolding termAt
   term-variable i e = termBy-variable n t n e
 
-  pub term-application : IsTerm t n → kindOf t n ≡ 1 → termAt t n ≡ app (labelOf t n) (argumentsAt t n)
+  pub term-application : IsTerm t n → kindOf t n ≡ applicationKind → termAt t n ≡ app (labelOf t n) (argumentsAt t n)
   unfolding termAt argumentsAt
   term-application i e =
       termBy-application n t n e
       ∙ ap (app (labelOf t n)) (arguments-agree t t 0 nodes (same-self t 0 nodes) (termBy n t) (termAt t) n h (made .term n h i .application e) term-below)
 
-  pub goal-atom : kindOf t n ≡ 2 → goalAt t n ≡ atom (labelOf t n) (argumentsAt t n)
+  pub goal-atom : kindOf t n ≡ atomKind → goalAt t n ≡ atom (labelOf t n) (argumentsAt t n)
   unfolding goalAt
   goal-atom e = goalBy-atom n t n e
 
-  pub goal-true : kindOf t n ≡ 3 → goalAt t n ≡ truth
+  pub goal-true : kindOf t n ≡ trueKind → goalAt t n ≡ truth
   unfolding goalAt
   goal-true e = goalBy-true n t n e
 
-  pub goal-and : IsGoal t n → kindOf t n ≡ 4 → goalAt t n ≡ and (goalAt t (childOf t n 0)) (goalAt t (childOf t n 1))
+  pub goal-and : IsGoal t n → kindOf t n ≡ andKind → goalAt t n ≡ and (goalAt t (childOf t n 0)) (goalAt t (childOf t n 1))
   unfolding goalAt
   goal-and i e =
       let a = made .goal n h i .and e in
       goalBy-and n t n e ∙ ap₂ and (goal-below (childOf t n 0) (a .0) (a .1)) (goal-below (childOf t n 1) (a .2) (a .3))
 
-  pub goal-or : IsGoal t n → kindOf t n ≡ 5 → goalAt t n ≡ or (goalAt t (childOf t n 0)) (goalAt t (childOf t n 1))
+  pub goal-or : IsGoal t n → kindOf t n ≡ orKind → goalAt t n ≡ or (goalAt t (childOf t n 0)) (goalAt t (childOf t n 1))
   unfolding goalAt
   goal-or i e =
       let a = made .goal n h i .or e in
       goalBy-or n t n e ∙ ap₂ or (goal-below (childOf t n 0) (a .0) (a .1)) (goal-below (childOf t n 1) (a .2) (a .3))
 
-  pub goal-implies : IsGoal t n → kindOf t n ≡ 6 → goalAt t n ≡ implies (clauseAtNode t (childOf t n 0)) (goalAt t (childOf t n 1))
+  pub goal-implies : IsGoal t n → kindOf t n ≡ impliesKind → goalAt t n ≡ implies (clauseAtNode t (childOf t n 0)) (goalAt t (childOf t n 1))
   unfolding goalAt
   goal-implies i e =
       let a = made .goal n h i .implies e in
       goalBy-implies n t n e ∙ ap₂ implies (clause-below (childOf t n 0) (a .0) (a .1)) (goal-below (childOf t n 1) (a .2) (a .3))
 
-  pub goal-exists : IsGoal t n → kindOf t n ≡ 7 → goalAt t n ≡ exists (labelOf t n) (goalAt t (childOf t n 0))
+  pub goal-exists : IsGoal t n → kindOf t n ≡ existsKind → goalAt t n ≡ exists (labelOf t n) (goalAt t (childOf t n 0))
   unfolding goalAt
   goal-exists i e = let a = made .goal n h i .exists e in goalBy-exists n t n e ∙ ap (exists (labelOf t n)) (goal-below (childOf t n 0) (a .1) (a .2))
 
-  pub goal-forall : IsGoal t n → kindOf t n ≡ 8 → goalAt t n ≡ forall (labelOf t n) (goalAt t (childOf t n 0))
+  pub goal-forall : IsGoal t n → kindOf t n ≡ forallKind → goalAt t n ≡ forall (labelOf t n) (goalAt t (childOf t n 0))
   unfolding goalAt
   goal-forall i e = let a = made .goal n h i .forall e in goalBy-forall n t n e ∙ ap (forall (labelOf t n)) (goal-below (childOf t n 0) (a .1) (a .2))
 
-  pub clause-fact : kindOf t n ≡ 2 → clauseAtNode t n ≡ fact (labelOf t n) (argumentsAt t n)
+  pub clause-fact : kindOf t n ≡ atomKind → clauseAtNode t n ≡ fact (labelOf t n) (argumentsAt t n)
   unfolding clauseAtNode
   clause-fact e = clauseBy-fact n t n e
 
-  pub clause-both : IsClause t n → kindOf t n ≡ 4 → clauseAtNode t n ≡ both (clauseAtNode t (childOf t n 0)) (clauseAtNode t (childOf t n 1))
+  pub clause-both : IsClause t n → kindOf t n ≡ andKind → clauseAtNode t n ≡ both (clauseAtNode t (childOf t n 0)) (clauseAtNode t (childOf t n 1))
   unfolding clauseAtNode
   clause-both i e =
       let a = made .clause n h i .and e in
       clauseBy-both n t n e ∙ ap₂ both (clause-below (childOf t n 0) (a .0) (a .1)) (clause-below (childOf t n 1) (a .2) (a .3))
 
-  pub clause-rule : IsClause t n → kindOf t n ≡ 6
+  pub clause-rule : IsClause t n → kindOf t n ≡ impliesKind
       → clauseAtNode t n ≡ rule (goalAt t (childOf t n 0)) (labelOf t (childOf t n 1)) (argumentsAt t (childOf t n 1))
   unfolding clauseAtNode
   clause-rule i e =
@@ -317,6 +317,6 @@ module _ (t : List ℕ) (nodes : ℕ) (made : Nodes t nodes) (n : ℕ) (h : n < 
       clauseBy-rule n t n e
       ∙ ap (λ (g : Goal). rule g (labelOf t (childOf t n 1)) (argumentsAt t (childOf t n 1))) (goal-below (childOf t n 0) (a .0) (a .1))
 
-  pub clause-each : IsClause t n → kindOf t n ≡ 8 → clauseAtNode t n ≡ each (labelOf t n) (clauseAtNode t (childOf t n 0))
+  pub clause-each : IsClause t n → kindOf t n ≡ forallKind → clauseAtNode t n ≡ each (labelOf t n) (clauseAtNode t (childOf t n 0))
   unfolding clauseAtNode
   clause-each i e = let a = made .clause n h i .each e in clauseBy-each n t n e ∙ ap (each (labelOf t n)) (clause-below (childOf t n 0) (a .1) (a .2))

@@ -9,7 +9,7 @@ use lib.ListN.{length}
 use Rattle.terms.specs.Terms.{Term, size}
 use Rattle.formulas.specs.Formulas.{Goal, Clause, freeT, freeG, freeC}
 use Rattle.formulas.specs.Members.{members}
-use Rattle.node_table.specs.Layout.{kindOf, labelOf, childOf, maskOf, bitOf, membersOf, arityOf}
+use Rattle.node_table.specs.Layout.{kindOf, labelOf, childOf, maskOf, bitOf, membersOf, arityOf, atomKind, applicationKind}
 use Rattle.node_table.specs.Decoding.{termAt, goalAt, clauseAtNode}
 use Rattle.node_table.specs.WellMade.{IsTerm, IsGoal, IsClause, Arguments, TermNode, GoalNode, ClauseNode}
 use Rattle.node_table.proofs.Same.{Same, same-kind, same-count, same-label, same-child, same-mask, same-goal, same-members, same-size, same-arity}
@@ -62,7 +62,7 @@ module _ (t u : List ℕ) (symbols nodes : ℕ) (s : Same t u symbols nodes) whe
           terms = λ j k. term-child j (omega arith) (a .terms j (omega arith));
         }
 
-  module _ (made : Nodes t nodes) (named : (n : ℕ) → n < nodes → 1 ≤ kindOf t n → kindOf t n ≤ 2 → labelOf t n < symbols) where
+  module _ (made : Nodes t nodes) (named : (n : ℕ) → n < nodes → applicationKind ≤ kindOf t n → kindOf t n ≤ atomKind → labelOf t n < symbols) where
     -- the arguments of an older node
     older : (n : ℕ) → n < nodes → (k : ℕ) → kindOf t n ≡ k → 1 ≤ k → k ≤ 2 → Arguments t n → Arguments u n
     older n h k e l m a = arguments-same n h (named n h (omega arith) (omega arith)) a
@@ -130,9 +130,9 @@ module _ (t u : List ℕ) (symbols nodes : ℕ) (s : Same t u symbols nodes) whe
               let x = goal-child n h 0 (omega arith) (a .0) (a .1) in
               let d = same-child t u symbols nodes s n h 1 (omega arith) in
               let b = a .2 in
-              let f : kindOf u (childOf t n 1) ≡ 2 = same-kind t u symbols nodes s (childOf t n 1) (omega arith) ∙ a .3 in
+              let f : kindOf u (childOf t n 1) ≡ atomKind = same-kind t u symbols nodes s (childOf t n 1) (omega arith) ∙ a .3 in
               let g : Arguments u (childOf t n 1) = older (childOf t n 1) (omega arith) 2 (a .3) (omega arith) (omega arith) (a .4) in
-              (x .0, x .1, subst (λ (i : ℕ). i < n) (sym d) b, subst (λ (i : ℕ). kindOf u i ≡ 2) (sym d) f, subst (λ (i : ℕ). Arguments u i) (sym d) g);
+              (x .0, x .1, subst (λ (i : ℕ). i < n) (sym d) b, subst (λ (i : ℕ). kindOf u i ≡ atomKind) (sym d) f, subst (λ (i : ℕ). Arguments u i) (sym d) g);
           each = λ k. let a = m .each (sym e ∙ k) in
               let x = clause-child n h 0 (omega arith) (a .1) (a .2) in
               (subst (λ (x : ℕ). x < 8) (sym l) (a .0), x .0, x .1, c ∙ a .3 ∙ sym (members-child n h 0 (omega arith) (a .1)));

@@ -8,7 +8,7 @@ use Rattle.terms.specs.Terms.{Term, leaf, app, Terms, nil, cons}
 use Rattle.formulas.specs.Formulas.{Goal, atom, truth, and, or, implies, exists, forall, Clause, fact, rule, both, each}
 use Rattle.sheet_format.specs.Nodes.{Declaration}
 use Rattle.sheet_format.specs.Sheets.{Sheet}
-use Rattle.node_table.specs.Layout.{kindOf, childCount, labelOf, childOf, isFunctionBit, nameStart, nameLength, arityOf, clauseNode}
+use Rattle.node_table.specs.Layout.{kindOf, childCount, labelOf, childOf, isFunctionBit, nameStart, nameLength, arityOf, clauseNode, forallKind, impliesKind, andKind, existsKind, orKind, atomKind, variableKind}
 
 -- The children from the j-th on, c of them, each read by r.
 unfoldable pub childrenBy : (ℕ → Term ℕ) → List ℕ → ℕ → ℕ → ℕ → Terms ℕ
@@ -17,7 +17,7 @@ childrenBy r t n (suc c) j = cons (r (childOf t n j)) (childrenBy r t n c (suc j
 
 unfoldable pub termBy : ℕ → List ℕ → ℕ → Term ℕ
 termBy zero t n = leaf 0
-termBy (suc f) t n = elim (eqb (kindOf t n) 0) [ true ↦ leaf (labelOf t n) | false ↦ app (labelOf t n) (childrenBy (termBy f t) t n (childCount t n) 0) ]
+termBy (suc f) t n = elim (eqb (kindOf t n) variableKind) [ true ↦ leaf (labelOf t n) | false ↦ app (labelOf t n) (childrenBy (termBy f t) t n (childCount t n) 0) ]
 
 unfoldable pub termAt : List ℕ → ℕ → Term ℕ
 termAt t n = termBy (suc n) t n
@@ -31,22 +31,22 @@ unfoldable mutual
   pub goalBy : ℕ → List ℕ → ℕ → Goal
   goalBy zero t n = truth
   goalBy (suc f) t n =
-      elim (eqb (kindOf t n) 2) [
+      elim (eqb (kindOf t n) atomKind) [
         | true ↦ atom (labelOf t n) (argumentsAt t n)
         | false ↦
-            elim (eqb (kindOf t n) 4) [
+            elim (eqb (kindOf t n) andKind) [
               | true ↦ and (goalBy f t (childOf t n 0)) (goalBy f t (childOf t n 1))
               | false ↦
-                  elim (eqb (kindOf t n) 5) [
+                  elim (eqb (kindOf t n) orKind) [
                     | true ↦ or (goalBy f t (childOf t n 0)) (goalBy f t (childOf t n 1))
                     | false ↦
-                        elim (eqb (kindOf t n) 6) [
+                        elim (eqb (kindOf t n) impliesKind) [
                           | true ↦ implies (clauseBy f t (childOf t n 0)) (goalBy f t (childOf t n 1))
                           | false ↦
-                              elim (eqb (kindOf t n) 7) [
+                              elim (eqb (kindOf t n) existsKind) [
                                 | true ↦ exists (labelOf t n) (goalBy f t (childOf t n 0))
                                 | false ↦
-                                    elim (eqb (kindOf t n) 8) [ true ↦ forall (labelOf t n) (goalBy f t (childOf t n 0)) | false ↦ truth ]
+                                    elim (eqb (kindOf t n) forallKind) [ true ↦ forall (labelOf t n) (goalBy f t (childOf t n 0)) | false ↦ truth ]
                               ]
                         ]
                   ]
@@ -56,13 +56,13 @@ unfoldable mutual
   pub clauseBy : ℕ → List ℕ → ℕ → Clause
   clauseBy zero t n = fact 0 nil
   clauseBy (suc f) t n =
-      elim (eqb (kindOf t n) 4) [
+      elim (eqb (kindOf t n) andKind) [
         | true ↦ both (clauseBy f t (childOf t n 0)) (clauseBy f t (childOf t n 1))
         | false ↦
-            elim (eqb (kindOf t n) 6) [
+            elim (eqb (kindOf t n) impliesKind) [
               | true ↦ rule (goalBy f t (childOf t n 0)) (labelOf t (childOf t n 1)) (argumentsAt t (childOf t n 1))
               | false ↦
-                  elim (eqb (kindOf t n) 8) [
+                  elim (eqb (kindOf t n) forallKind) [
                     | true ↦ each (labelOf t n) (clauseBy f t (childOf t n 0))
                     | false ↦
                         fact (labelOf t n) (argumentsAt t n)

@@ -3,18 +3,76 @@ use Prim.Native.Nat.{ℕ, zero, suc, _+_, _*_, _/_, _%_}
 use mathlib.Core.List.{List}
 use lib.ListN.{getD}
 
--- Field f of symbol i: where its name starts on the sheet, how long it is, and 2 * arity + 1 for a function symbol, 2 * arity for a
--- predicate.
-abbrev pub symbolAt : ℕ → ℕ → ℕ
-symbolAt i f = 3 * i + f
+-- The numbers of a symbol and of a node, and where the nodes and the clauses begin.
+abbrev pub symbolNumbers : ℕ
+symbolNumbers = 3
 
--- Field f of node n: 0 is kind + 16 * number of children, 1 the symbol or the variable, 2 to 5 the children, 6 what it is (below).
+abbrev pub nodeNumbers : ℕ
+nodeNumbers = 7
+
+abbrev pub firstNode : ℕ
+firstNode = 768
+
+abbrev pub firstClause : ℕ
+firstClause = 7936
+
+-- Fields of a symbol: where its name starts on the sheet, how long it is, and 2 * arity + 1 for a function symbol, 2 * arity for a
+-- predicate.
+abbrev pub nameStartField : ℕ
+nameStartField = 0
+
+abbrev pub nameLengthField : ℕ
+nameLengthField = 1
+
+abbrev pub arityField : ℕ
+arityField = 2
+
+-- Fields of a node: kind + 16 * number of children, the symbol or the variable, the children, what it is (below).
+abbrev pub headField : ℕ
+headField = 0
+
+abbrev pub labelField : ℕ
+labelField = 1
+
+abbrev pub firstChildField : ℕ
+firstChildField = 2
+
+abbrev pub secondChildField : ℕ
+secondChildField = 3
+
+abbrev pub thirdChildField : ℕ
+thirdChildField = 4
+
+abbrev pub fourthChildField : ℕ
+fourthChildField = 5
+
+abbrev pub infoField : ℕ
+infoField = 6
+
+-- What a child adds to the head of a node; what a goal, a member and a symbol of a term add to what it is.
+abbrev pub childUnit : ℕ
+childUnit = 16
+
+abbrev pub goalUnit : ℕ
+goalUnit = 256
+
+abbrev pub memberUnit : ℕ
+memberUnit = 512
+
+abbrev pub sizeUnit : ℕ
+sizeUnit = 65536
+
+-- Field f of symbol i.
+abbrev pub symbolAt : ℕ → ℕ → ℕ
+symbolAt i f = symbolNumbers * i + f
+
+-- Field f of node n.
 abbrev pub nodeAt : ℕ → ℕ → ℕ
-nodeAt n f = 768 + (7 * n + f)
+nodeAt n f = firstNode + (nodeNumbers * n + f)
 
 -- Clause i: its node.
 abbrev pub clauseAt : ℕ → ℕ
-clauseAt i = 7936 + i
+clauseAt i = firstClause + i
 
 -- Kinds: V, F applied, P applied (an atom), Y, &, |, >, E, U.
 abbrev pub variableKind : ℕ
@@ -46,36 +104,36 @@ forallKind = 8
 
 -- Reading the fields. Past the end of the table all is 0.
 unfoldable pub kindOf : List ℕ → ℕ → ℕ
-kindOf t n = getD t (nodeAt n 0) 0 % 16
+kindOf t n = getD t (nodeAt n headField) 0 % childUnit
 
 unfoldable pub childCount : List ℕ → ℕ → ℕ
-childCount t n = getD t (nodeAt n 0) 0 / 16
+childCount t n = getD t (nodeAt n headField) 0 / childUnit
 
 unfoldable pub labelOf : List ℕ → ℕ → ℕ
-labelOf t n = getD t (nodeAt n 1) 0
+labelOf t n = getD t (nodeAt n labelField) 0
 
 unfoldable pub childOf : List ℕ → ℕ → ℕ → ℕ
-childOf t n j = getD t (nodeAt n (2 + j)) 0
+childOf t n j = getD t (nodeAt n (firstChildField + j)) 0
 
 -- What a node is, in one number: the mask of its free variables (variable v is bit v), whether it is a goal, its number of
 -- members if it is a clause (else 0), its size if it is a term (else 0).
 unfoldable pub infoOf : List ℕ → ℕ → ℕ
-infoOf t n = getD t (nodeAt n 6) 0
+infoOf t n = getD t (nodeAt n infoField) 0
 
 unfoldable pub packInfo : ℕ → ℕ → ℕ → ℕ → ℕ
-packInfo mask goal members size = mask + (256 * goal + (512 * members + 65536 * size))
+packInfo mask goal members size = mask + (goalUnit * goal + (memberUnit * members + sizeUnit * size))
 
 unfoldable pub maskOf : List ℕ → ℕ → ℕ
-maskOf t n = infoOf t n % 256
+maskOf t n = infoOf t n % goalUnit
 
 unfoldable pub goalBit : List ℕ → ℕ → ℕ
-goalBit t n = infoOf t n / 256 % 2
+goalBit t n = infoOf t n / goalUnit % 2
 
 unfoldable pub membersOf : List ℕ → ℕ → ℕ
-membersOf t n = infoOf t n / 512 % 128
+membersOf t n = infoOf t n / memberUnit % 128
 
 unfoldable pub sizeOf : List ℕ → ℕ → ℕ
-sizeOf t n = infoOf t n / 65536
+sizeOf t n = infoOf t n / sizeUnit
 
 -- Bit v of a mask.
 unfoldable pub bitOf : ℕ → ℕ → ℕ
@@ -84,16 +142,16 @@ bitOf mask (suc v) = bitOf (mask / 2) v
 
 -- Symbols and clauses.
 unfoldable pub nameStart : List ℕ → ℕ → ℕ
-nameStart t i = getD t (symbolAt i 0) 0
+nameStart t i = getD t (symbolAt i nameStartField) 0
 
 unfoldable pub nameLength : List ℕ → ℕ → ℕ
-nameLength t i = getD t (symbolAt i 1) 0
+nameLength t i = getD t (symbolAt i nameLengthField) 0
 
 unfoldable pub isFunctionBit : List ℕ → ℕ → ℕ
-isFunctionBit t i = getD t (symbolAt i 2) 0 % 2
+isFunctionBit t i = getD t (symbolAt i arityField) 0 % 2
 
 unfoldable pub arityOf : List ℕ → ℕ → ℕ
-arityOf t i = getD t (symbolAt i 2) 0 / 2
+arityOf t i = getD t (symbolAt i arityField) 0 / 2
 
 unfoldable pub clauseNode : List ℕ → ℕ → ℕ
 clauseNode t i = getD t (clauseAt i) 0

@@ -9,7 +9,8 @@ use lib.ListN.{length}
 use Rattle.terms.specs.Terms.{size}
 use Rattle.formulas.specs.Formulas.{freeT, freeG, freeC}
 use Rattle.formulas.specs.Members.{members}
-use Rattle.node_table.specs.Layout.{kindOf, childCount, labelOf, childOf, maskOf, bitOf, goalBit, membersOf, sizeOf, arityOf, clauseNode}
+use Rattle.sheet_format.specs.Limits.{maxArity, maxNodes, maxSymbols, maxClauses, variableNames, maxMembers}
+use Rattle.node_table.specs.Layout.{kindOf, childCount, labelOf, childOf, maskOf, bitOf, goalBit, membersOf, sizeOf, arityOf, clauseNode, applicationKind, forallKind, impliesKind, atomKind, andKind, existsKind, orKind, variableKind}
 use Rattle.node_table.specs.Decoding.{termAt, goalAt, clauseAtNode}
 
 abbrev pub IsTerm : List ℕ → ℕ → Type 0
@@ -23,46 +24,46 @@ IsClause t n = 1 ≤ membersOf t n
 
 -- The children of an application or an atom: as many as the symbol's arity, at most four, all terms made before.
 pub record Arguments (t : List ℕ) (n : ℕ) : Type 0 where
-  pub symbol : labelOf t n < 256
+  pub symbol : labelOf t n < maxSymbols
   pub many : childCount t n ≡ arityOf t (labelOf t n)
-  pub few : childCount t n ≤ 4
+  pub few : childCount t n ≤ maxArity
   pub terms : (j : ℕ) → j < childCount t n → (childOf t n j < n) × IsTerm t (childOf t n j)
 
 -- A term: a variable below 8, or an application.
 pub record TermNode (t : List ℕ) (n : ℕ) : Type 0 where
-  pub kind : kindOf t n ≤ 1
-  pub variable : kindOf t n ≡ 0 → labelOf t n < 8
-  pub application : kindOf t n ≡ 1 → Arguments t n
+  pub kind : kindOf t n ≤ applicationKind
+  pub variable : kindOf t n ≡ variableKind → labelOf t n < variableNames
+  pub application : kindOf t n ≡ applicationKind → Arguments t n
   pub size : sizeOf t n ≡ size (termAt t n)
-  pub free : (v : ℕ) → v < 8 → eqb (bitOf (maskOf t n) v) 1 ≡ freeT (termAt t n) v
+  pub free : (v : ℕ) → v < variableNames → eqb (bitOf (maskOf t n) v) 1 ≡ freeT (termAt t n) v
 
 pub record GoalNode (t : List ℕ) (n : ℕ) : Type 0 where
-  pub least : 2 ≤ kindOf t n
-  pub most : kindOf t n ≤ 8
-  pub atom : kindOf t n ≡ 2 → Arguments t n
-  pub and : kindOf t n ≡ 4 → (childOf t n 0 < n) × IsGoal t (childOf t n 0) × (childOf t n 1 < n) × IsGoal t (childOf t n 1)
-  pub or : kindOf t n ≡ 5 → (childOf t n 0 < n) × IsGoal t (childOf t n 0) × (childOf t n 1 < n) × IsGoal t (childOf t n 1)
-  pub implies : kindOf t n ≡ 6 → (childOf t n 0 < n) × IsClause t (childOf t n 0) × (childOf t n 1 < n) × IsGoal t (childOf t n 1)
-  pub exists : kindOf t n ≡ 7 → (labelOf t n < 8) × (childOf t n 0 < n) × IsGoal t (childOf t n 0)
-  pub forall : kindOf t n ≡ 8 → (labelOf t n < 8) × (childOf t n 0 < n) × IsGoal t (childOf t n 0)
-  pub free : (v : ℕ) → v < 8 → eqb (bitOf (maskOf t n) v) 1 ≡ freeG (goalAt t n) v
+  pub least : atomKind ≤ kindOf t n
+  pub most : kindOf t n ≤ forallKind
+  pub atom : kindOf t n ≡ atomKind → Arguments t n
+  pub and : kindOf t n ≡ andKind → (childOf t n 0 < n) × IsGoal t (childOf t n 0) × (childOf t n 1 < n) × IsGoal t (childOf t n 1)
+  pub or : kindOf t n ≡ orKind → (childOf t n 0 < n) × IsGoal t (childOf t n 0) × (childOf t n 1 < n) × IsGoal t (childOf t n 1)
+  pub implies : kindOf t n ≡ impliesKind → (childOf t n 0 < n) × IsClause t (childOf t n 0) × (childOf t n 1 < n) × IsGoal t (childOf t n 1)
+  pub exists : kindOf t n ≡ existsKind → (labelOf t n < variableNames) × (childOf t n 0 < n) × IsGoal t (childOf t n 0)
+  pub forall : kindOf t n ≡ forallKind → (labelOf t n < variableNames) × (childOf t n 0 < n) × IsGoal t (childOf t n 0)
+  pub free : (v : ℕ) → v < variableNames → eqb (bitOf (maskOf t n) v) 1 ≡ freeG (goalAt t n) v
 
 -- A clause: an atom, & of clauses, > from a goal to an atom, U of a clause.
 pub record ClauseNode (t : List ℕ) (n : ℕ) : Type 0 where
-  pub kind : (kindOf t n ≡ 2 → ⊥) → (kindOf t n ≡ 4 → ⊥) → (kindOf t n ≡ 6 → ⊥) → kindOf t n ≡ 8
-  pub atom : kindOf t n ≡ 2 → Arguments t n
-  pub and : kindOf t n ≡ 4 → (childOf t n 0 < n) × IsClause t (childOf t n 0) × (childOf t n 1 < n) × IsClause t (childOf t n 1)
+  pub kind : (kindOf t n ≡ atomKind → ⊥) → (kindOf t n ≡ andKind → ⊥) → (kindOf t n ≡ impliesKind → ⊥) → kindOf t n ≡ forallKind
+  pub atom : kindOf t n ≡ atomKind → Arguments t n
+  pub and : kindOf t n ≡ andKind → (childOf t n 0 < n) × IsClause t (childOf t n 0) × (childOf t n 1 < n) × IsClause t (childOf t n 1)
       × (membersOf t n ≡ membersOf t (childOf t n 0) + membersOf t (childOf t n 1))
-  pub implies : kindOf t n ≡ 6 → (childOf t n 0 < n) × IsGoal t (childOf t n 0) × (childOf t n 1 < n) × (kindOf t (childOf t n 1) ≡ 2) × Arguments t (childOf t n 1)
-  pub each : kindOf t n ≡ 8 → (labelOf t n < 8) × (childOf t n 0 < n) × IsClause t (childOf t n 0) × (membersOf t n ≡ membersOf t (childOf t n 0))
-  pub few : membersOf t n ≤ 64
+  pub implies : kindOf t n ≡ impliesKind → (childOf t n 0 < n) × IsGoal t (childOf t n 0) × (childOf t n 1 < n) × (kindOf t (childOf t n 1) ≡ atomKind) × Arguments t (childOf t n 1)
+  pub each : kindOf t n ≡ forallKind → (labelOf t n < variableNames) × (childOf t n 0 < n) × IsClause t (childOf t n 0) × (membersOf t n ≡ membersOf t (childOf t n 0))
+  pub few : membersOf t n ≤ maxMembers
   pub members : membersOf t n ≡ length (members (clauseAtNode t n))
-  pub free : (v : ℕ) → v < 8 → eqb (bitOf (maskOf t n) v) 1 ≡ freeC (clauseAtNode t n) v
+  pub free : (v : ℕ) → v < variableNames → eqb (bitOf (maskOf t n) v) 1 ≡ freeC (clauseAtNode t n) v
 
 -- So many nodes and clauses, and the goal's node.
 pub record WellMade (t : List ℕ) (nodes clauses goal : ℕ) : Type 0 where
-  pub fewNodes : nodes ≤ 1024
-  pub fewClauses : clauses ≤ 128
+  pub fewNodes : nodes ≤ maxNodes
+  pub fewClauses : clauses ≤ maxClauses
   pub term : (n : ℕ) → n < nodes → IsTerm t n → TermNode t n
   pub goalNode : (n : ℕ) → n < nodes → IsGoal t n → GoalNode t n
   pub clauseNodes : (n : ℕ) → n < nodes → IsClause t n → ClauseNode t n
@@ -72,4 +73,4 @@ pub record WellMade (t : List ℕ) (nodes clauses goal : ℕ) : Type 0 where
 
 -- The applications of a table name symbols that are declared.
 abbrev pub Named : List ℕ → ℕ → ℕ → Type 0
-Named t nodes symbols = (n : ℕ) → n < nodes → IsTerm t n → kindOf t n ≡ 1 → labelOf t n < symbols
+Named t nodes symbols = (n : ℕ) → n < nodes → IsTerm t n → kindOf t n ≡ applicationKind → labelOf t n < symbols

@@ -1,4 +1,7 @@
 // The lent table of 8,192 numbers: symbols, nodes and clauses, read field by field. A read past the end gives 0.
+pub mod kinds;
+pub mod layout;
+
 use memory::get;
 use memory::wide;
 ghost use mathlib.Core.Path.{_≡_};
@@ -13,7 +16,7 @@ fn node_field(t: &[u32], n: u32, f: usize) -> u32
     ensures { λ r. ⌜ r ≡ getD (now (t .entry)) (nodeAt n f) 0 ⌝ }
 {
     let w = wide(n);
-    get(t, 768 + (7 * w + f))
+    get(t, layout::FIRST_NODE + (layout::NODE_NUMBERS * w + f))
 }
 
 // Field f of symbol i.
@@ -22,55 +25,55 @@ fn symbol_field(t: &[u32], i: u32, f: usize) -> u32
     ensures { λ r. ⌜ r ≡ getD (now (t .entry)) (symbolAt i f) 0 ⌝ }
 {
     let w = wide(i);
-    get(t, 3 * w + f)
+    get(t, layout::SYMBOL_NUMBERS * w + f)
 }
 
-// 0 V, 1 F applied, 2 P applied, 3 Y, 4 &, 5 |, 6 >, 7 E, 8 U.
+// V, F applied, P applied, Y, &, |, >, E or U: one of the module `kinds`.
 pub fn kind(t: &[u32], n: u32) -> u32
     ensures { λ r. ⌜ r ≡ kindOf (now (t .entry)) n ⌝ }
 {
-    node_field(t, n, 0) % 16
+    node_field(t, n, layout::HEAD) % layout::CHILD_UNIT
 }
 
 pub fn child_count(t: &[u32], n: u32) -> u32
     ensures { λ r. ⌜ r ≡ childCount (now (t .entry)) n ⌝ }
 {
-    node_field(t, n, 0) / 16
+    node_field(t, n, layout::HEAD) / layout::CHILD_UNIT
 }
 
 // The symbol of an application or an atom, the variable of V, E and U.
 pub fn label(t: &[u32], n: u32) -> u32
     ensures { λ r. ⌜ r ≡ labelOf (now (t .entry)) n ⌝ }
 {
-    node_field(t, n, 1)
+    node_field(t, n, layout::LABEL)
 }
 
 pub fn child(t: &[u32], n: u32, j: u32) -> u32
     ensures { λ r. ⌜ r ≡ childOf (now (t .entry)) n j ⌝ }
 {
     let w = wide(j);
-    node_field(t, n, 2 + w)
+    node_field(t, n, layout::FIRST_CHILD + w)
 }
 
 // What the node is: mask, goal bit, members and size in one number.
 pub fn info(t: &[u32], n: u32) -> u32
     ensures { λ r. ⌜ r ≡ infoOf (now (t .entry)) n ⌝ }
 {
-    node_field(t, n, 6)
+    node_field(t, n, layout::INFO)
 }
 
 // The free variables: variable v is bit v.
 pub fn mask(t: &[u32], n: u32) -> u32
     ensures { λ r. ⌜ (r ≡ maskOf (now (t .entry)) n) × (r < 256) ⌝ }
 {
-    info(t, n) % 256
+    info(t, n) % layout::GOAL_UNIT
 }
 
 // 1 if it is a goal.
 pub fn goal_bit(t: &[u32], n: u32) -> u32
     ensures { λ r. ⌜ (r ≡ goalBit (now (t .entry)) n) × (r ≤ 1) ⌝ }
 {
-    info(t, n) / 256 % 2
+    info(t, n) / layout::GOAL_UNIT % 2
 }
 
 pub fn is_goal(t: &[u32], n: u32) -> bool
@@ -83,46 +86,46 @@ pub fn is_goal(t: &[u32], n: u32) -> bool
 pub fn members(t: &[u32], n: u32) -> u32
     ensures { λ r. ⌜ (r ≡ membersOf (now (t .entry)) n) × (r < 128) ⌝ }
 {
-    info(t, n) / 512 % 128
+    info(t, n) / layout::MEMBER_UNIT % 128
 }
 
 // How many variables and symbols the term has; 0 if it is none.
 pub fn size(t: &[u32], n: u32) -> u32
     ensures { λ r. ⌜ (r ≡ sizeOf (now (t .entry)) n) × (r < 65536) ⌝ }
 {
-    info(t, n) / 65536
+    info(t, n) / layout::SIZE_UNIT
 }
 
 pub fn name_start(t: &[u32], i: u32) -> u32
     ensures { λ r. ⌜ r ≡ nameStart (now (t .entry)) i ⌝ }
 {
-    symbol_field(t, i, 0)
+    symbol_field(t, i, layout::NAME_START)
 }
 
 pub fn name_length(t: &[u32], i: u32) -> u32
     ensures { λ r. ⌜ r ≡ nameLength (now (t .entry)) i ⌝ }
 {
-    symbol_field(t, i, 1)
+    symbol_field(t, i, layout::NAME_LENGTH)
 }
 
 pub fn is_function(t: &[u32], i: u32) -> bool
     ensures { λ r. ⌜ r ≡ eqb (isFunctionBit (now (t .entry)) i) 1 ⌝ }
 {
-    let bit = symbol_field(t, i, 2) % 2;
+    let bit = symbol_field(t, i, layout::ARITY) % 2;
     bit == 1
 }
 
 pub fn arity(t: &[u32], i: u32) -> u32
     ensures { λ r. ⌜ r ≡ arityOf (now (t .entry)) i ⌝ }
 {
-    symbol_field(t, i, 2) / 2
+    symbol_field(t, i, layout::ARITY) / 2
 }
 
 pub fn clause_node(t: &[u32], i: u32) -> u32
     ensures { λ r. ⌜ r ≡ clauseNode (now (t .entry)) i ⌝ }
 {
     let w = wide(i);
-    get(t, 7936 + w)
+    get(t, layout::FIRST_CLAUSE + w)
 }
 
 // Bit v of a mask.

@@ -42,7 +42,7 @@ fn number_at(text: &[u8], i: usize) -> u32
 {
     match read_number(text, i) {
         Number::Value(n, _) => n,
-        Number::Missing => 65536,
+        Number::Missing => scanning::NO_NUMBER,
     }
 }
 
@@ -53,7 +53,7 @@ pub fn number_after(text: &[u8], i: usize) -> u32
     if i < text.len() {
         return number_at(text, i + 1);
     }
-    65536
+    scanning::NO_NUMBER
 }
 
 // The level of the symbol at place i: after its number and `@`.
@@ -63,10 +63,10 @@ pub fn level_at(text: &[u8], i: usize) -> u32
     if i < text.len() {
         return match read_number(text, i + 1) {
             Number::Value(_, e) => number_after(text, e),
-            Number::Missing => 65536,
+            Number::Missing => scanning::NO_NUMBER,
         };
     }
-    65536
+    scanning::NO_NUMBER
 }
 
 // Whether a symbol with first byte c and number n begins at place i.
@@ -95,7 +95,7 @@ fn level_from(text: &[u8], c: u8, n: u32, i: usize) -> u32
         }
         at = find_byte(text, c, at + 1);
     }
-    65536
+    scanning::NO_NUMBER
 }
 
 // The same in the whole text.

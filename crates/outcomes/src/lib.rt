@@ -1,4 +1,7 @@
 // What the engine and the checker hand back (document 01, "proved, no, spent or one numbered refusal with its line").
+pub mod codes;
+pub mod refusals;
+
 ghost use mathlib.Core.Path.{_≡_};
 ghost use Rattle.outcomes.specs.Outcomes.{refusedRun};
 

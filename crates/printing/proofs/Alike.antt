@@ -7,20 +7,22 @@ use mathlib.Core.List.{List}
 use lib.Dec.{eqb}
 use lib.ListN.{length}
 use borrow.Author.Tests.{eqb-true, eqb-false, eq-eqb}
-use Rattle.node_table.specs.Layout.{kindOf, labelOf}
+use Rattle.sheet_format.specs.Limits.{numbersPerUnit, variableNames}
+use Rattle.node_table.specs.Layout.{kindOf, labelOf, variableKind}
+use Rattle.machine.specs.Fields as fields
 use Rattle.machine.specs.Records.{field, put, cellOf, levelOf, putCell}
-use Rattle.machine.specs.Words.{closureWord, tagOf, nameOf, slotOf, wordOf}
+use Rattle.machine.specs.Words.{closureWord, tagOf, nameOf, slotOf, wordOf, variableTag}
 use Rattle.printing.specs.Marks.{seek}
 use Rattle.machine.proofs.Records.{length-put, field-other, There, cell-same, cell-put, level-put, field-cell, level-cell, cell-other}
 
 -- A variable of the first n records is in memory.
-pub there-from : (n x : ℕ) (w : List ℕ) → 64 * n ≤ length w → x < 9 * n → There x w
+pub there-from : (n x : ℕ) (w : List ℕ) → numbersPerUnit * n ≤ length w → x < 9 * n → There x w
 there-from n x w r h = let d : x / 9 < n = omega arith in omega arith
 
 -- Two memories that read alike.
 pub record Alike (hi : ℕ) (w w′ : List ℕ) : Type 0 where
   pub long : length w′ ≡ length w
-  pub fields : (u f : ℕ) → 18 ≤ f → f < hi → field w′ u f ≡ field w u f
+  pub fields : (u f : ℕ) → fields.entryLowered ≤ f → f < hi → field w′ u f ≡ field w u f
   pub levels : (x : ℕ) → levelOf w′ x ≡ levelOf w x
   pub free : (x : ℕ) → tagOf (cellOf w x) ≡ 0 → tagOf (cellOf w′ x) ≡ 0
   pub bound : (x : ℕ) → (tagOf (cellOf w x) ≡ 0 → ⊥) → cellOf w′ x ≡ cellOf w x
@@ -44,7 +46,7 @@ pub alike-fewer : (hi lo : ℕ) (w w′ : List ℕ) → lo ≤ hi → Alike hi w
 alike-fewer hi lo w w′ h a = record { long = a .long; fields = λ u f p q. a .fields u f p (omega arith); levels = a .levels; free = a .free; bound = a .bound }
 
 -- A free field is written.
-pub alike-put : (hi : ℕ) (w : List ℕ) (u f a : ℕ) → hi ≤ f → 18 ≤ f → f < 64 → Alike hi w (put w u f a)
+pub alike-put : (hi : ℕ) (w : List ℕ) (u f a : ℕ) → hi ≤ f → fields.entryLowered ≤ f → f < numbersPerUnit → Alike hi w (put w u f a)
 alike-put hi w u f a h l k = record {
   long = length-put w u f a;
   fields = λ v g p q. field-other w u f v g a k (omega arith) (λ e. omega arith);
@@ -72,7 +74,7 @@ alike-mark hi w x a h t e f = record {
 pub seek-alike : (hi n : ℕ) (w w′ : List ℕ) (a : ℕ) → Alike hi w w′ → seek n w′ a ≡ seek n w a
 unfolding seek
 seek-alike hi zero w w′ a h = refl
-seek-alike hi (suc n) w w′ a h = go (eqb (tagOf a) 1) (λ b. seek-alike hi n w w′ b h)
+seek-alike hi (suc n) w w′ a h = go (eqb (tagOf a) variableTag) (λ b. seek-alike hi n w w′ b h)
   where
     turn : List ℕ → ℕ → ℕ
     turn v c = elim (eqb (tagOf c) 0) [ true ↦ a | false ↦ seek n v c ]
@@ -86,15 +88,15 @@ seek-alike hi (suc n) w w′ a h = go (eqb (tagOf a) 1) (λ b. seek-alike hi n w
     go false f = refl
 
 -- a slot, and a node's word.
-pub slot-alike : (hi : ℕ) (w w′ : List ℕ) (f v : ℕ) → 31 ≤ hi → v < 8 → Alike hi w w′ → slotOf w′ f v ≡ slotOf w f v
+pub slot-alike : (hi : ℕ) (w w′ : List ℕ) (f v : ℕ) → 31 ≤ hi → v < variableNames → Alike hi w w′ → slotOf w′ f v ≡ slotOf w f v
 unfolding slotOf
-slot-alike hi w w′ f v h l a = rw (a .fields (f - 1) (23 + v) (omega arith) (omega arith))
+slot-alike hi w w′ f v h l a = rw (a .fields (f - 1) (fields.frame + v) (omega arith) (omega arith))
 
 -- the word of a node
-pub word-alike : (hi : ℕ) (t w w′ : List ℕ) (n f : ℕ) → 31 ≤ hi → (kindOf t n ≡ 0 → labelOf t n < 8) → Alike hi w w′ → wordOf t w′ n f ≡ wordOf t w n f
+pub word-alike : (hi : ℕ) (t w w′ : List ℕ) (n f : ℕ) → 31 ≤ hi → (kindOf t n ≡ variableKind → labelOf t n < variableNames) → Alike hi w w′ → wordOf t w′ n f ≡ wordOf t w n f
 unfolding wordOf
-word-alike hi t w w′ n f h l a = go (eqb (kindOf t n) 0) refl
+word-alike hi t w w′ n f h l a = go (eqb (kindOf t n) variableKind) refl
   where
-    go : (b : Bool) → eqb (kindOf t n) 0 ≡ b → cond b (slotOf w′ f (labelOf t n)) (closureWord n f) ≡ cond b (slotOf w f (labelOf t n)) (closureWord n f)
+    go : (b : Bool) → eqb (kindOf t n) variableKind ≡ b → cond b (slotOf w′ f (labelOf t n)) (closureWord n f) ≡ cond b (slotOf w f (labelOf t n)) (closureWord n f)
     go true e = slot-alike hi w w′ f (labelOf t n) h (l (eqb-true (kindOf t n) 0 e)) a
     go false e = refl

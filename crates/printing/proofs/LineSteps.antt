@@ -18,10 +18,12 @@ use Rattle.search.specs.Search.{startEnvironment}
 use Rattle.search.specs.Answers.{final, finalEnvironment}
 use Rattle.sheet_format.specs.Bytes.{ascii, tab, lf, decimal}
 use Rattle.sheet_format.specs.Nodes.{Declaration}
+use Rattle.sheet_format.specs.Limits.{variableNames}
 use Rattle.node_table.specs.Layout.{bitOf}
 use Rattle.node_table.specs.Decoding.{declarationsFrom}
 use Rattle.answer_texts.specs.TextLines.{bindingLine}
 use Rattle.answer_texts.specs.Spelling.{spellWord, join, textLine}
+use Rattle.machine.specs.Fields as fields
 use Rattle.machine.specs.Records.{field}
 use Rattle.machine.specs.Words.{variableWord, constantWord, termOf}
 use Rattle.machine.specs.Reading.{variablesFrom, lineAt}
@@ -107,13 +109,13 @@ module _ (sheet t : List ℕ) (symbols nodes : ℕ) (w : List ℕ) (acts : ℕ) 
 
   -- that of a constant
   pub reach-constant : (c : ℕ) (g : Page) → c < acts → Alike 62 w (g .memory)
-      → Reached (termTokens (final s (con c (field w c 22))) ds) g (termTo sheet t acts limit g (constantWord c))
+      → Reached (termTokens (final s (con c (field w c fields.constantLevel))) ds) g (termTo sheet t acts limit g (constantWord c))
   unfolding substitute Leaves Below
   reach-constant c g l k =
       let f = b .few in
       let e = constant-name c (omega arith) in
-      reach-word (constantWord c) (leaf (con c (field w c 22))) g (ofLeaf (constant (constant-tag c (omega arith)) (subst (λ (y : ℕ). y < acts) (sym e) l))) tt
-      (constant-term t nodes (b .table) (b .size) w acts (b .few) s (constantWord c) (constant-tag c (omega arith)) ∙ ap (λ (y : ℕ). leaf (con y (field w y 22))) e) k
+      reach-word (constantWord c) (leaf (con c (field w c fields.constantLevel))) g (ofLeaf (constant (constant-tag c (omega arith)) (subst (λ (y : ℕ). y < acts) (sym e) l))) tt
+      (constant-term t nodes (b .table) (b .size) w acts (b .few) s (constantWord c) (constant-tag c (omega arith)) ∙ ap (λ (y : ℕ). leaf (con y (field w y fields.constantLevel))) e) k
 
   -- a term between bytes and LF
   reach-line : (bs : List ℕ) (a : ℕ) (v : Ground) (g : Page)
@@ -138,12 +140,12 @@ module _ (sheet t : List ℕ) (symbols nodes : ℕ) (w : List ℕ) (acts : ℕ) 
       (reach-then (map byte (decimal n)) (byte lf ∷ []) h i _ (reach-number n h) (reach-byte lf i)))
 
   -- "`B v term`"
-  start-value : (v : ℕ) → v < 8 → final s (var v) ≡ finalEnvironment s v
+  start-value : (v : ℕ) → v < variableNames → final s (var v) ≡ finalEnvironment s v
   unfolding finalEnvironment startEnvironment substitute
   start-value v h = rw (lt-ltb v 8 h)
 
   -- one of them
-  reach-binding : (v : ℕ) (g : Page) → v < 8 → 8 ≤ s .next → Alike 62 w (g .memory)
+  reach-binding : (v : ℕ) (g : Page) → v < variableNames → 8 ≤ s .next → Alike 62 w (g .memory)
       → Reached (textTokens ds (bindingLine v (finalEnvironment s v))) g (termLine sheet t acts limit (numberTo limit (bytesTo limit g (ascii "B\t")) v) (ascii "\t") (variableWord v))
   unfolding textTokens numberTo bytesTo wrote ascii
   reach-binding v g l n k =
@@ -222,10 +224,10 @@ module _ (sheet t : List ℕ) (symbols nodes : ℕ) (w : List ℕ) (acts : ℕ) 
   reach-line-at q (suc (suc (suc (suc zero)))) g h l k = reach-bytes (plainBytes 4) g
   reach-line-at q (suc (suc (suc (suc (suc zero))))) g h l k =
       rw (k .fields q 43 (omega arith) (omega arith))
-      (reach-line (ascii "D\tsome\t") (variableWord (field w q 43)) (final s (var (field w q 43))) g (λ h k. reach-variable (field w q 43) h (l .some refl) k) k)
+      (reach-line (ascii "D\tsome\t") (variableWord (field w q fields.variables)) (final s (var (field w q fields.variables))) g (λ h k. reach-variable (field w q fields.variables) h (l .some refl) k) k)
   reach-line-at q (suc (suc (suc (suc (suc (suc zero)))))) g h l k =
-      reach-line (ascii "D\tall\t") (constantWord q) (final s (con q (field w q 22))) g (λ i k. reach-constant q i h k) k
+      reach-line (ascii "D\tall\t") (constantWord q) (final s (con q (field w q fields.constantLevel))) g (λ i k. reach-constant q i h k) k
   reach-line-at q (suc (suc (suc (suc (suc (suc (suc zero))))))) g h l k =
       rw (k .fields q 41 (omega arith) (omega arith), k .fields q 42 (omega arith) (omega arith), k .fields q 43 (omega arith) (omega arith))
-      (reach-clause (field w q 41) (field w q 42) (field w q 43) g (l .clause refl) k)
+      (reach-clause (field w q fields.usePlace) (field w q fields.useCount) (field w q fields.variables) g (l .clause refl) k)
   reach-line-at q (suc (suc (suc (suc (suc (suc (suc (suc j)))))))) g h l k = absurd (let e = l .kind in omega arith)

@@ -13,6 +13,8 @@ use Rattle.terms.proofs.Lists.{all-weaken}
 use Rattle.sequents.specs.Symbols.{Symbol, made, leftover}
 use Rattle.sequents.specs.Renamings.{Renaming, rename}
 use Rattle.sheet_format.specs.Bytes.{decimal}
+use Rattle.sheet_format.specs.Limits.{numbersPerUnit}
+use Rattle.machine.specs.Fields as fields
 use Rattle.machine.specs.Records.{field, put, cellOf, levelOf, putCell}
 use Rattle.machine.specs.Words.{narrow, tagOf}
 use Rattle.machine.proofs.Words.{up-small}
@@ -22,7 +24,7 @@ use Rattle.answer_texts.proofs.Showings.{has, madeOnly-append, leftoverOnly-app
 use Rattle.answer_texts.proofs.Infer.{sameSymbol-refl}
 use Rattle.printing.specs.declared.Pen.{Pen}
 use Rattle.printing.specs.Output.{Written, written, emit, writeBytes, writeSymbol}
-use Rattle.printing.specs.Marks.{onAt, onVariables, onConstants, Page, page, wrote, markVariable, markConstant, showVariable, showConstant}
+use Rattle.printing.specs.Marks.{onAt, onVariables, onConstants, Page, page, wrote, markVariable, markConstant, showVariable, showConstant, constantNumberField}
 use Rattle.printing.specs.WriteTerms.{emitTo}
 use Rattle.printing.specs.WriteLines.{bytesTo}
 use Rattle.machine.proofs.Records.{There, cell-same, cell-other, field-cell, level-cell, cell-put, field-same, field-other, record-other}
@@ -63,25 +65,25 @@ variable-new limit g x e t l =
     ∙ symbol-bytes (g .buffer) limit (g .pen .at) (code "_") (g .pen .variables) (levelOf (g .memory) x)))
 
 -- A constant likewise.
-constant-old : (limit : ℕ) (g : Page) (c n : ℕ) → field (g .memory) c 63 ≡ suc n → showConstant limit g c ≡ bytesTo limit g (spellSymbol (made n (field (g .memory) c 22)))
+constant-old : (limit : ℕ) (g : Page) (c n : ℕ) → field (g .memory) c constantNumberField ≡ suc n → showConstant limit g c ≡ bytesTo limit g (spellSymbol (made n (field (g .memory) c fields.constantLevel)))
 unfolding showConstant markConstant bytesTo spellSymbol
 constant-old limit g c n e =
-    rw (ne-eqb (field (g .memory) c 63) 0 (λ q. omega arith))
-    (ap (wrote g) (ap (λ (m : ℕ). writeSymbol (g .buffer) limit (g .pen .at) (code "!") m (field (g .memory) c 22)) (let z : field (g .memory) c 63 - 1 ≡ n = omega arith in z)
-    ∙ symbol-bytes (g .buffer) limit (g .pen .at) (code "!") n (field (g .memory) c 22)))
+    rw (ne-eqb (field (g .memory) c constantNumberField) 0 (λ q. omega arith))
+    (ap (wrote g) (ap (λ (m : ℕ). writeSymbol (g .buffer) limit (g .pen .at) (code "!") m (field (g .memory) c fields.constantLevel)) (let z : field (g .memory) c constantNumberField - 1 ≡ n = omega arith in z)
+    ∙ symbol-bytes (g .buffer) limit (g .pen .at) (code "!") n (field (g .memory) c fields.constantLevel)))
 
 -- one that gets it
-constant-new : (limit : ℕ) (g : Page) (c : ℕ) → field (g .memory) c 63 ≡ 0 → 64 * c + 63 < length (g .memory) → g .pen .constants ≤ 1000000
+constant-new : (limit : ℕ) (g : Page) (c : ℕ) → field (g .memory) c constantNumberField ≡ 0 → numbersPerUnit * c + 63 < length (g .memory) → g .pen .constants ≤ 1000000
     → showConstant limit g c
-    ≡ bytesTo limit (page (put (g .memory) c 63 (suc (g .pen .constants))) (g .buffer) (onConstants (g .pen) (suc (g .pen .constants)))) (spellSymbol (made (g .pen .constants) (field (g .memory) c 22)))
+    ≡ bytesTo limit (page (put (g .memory) c constantNumberField (suc (g .pen .constants))) (g .buffer) (onConstants (g .pen) (suc (g .pen .constants)))) (spellSymbol (made (g .pen .constants) (field (g .memory) c fields.constantLevel)))
 unfolding showConstant markConstant bytesTo spellSymbol onConstants
 constant-new limit g c e t l =
     rw (e, up-small (g .pen .constants) (omega arith))
-    (ap (wrote (page (put (g .memory) c 63 (suc (g .pen .constants))) (g .buffer) (onConstants (g .pen) (suc (g .pen .constants)))))
+    (ap (wrote (page (put (g .memory) c constantNumberField (suc (g .pen .constants))) (g .buffer) (onConstants (g .pen) (suc (g .pen .constants)))))
     (ap₂ (writeSymbol (g .buffer) limit (g .pen .at) (code "!"))
-    (let f = field-same (g .memory) c 63 (suc (g .pen .constants)) t in let z : field (put (g .memory) c 63 (suc (g .pen .constants))) c 63 - 1 ≡ g .pen .constants = omega arith in z)
-    (field-other (g .memory) c 63 c 22 (suc (g .pen .constants)) (omega arith) (omega arith) (λ q. omega arith))
-    ∙ symbol-bytes (g .buffer) limit (g .pen .at) (code "!") (g .pen .constants) (field (g .memory) c 22)))
+    (let f = field-same (g .memory) c constantNumberField (suc (g .pen .constants)) t in let z : field (put (g .memory) c constantNumberField (suc (g .pen .constants))) c constantNumberField - 1 ≡ g .pen .constants = omega arith in z)
+    (field-other (g .memory) c constantNumberField c fields.constantLevel (suc (g .pen .constants)) (omega arith) (omega arith) (λ q. omega arith))
+    ∙ symbol-bytes (g .buffer) limit (g .pen .at) (code "!") (g .pen .constants) (field (g .memory) c fields.constantLevel)))
 
 -- one symbol more, of each kind
 made-variable : (x k : ℕ) (h : List Symbol) → madeOnly (h ++ (leftover x k ∷ [])) ≡ madeOnly h
@@ -173,7 +175,7 @@ cellMark v (leftover x k) = cellOf v x
 
 -- of constants
 unfoldable pub fieldMark : List ℕ → Symbol → ℕ
-fieldMark v (made c k) = field v c 63
+fieldMark v (made c k) = field v c constantNumberField
 fieldMark v (leftover x k) = 0
 
 module _ (w : List ℕ) (next acts : ℕ) where
@@ -209,7 +211,7 @@ module _ (w : List ℕ) (next acts : ℕ) where
       pub bytes : written (g′ .buffer) (g′ .pen .at) ≡ writeBytes (spellSymbol (rename r y)) (g .buffer) limit (g .pen .at)
       pub numbered : Numbered (h ++ (y ∷ [])) (g′ .memory) (g′ .pen)
 
-    module _ (room : 64 * acts ≤ length w) (few : next ≤ 9 * acts) (limit : ℕ) (low : limit ≤ 65535) (small : base ≤ 65536) where
+    module _ (room : numbersPerUnit * acts ≤ length w) (few : next ≤ 9 * acts) (limit : ℕ) (low : limit ≤ 65535) (small : base ≤ 65536) where
       -- its bytes move the position
       symbol-moves : (z : Symbol) (out : List ℕ) (at : ℕ) → at ≤ limit → suc at ≤ writeBytes (spellSymbol z) out limit at .at
       unfolding spellSymbol writeBytes
@@ -296,31 +298,31 @@ module _ (w : List ℕ) (next acts : ℕ) where
           y : Symbol
           y = made c k
 
-          level : field (g .memory) c 22 ≡ k
+          level : field (g .memory) c fields.constantLevel ≡ k
           level = n .alike .fields c 22 (omega arith) (omega arith) ∙ sym (right .1)
 
-          mark : field (g .memory) c 63 ≡ cond (has (made c k) (madeOnly h)) (suc (r .ofMade c k)) 0
+          mark : field (g .memory) c constantNumberField ≡ cond (has (made c k) (madeOnly h)) (suc (r .ofMade c k)) 0
           mark = n .constants .marks (made c k) right
 
-          there : 64 * c + 63 < length (g .memory)
+          there : numbersPerUnit * c + 63 < length (g .memory)
           there = let a = n .alike .long in let b = right .0 in omega arith
 
-          other : (z : Symbol) (a : ℕ) → Constant z → sameSymbol (made c k) z ≡ false → fieldMark (put (g .memory) c 63 a) z ≡ fieldMark (g .memory) z
+          other : (z : Symbol) (a : ℕ) → Constant z → sameSymbol (made c k) z ≡ false → fieldMark (put (g .memory) c constantNumberField a) z ≡ fieldMark (g .memory) z
           other (leftover x j) a m d = refl
           other (made c′ j) a m d =
-              record-other (g .memory) c 63 c′ 63 a (omega arith) (omega arith)
-              (λ q. true≢false (sym (sameSymbol-refl (made c k)) ∙ ap (sameSymbol (made c k)) (ap₂ made (sym q) (right .1 ∙ ap (λ (d : ℕ). field w d 22) (sym q) ∙ sym (m .1))) ∙ d))
+              record-other (g .memory) c constantNumberField c′ constantNumberField a (omega arith) (omega arith)
+              (λ q. true≢false (sym (sameSymbol-refl (made c k)) ∙ ap (sameSymbol (made c k)) (ap₂ made (sym q) (right .1 ∙ ap (λ (d : ℕ). field w d fields.constantLevel) (sym q) ∙ sym (m .1))) ∙ d))
 
-          cell-kept : (z : Symbol) (a : ℕ) → cellMark (put (g .memory) c 63 a) z ≡ cellMark (g .memory) z
+          cell-kept : (z : Symbol) (a : ℕ) → cellMark (put (g .memory) c constantNumberField a) z ≡ cellMark (g .memory) z
           cell-kept (made c′ j) a = refl
-          cell-kept (leftover x j) a = cell-put (g .memory) x c 63 a (omega arith) (omega arith)
+          cell-kept (leftover x j) a = cell-put (g .memory) x c constantNumberField a (omega arith) (omega arith)
 
           go : (b : Bool) → has (made c k) (madeOnly h) ≡ b → Shown limit (made c k) h g (showConstant limit g c)
           go true e =
-              let f : field (g .memory) c 63 ≡ suc (r .ofMade c k) = mark ∙ ap (λ (b : Bool). cond b (suc (r .ofMade c k)) 0) e in
+              let f : field (g .memory) c constantNumberField ≡ suc (r .ofMade c k) = mark ∙ ap (λ (b : Bool). cond b (suc (r .ofMade c k)) 0) e in
               let i = n .fewVariables in
               let j = n .fewConstants in
-              shown-by y (made (r .ofMade c k) (field (g .memory) c 22)) h g _ (g .memory) (g .pen) refl (ap (made (r .ofMade c k)) level) l
+              shown-by y (made (r .ofMade c k) (field (g .memory) c fields.constantLevel)) h g _ (g .memory) (g .pen) refl (ap (made (r .ofMade c k)) level) l
               (λ a q. record {
                 alike = n .alike;
                 variables = subst (λ (l : List Symbol). Book Variable (λ n. 4 * suc n) (numberBy r) l (cellMark (g .memory)) (g .pen .variables)) (sym (leftover-constant c k h)) (n .variables);
@@ -330,20 +332,20 @@ module _ (w : List ℕ) (next acts : ℕ) where
                 fewConstants = omega arith;
               }) (constant-old limit g c (r .ofMade c k) f)
           go false e =
-              let f : field (g .memory) c 63 ≡ 0 = mark ∙ ap (λ (b : Bool). cond b (suc (r .ofMade c k)) 0) e in
+              let f : field (g .memory) c constantNumberField ≡ 0 = mark ∙ ap (λ (b : Bool). cond b (suc (r .ofMade c k)) 0) e in
               let i = n .fewVariables in
               let j = n .fewConstants in
               let m = g .pen .constants in
               let d : m ≡ r .ofMade c k = n .constants .counts ∙ sym (due e) in
-              let v = put (g .memory) c 63 (suc m) in
-              shown-by y (made m (field (g .memory) c 22)) h g _ v (onConstants (g .pen) (suc m)) refl (ap₂ made d level) l
+              let v = put (g .memory) c constantNumberField (suc m) in
+              shown-by y (made m (field (g .memory) c fields.constantLevel)) h g _ v (onConstants (g .pen) (suc m)) refl (ap₂ made d level) l
               (λ a q. record {
                 alike = alike-trans 62 w (g .memory) v (n .alike) (alike-put 62 (g .memory) c 63 (suc m) (omega arith) (omega arith) (omega arith));
                 variables = subst (λ (l : List Symbol). Book Variable (λ n. 4 * suc n) (numberBy r) l (cellMark v) (g .pen .variables)) (sym (leftover-constant c k h))
                     (book-same Variable (λ n. 4 * suc n) (numberBy r) (leftoverOnly h) (cellMark (g .memory)) (cellMark v) (g .pen .variables) (λ z o. cell-kept z (suc m)) (n .variables));
                 constants = subst (λ (l : List Symbol). Book Constant suc (numberBy r) l (fieldMark v) (suc m)) (sym (made-constant c k h))
                     (book-new Constant suc (numberBy r) (madeOnly h) (fieldMark (g .memory)) (fieldMark v) m y e
-                    (field-same (g .memory) c 63 (suc m) there ∙ ap suc d) (λ z o u. other z (suc m) o u) (n .constants));
+                    (field-same (g .memory) c constantNumberField (suc m) there ∙ ap suc d) (λ z o u. other z (suc m) o u) (n .constants));
                 fewVariables = omega arith;
                 fewConstants = omega arith;
               }) (constant-new limit g c f there (omega arith))
@@ -360,7 +362,7 @@ module _ (w : List ℕ) (next acts : ℕ) where
       pub bytes : written (g′ .buffer) (g′ .pen .at) ≡ writeBytes (spelled r ks) (g .buffer) limit (g .pen .at)
       pub numbered : g′ .pen .at ≤ limit → Numbered (h ++ signs ks) (g′ .memory) (g′ .pen)
 
-    module _ (room : 64 * acts ≤ length w) (few : next ≤ 9 * acts) (limit : ℕ) (low : limit ≤ 65535) (small : base ≤ 65536) where
+    module _ (room : numbersPerUnit * acts ≤ length w) (few : next ≤ 9 * acts) (limit : ℕ) (low : limit ≤ 65535) (small : base ≤ 65536) where
       -- From token to token.
       pub steps-numbered : (ks : List Token) (h : List Symbol) (g : Page) → All (Right w next acts) (signs ks) → Due r h (signs ks) → (g .pen .at ≤ limit → Numbered h (g .memory) (g .pen))
           → Wrote limit ks h g (steps limit ks g)

@@ -12,9 +12,11 @@ use Rattle.unification.specs.Store.{Leaf, Store}
 use Rattle.unification.specs.Promises.{Formed}
 use Rattle.search.specs.Configurations.{Configuration, done}
 use Rattle.search.specs.Search.{proved, ends, search}
+use Rattle.sheet_format.specs.Limits.{maxBudget, maxNodes, numbersPerUnit}
 use Rattle.node_table.specs.Decoding.{clausesFrom, goalAt}
 use Rattle.node_table.specs.WellMade.{WellMade}
-use Rattle.machine.specs.Records.{field, cellOf, Made}
+use Rattle.machine.specs.Fields as fields
+use Rattle.machine.specs.Records.{field, cellOf, Made, provedMode}
 use Rattle.machine.specs.Words.{tagOf, nameOf, nodeOf, frameOf, slotOf}
 use Rattle.machine.specs.Machine.{runMachine}
 use Rattle.machine.specs.Simulation.{StandsAt, Tells}
@@ -44,7 +46,7 @@ word-is T n x w (word-closure {a = a} m f e b h l k) =
     let p : nodeOf a ≡ m = ap nodeOf e ∙ node-is m f (node-small T m (b .0)) in
     let q : frameOf a ≡ f = ap frameOf e ∙ frame-is m f (node-small T m (b .0)) in
     ofClosure (record {
-      tag = ap tagOf e ∙ tag-is (1024 * f + m) 3 (omega arith);
+      tag = ap tagOf e ∙ tag-is (maxNodes * f + m) 3 (omega arith);
       there = rw p (b .0);
       term = rw p (b .1);
       application = rw p (b .2);
@@ -73,14 +75,14 @@ path-made (suc f) n x (l ∷ ls) w zero k h c = absurd c
 path-made (suc f) n x (l ∷ ls) w (suc r) k h c =
     let e : suc r - 1 ≡ r = omega arith in
     let i = c .0 in
-    let q = path-pointer r x ls w (field w r 39) (field w r 40) (c .3) in
+    let q = path-pointer r x ls w (field w r fields.pathBefore) (field w r fields.pathLine) (c .3) in
     let b = c .2 in
-    inr (omega arith, rw e (record { kind = b .kind; some = b .some; clause = b .clause }), rw e (omega arith), rw e (path-made f r x ls w (field w r 39) (field w r 40) (omega arith) (c .3)))
+    inr (omega arith, rw e (record { kind = b .kind; some = b .some; clause = b .clause }), rw e (omega arith), rw e (path-made f r x ls w (field w r fields.pathBefore) (field w r fields.pathLine) (omega arith) (c .3)))
 
 -- A state at which a proof is found.
 module _ (T : Table) where
   orderly-at : (m : Made) (s : Store) (ls : List (Line Leaf)) (ds : List Configuration) → StateAt T (m .registers .acts) (m .memory) (m .registers) (done s ls) ds → Formed s
-      → m .registers .acts ≤ 50000 → 1 ≤ m .registers .acts → 64 * m .registers .acts ≤ length (m .memory) → Orderly (T .numbers) (T .nodes) m s
+      → m .registers .acts ≤ maxBudget → 1 ≤ m .registers .acts → numbersPerUnit * m .registers .acts ≤ length (m .memory) → Orderly (T .numbers) (T .nodes) m s
   unfolding ConfigurationAt storeOf CellAt
   orderly-at m s ls ds st formed few least room = record {
     few = few;
@@ -110,9 +112,9 @@ module _ (T : Table) where
       word x (some u) c = inr (word-is T acts (s .next) w c)
 
 -- A run that ends with a proof leaves an orderly memory,
-pub proved-orderly : (t : List ℕ) (nodes clauses goal : ℕ) → WellMade t nodes clauses goal → (budget : ℕ) → budget ≤ 50000 → (w : List ℕ) → 64 * budget ≤ length w
+pub proved-orderly : (t : List ℕ) (nodes clauses goal : ℕ) → WellMade t nodes clauses goal → (budget : ℕ) → budget ≤ maxBudget → (w : List ℕ) → numbersPerUnit * budget ≤ length w
     → (s : Store) (path : List (Line Leaf)) (n : ℕ) → search budget (clausesFrom t clauses 0) (goalAt t goal) ≡ ends (proved s path) n
-    → StandsAt t (runMachine budget t clauses goal w) 4 s path × Orderly t nodes (runMachine budget t clauses goal w) s
+    → StandsAt t (runMachine budget t clauses goal w) provedMode s path × Orderly t nodes (runMachine budget t clauses goal w) s
 unfolding Tells
 proved-orderly t nodes clauses goal table budget few w room s path n e =
     let T : Table = record { numbers = t; nodes = nodes; clauses = clauses; goal = goal; made = table } in

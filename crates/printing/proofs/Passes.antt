@@ -25,7 +25,7 @@ use Rattle.answer_texts.specs.Numbering.{madeOnly, leftoverOnly, firsts, shown,
 use Rattle.answer_texts.specs.Spelling.{proofText, noText, spentText, textLine, join}
 use Rattle.answer_texts.specs.Promises.{searchText}
 use Rattle.answer_texts.proofs.Showings.{has}
-use Rattle.machine.specs.Records.{field, Made}
+use Rattle.machine.specs.Records.{field, Made, provedMode}
 use Rattle.machine.specs.Simulation.{StandsAt}
 use Rattle.printing.specs.declared.Pen.{Pen}
 use Rattle.printing.specs.Output.{Written, written, emit, writeBytes}
@@ -33,6 +33,7 @@ use Rattle.printing.specs.Marks.{onAt, Page, page}
 use Rattle.printing.specs.WriteLines.{resultTo, bindingsTo}
 use Rattle.printing.specs.Writer.{textLimit, noRoom, freshPen, proofPass, prepare, firstLink, Answered, answered, writePass, writeProof, shortPass, writeShort, writeNo, writeSpent}
 use Rattle.printing.specs.Written.{Orderly, told, WritesProof, WritesNo, WritesSpent}
+use Rattle.printing.specs.Links.{nextLineField}
 use Rattle.printing.proofs.Bytes.{bytes-end, bytes-fit, bytes-append, number-bytes}
 use Rattle.printing.proofs.Tokens.{byte, textTokens, tokens, tokens-append, signs, tokens-signs, spelled, tokens-spelled}
 use Rattle.printing.proofs.Alike.{Alike, alike-trans, alike-fewer}
@@ -116,7 +117,7 @@ unfolding writeSpent spentText textLine join ascii
 writes-spent budget out = short-told (ascii "R\tspent\t") budget out
 
 module _ (sheet t : List ℕ) (symbols nodes clauses goal : ℕ) (table : WellMade t nodes clauses goal) (named : Named t nodes symbols) (m : Made) (s : Store)
-    (path : List (Line Leaf)) (stands : StandsAt t m 4 s path) (o : Orderly t nodes m s) (units : ℕ) where
+    (path : List (Line Leaf)) (stands : StandsAt t m provedMode s path) (o : Orderly t nodes m s) (units : ℕ) where
   abbrev acts : ℕ
   acts = m .registers .acts
 
@@ -168,7 +169,7 @@ module _ (sheet t : List ℕ) (symbols nodes clauses goal : ℕ) (table : WellMa
       ∙ map-map (λ x. putLine (final s) (lineOf w x)) derivationLine (reverse P))
 
   -- A pass goes through the tokens of the text.
-  reach-pass : (limit : ℕ) (low : limit ≤ 65535) (g : Page) → Alike 62 w (g .memory) → ((u : ℕ) → field (g .memory) u 62 ≡ field (prepare m) u 62)
+  reach-pass : (limit : ℕ) (low : limit ≤ 65535) (g : Page) → Alike 62 w (g .memory) → ((u : ℕ) → field (g .memory) u nextLineField ≡ field (prepare m) u nextLineField)
       → Reached sheet t symbols nodes w acts s basis limit low (tokens ds lines) g (proofPass sheet t acts limit goal units (firstLink m) g)
   unfolding proofPass answerLines tokens textTokens freeVariables
   reach-pass limit low g k f =
@@ -235,7 +236,7 @@ module _ (sheet t : List ℕ) (symbols nodes clauses goal : ℕ) (table : WellMa
       record { alike = n .alike; variables = n .variables; constants = n .constants; fewVariables = omega arith; fewConstants = omega arith }
 
   -- What a pass writes.
-  pass-wrote : (limit base : ℕ) (low : limit ≤ 65535) (h : List Symbol) (g : Page) → base ≤ 65536 → Alike 62 w (g .memory) → ((u : ℕ) → field (g .memory) u 62 ≡ field (prepare m) u 62)
+  pass-wrote : (limit base : ℕ) (low : limit ≤ 65535) (h : List Symbol) (g : Page) → base ≤ 65536 → Alike 62 w (g .memory) → ((u : ℕ) → field (g .memory) u nextLineField ≡ field (prepare m) u nextLineField)
       → Due renaming h (signs (tokens ds lines)) → Numbered w (s .next) acts renaming base h (g .memory) (g .pen)
       → Wrote w (s .next) acts renaming base limit (tokens ds lines) h g (proofPass sheet t acts limit goal units (firstLink m) g)
   pass-wrote limit base low h g small k f due n =

@@ -8,6 +8,7 @@ use mathlib.Core.Logic.{_⊎_, inl, inr}
 use lib.Dec.{eqb}
 use lib.ListN.{length}
 use borrow.Author.Tests.{eqb-true, eqb-false}
+use Rattle.sheet_format.specs.Limits.{numbersPerUnit}
 use Rattle.machine.specs.Records.{cellOf, putCell}
 use Rattle.machine.specs.Words.{tagOf}
 use Rattle.printing.specs.Links.{clearVariables}
@@ -46,7 +47,7 @@ clear1-same v n h e = rw e (cell-same v n 0 h)
 
 -- all of them
 module _ (acts : ℕ) where
-  clear-alike : (n : ℕ) (v : List ℕ) → 64 * acts ≤ length v → n ≤ 9 * acts → Alike 62 v (clearVariables n v)
+  clear-alike : (n : ℕ) (v : List ℕ) → numbersPerUnit * acts ≤ length v → n ≤ 9 * acts → Alike 62 v (clearVariables n v)
   unfolding clearVariables clear1
   clear-alike zero v r h = alike-refl 62 v
   clear-alike (suc n) v r h =
@@ -60,7 +61,7 @@ module _ (acts : ℕ) where
   clear-beyond (suc n) v x h = clear-beyond n (clear1 v n) x (omega arith) ∙ clear1-other v n x (λ q. omega arith)
 
   -- those below are 0
-  clear-zero : (n : ℕ) (v : List ℕ) (x : ℕ) → 64 * acts ≤ length v → n ≤ 9 * acts → x < n → tagOf (cellOf v x) ≡ 0 → cellOf (clearVariables n v) x ≡ 0
+  clear-zero : (n : ℕ) (v : List ℕ) (x : ℕ) → numbersPerUnit * acts ≤ length v → n ≤ 9 * acts → x < n → tagOf (cellOf v x) ≡ 0 → cellOf (clearVariables n v) x ≡ 0
   unfolding clearVariables clear1
   clear-zero zero v x r h l e = absurd (omega arith)
   clear-zero (suc n) v x r h l e = go (eqb x n) refl (clear-zero n (clear1 v n) x)
@@ -68,7 +69,7 @@ module _ (acts : ℕ) where
       a : Alike 62 v (clear1 v n)
       a = clear1-alike v n (there-from acts n v r (omega arith))
 
-      go : (b : Bool) → eqb x n ≡ b → (64 * acts ≤ length (clear1 v n) → n ≤ 9 * acts → x < n → tagOf (cellOf (clear1 v n) x) ≡ 0 → cellOf (clearVariables n (clear1 v n)) x ≡ 0)
+      go : (b : Bool) → eqb x n ≡ b → (numbersPerUnit * acts ≤ length (clear1 v n) → n ≤ 9 * acts → x < n → tagOf (cellOf (clear1 v n) x) ≡ 0 → cellOf (clearVariables n (clear1 v n)) x ≡ 0)
           → cellOf (clearVariables n (clear1 v n)) x ≡ 0
       go true q f =
           let p = eqb-true x n q in
@@ -92,7 +93,7 @@ restores sheet t symbols nodes clauses goal table named m s path stands o units 
     kept : Alike 62 (m .memory) v
     kept = proof-alike sheet t symbols nodes clauses goal table named m s path stands o units out
 
-    room : 64 * m .registers .acts ≤ length v
+    room : numbersPerUnit * m .registers .acts ≤ length v
     room = let a = kept .long in let r = o .room in omega arith
 
     all : Alike 62 (m .memory) (clearVariables (s .next) v)

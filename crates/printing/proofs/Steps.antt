@@ -11,11 +11,13 @@ use borrow.Author.Tests.{eqb-true}
 use Rattle.terms.specs.Lists.{All}
 use Rattle.sequents.specs.Symbols.{Symbol, made, leftover}
 use Rattle.sheet_format.specs.Bytes.{decimal}
+use Rattle.sheet_format.specs.Limits.{numbersPerUnit}
+use Rattle.machine.specs.Fields as fields
 use Rattle.machine.specs.Records.{field, put, cellOf, levelOf, putCell}
 use Rattle.machine.specs.Words.{narrow, up, tagOf}
 use Rattle.printing.specs.declared.Pen.{Pen}
 use Rattle.printing.specs.Output.{writeSymbol}
-use Rattle.printing.specs.Marks.{onAt, onVariables, onConstants, Page, wrote, marked, markVariable, markConstant, showVariable, showConstant}
+use Rattle.printing.specs.Marks.{onAt, onVariables, onConstants, Page, wrote, marked, markVariable, markConstant, showVariable, showConstant, constantNumberField}
 use Rattle.printing.specs.WriteTerms.{emitTo}
 use Rattle.printing.proofs.Bytes.{symbol-bytes, bytes-grow}
 use Rattle.printing.proofs.Pages.{emitted, page-grow}
@@ -34,9 +36,9 @@ mark-at w p x = go (eqb (cellOf w x) 0)
 -- so it is with a constant
 mark-constant-at : (w : List ℕ) (p : Pen) (c : ℕ) → markConstant w p c .pen .at ≡ p .at
 unfolding markConstant onConstants
-mark-constant-at w p c = go (eqb (field w c 63) 0)
+mark-constant-at w p c = go (eqb (field w c constantNumberField) 0)
   where
-    go : (b : Bool) → cond b (marked (put w c 63 (up (p .constants))) (onConstants p (up (p .constants)))) (marked w p) .pen .at ≡ p .at
+    go : (b : Bool) → cond b (marked (put w c constantNumberField (up (p .constants))) (onConstants p (up (p .constants)))) (marked w p) .pen .at ≡ p .at
     go true = refl
     go false = refl
 
@@ -75,9 +77,9 @@ module _ (w : List ℕ) (next acts : ℕ) where
   -- A symbol as the memory has it: an unbound variable, a constant of an act done, each with its level.
   unfoldable pub Right : Symbol → Type 0
   Right (leftover x k) = (x < next) × (cellOf w x ≡ 0) × (k ≡ levelOf w x)
-  Right (made c k) = (c < acts) × (k ≡ field w c 22)
+  Right (made c k) = (c < acts) × (k ≡ field w c fields.constantLevel)
 
-  module _ (room : 64 * acts ≤ length w) (few : next ≤ 9 * acts) where
+  module _ (room : numbersPerUnit * acts ≤ length w) (few : next ≤ 9 * acts) where
     -- a symbol leaves the memory alike
     show-alike : (limit : ℕ) (g : Page) (s : Symbol) → Right s → Alike 62 w (g .memory) → Alike 63 (g .memory) (showSymbol limit g s .memory)
     unfolding Right showSymbol showVariable showConstant wrote markVariable markConstant tagOf
@@ -90,9 +92,9 @@ module _ (w : List ℕ) (next acts : ℕ) where
             (there-from acts x (g .memory) (let l = a .long in omega arith) (let h = r .0 in omega arith))
             (ap tagOf (eqb-true (cellOf (g .memory) x) 0 e)) (number-tag (up (g .pen .variables)))
         go false e = alike-refl 63 (g .memory)
-    show-alike limit g (made c k) r a = go (eqb (field (g .memory) c 63) 0)
+    show-alike limit g (made c k) r a = go (eqb (field (g .memory) c constantNumberField) 0)
       where
-        go : (b : Bool) → Alike 63 (g .memory) (cond b (marked (put (g .memory) c 63 (up (g .pen .constants))) (onConstants (g .pen) (up (g .pen .constants)))) (marked (g .memory) (g .pen)) .memory)
+        go : (b : Bool) → Alike 63 (g .memory) (cond b (marked (put (g .memory) c constantNumberField (up (g .pen .constants))) (onConstants (g .pen) (up (g .pen .constants)))) (marked (g .memory) (g .pen)) .memory)
         go true = alike-put 63 (g .memory) c 63 (up (g .pen .constants)) (omega arith) (omega arith) (omega arith)
         go false = alike-refl 63 (g .memory)
 

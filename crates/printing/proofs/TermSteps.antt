@@ -17,6 +17,7 @@ use Rattle.unification.specs.Store.{Leaf, Store, look, boundTo}
 use Rattle.unification.specs.Promises.{Below, Unbound, Formed}
 use Rattle.search.specs.Answers.{final}
 use Rattle.sheet_format.specs.Nodes.{Declaration}
+use Rattle.sheet_format.specs.Limits.{maxBudget, maxNodes, numbersPerUnit}
 use Rattle.node_table.specs.Layout.{labelOf, childOf, childCount, nameStart, nameLength}
 use Rattle.node_table.specs.Decoding.{termAt, childrenBy, argumentsAt, declarationAt, declarationsFrom}
 use Rattle.node_table.specs.WellMade.{Named}
@@ -40,10 +41,10 @@ use Rattle.printing.proofs.Values.{leaves-show, value, argument-word, s
 -- What the writer relies on: the table, and the memory w after a proved search with the store s.
 pub record Basis (t : List ℕ) (symbols nodes : ℕ) (w : List ℕ) (acts : ℕ) (s : Store) : Type 0 where
   pub table : Nodes t nodes
-  pub size : nodes ≤ 1024
+  pub size : nodes ≤ maxNodes
   pub named : Named t nodes symbols
-  pub few : acts ≤ 50000
-  pub room : 64 * acts ≤ length w
+  pub few : acts ≤ maxBudget
+  pub room : numbersPerUnit * acts ≤ length w
   pub variables : s .next ≤ 9 * acts
   pub formed : Formed s
   pub fits : length (s .bindings) ≤ acts

@@ -24,13 +24,15 @@ use Rattle.unification.proofs.General.{general-equations}
 use Rattle.search.specs.Answers.{symbolOf, final}
 use Rattle.search.proofs.Values.{symbols}
 use Rattle.search.proofs.Answers.{leftovers, finalValues, final-valued}
-use Rattle.node_table.specs.Layout.{kindOf, labelOf, childOf, childCount}
+use Rattle.sheet_format.specs.Limits.{maxBudget, maxNodes, variableNames}
+use Rattle.node_table.specs.Layout.{kindOf, labelOf, childOf, childCount, applicationKind, variableKind}
 use Rattle.node_table.specs.Decoding.{termAt, childrenBy, argumentsAt}
 use Rattle.node_table.specs.WellMade.{IsTerm}
 use Rattle.node_table.proofs.Decoding.{Nodes, term-variable, term-application}
 use Rattle.answer_texts.specs.Numbering.{symbolsIn, symbolsInAll}
+use Rattle.machine.specs.Fields as fields
 use Rattle.machine.specs.Records.{field, cellOf, levelOf}
-use Rattle.machine.specs.Words.{closureWord, tagOf, nameOf, nodeOf, frameOf, slotOf, wordOf, leafOf, environmentAt, termOf}
+use Rattle.machine.specs.Words.{closureWord, tagOf, nameOf, nodeOf, frameOf, slotOf, wordOf, leafOf, environmentAt, termOf, constantTag, variableTag}
 use Rattle.machine.specs.Reading.{variableOf}
 use Rattle.machine.proofs.Bindings.{cell, cell-some, hops, hops-le, look-app, look-con, hop, stop}
 use Rattle.printing.specs.Marks.{seek}
@@ -84,21 +86,21 @@ unfolding tagOf
 zero-tag = refl
 
 -- looking through one turn: an unbound variable, a bound one, another word
-seek-free : (n : ℕ) (w : List ℕ) (a : ℕ) → tagOf a ≡ 1 → tagOf (cellOf w (nameOf a)) ≡ 0 → seek (suc n) w a ≡ a
+seek-free : (n : ℕ) (w : List ℕ) (a : ℕ) → tagOf a ≡ variableTag → tagOf (cellOf w (nameOf a)) ≡ 0 → seek (suc n) w a ≡ a
 unfolding seek
 seek-free n w a e f = rw (seek, e, f)
 
 -- a bound one
-seek-bound : (n : ℕ) (w : List ℕ) (a : ℕ) → tagOf a ≡ 1 → (tagOf (cellOf w (nameOf a)) ≡ 0 → ⊥) → seek (suc n) w a ≡ seek n w (cellOf w (nameOf a))
+seek-bound : (n : ℕ) (w : List ℕ) (a : ℕ) → tagOf a ≡ variableTag → (tagOf (cellOf w (nameOf a)) ≡ 0 → ⊥) → seek (suc n) w a ≡ seek n w (cellOf w (nameOf a))
 unfolding seek
 seek-bound n w a e f = rw (seek, e, ne-eqb (tagOf (cellOf w (nameOf a))) 0 f)
 
 -- another word
-seek-other : (n : ℕ) (w : List ℕ) (a : ℕ) → (tagOf a ≡ 1 → ⊥) → seek (suc n) w a ≡ a
+seek-other : (n : ℕ) (w : List ℕ) (a : ℕ) → (tagOf a ≡ variableTag → ⊥) → seek (suc n) w a ≡ a
 unfolding seek
-seek-other n w a f = rw (seek, ne-eqb (tagOf a) 1 f)
+seek-other n w a f = rw (seek, ne-eqb (tagOf a) variableTag f)
 
-module _ (t : List ℕ) (nodes : ℕ) (table : Nodes t nodes) (size : nodes ≤ 1024) (w : List ℕ) (acts : ℕ) (few : acts ≤ 50000) (s : Store) where
+module _ (t : List ℕ) (nodes : ℕ) (table : Nodes t nodes) (size : nodes ≤ maxNodes) (w : List ℕ) (acts : ℕ) (few : acts ≤ maxBudget) (s : Store) where
   -- A word that reads as a term.
   abbrev Word : ℕ → Type 0
   Word a = TermWord t w nodes acts a
@@ -110,15 +112,15 @@ module _ (t : List ℕ) (nodes : ℕ) (table : Nodes t nodes) (size : nodes ≤ 
   -- A constant that was made.
   unfoldable pub Known : Leaf → Type 0
   Known (var x) = Unit {0}
-  Known (con c k) = (c < acts) × (k ≡ field w c 22)
+  Known (con c k) = (c < acts) × (k ≡ field w c fields.constantLevel)
 
   -- words of leaves
-  pub variable-term : (a : ℕ) → tagOf a ≡ 1 → termOf t w a ≡ leaf (var (nameOf a))
+  pub variable-term : (a : ℕ) → tagOf a ≡ variableTag → termOf t w a ≡ leaf (var (nameOf a))
   unfolding termOf leafOf
   variable-term a e = rw e
 
   -- a constant
-  pub constant-term : (a : ℕ) → tagOf a ≡ 2 → termOf t w a ≡ leaf (con (nameOf a) (field w (nameOf a) 22))
+  pub constant-term : (a : ℕ) → tagOf a ≡ constantTag → termOf t w a ≡ leaf (con (nameOf a) (field w (nameOf a) fields.constantLevel))
   unfolding termOf leafOf
   constant-term a e = rw e
 
@@ -135,7 +137,7 @@ module _ (t : List ℕ) (nodes : ℕ) (table : Nodes t nodes) (size : nodes ≤ 
   leaf-known a (constant e l) = rw e (l, refl)
 
   -- an environment's leaves
-  slot-term : (f v : ℕ) → v < 8 → environmentAt w f v ≡ leaf (leafOf w (slotOf w f v))
+  slot-term : (f v : ℕ) → v < variableNames → environmentAt w f v ≡ leaf (leafOf w (slotOf w f v))
   unfolding environmentAt
   slot-term f v h = rw (lt-ltb v 8 h)
 
@@ -146,12 +148,12 @@ module _ (t : List ℕ) (nodes : ℕ) (table : Nodes t nodes) (size : nodes ≤ 
       rw (c .tag) (ap (λ (u : Term ℕ). substitute u (environmentAt w (frameOf a))) (term-application t nodes table (nodeOf a) (c .there) (c .term) (c .application)))
 
   -- The word of a node of a term.
-  node-word : (n f : ℕ) → n < nodes → IsTerm t n → f ≤ acts → ((v : ℕ) → v < 8 → LeafWord acts (slotOf w f v))
+  node-word : (n f : ℕ) → n < nodes → IsTerm t n → f ≤ acts → ((v : ℕ) → v < variableNames → LeafWord acts (slotOf w f v))
       → Word (wordOf t w n f) × (termOf t w (wordOf t w n f) ≡ substitute (termAt t n) (environmentAt w f))
   unfolding wordOf termOf substitute
-  node-word n f h i l slots = go (eqb (kindOf t n) 0) refl
+  node-word n f h i l slots = go (eqb (kindOf t n) variableKind) refl
     where
-      go : (b : Bool) → eqb (kindOf t n) 0 ≡ b
+      go : (b : Bool) → eqb (kindOf t n) variableKind ≡ b
           → Word (cond b (slotOf w f (labelOf t n)) (closureWord n f))
           × (termOf t w (cond b (slotOf w f (labelOf t n)) (closureWord n f)) ≡ substitute (termAt t n) (environmentAt w f))
       go true e =
@@ -162,7 +164,7 @@ module _ (t : List ℕ) (nodes : ℕ) (table : Nodes t nodes) (size : nodes ≤ 
                 ∙ sym (ap (λ (u : Term ℕ). substitute u (environmentAt w f)) (term-variable t nodes table n h i k) ∙ slot-term f (labelOf t n) v),
           )
       go false e =
-          let k : kindOf t n ≡ 1 = let z = eqb-false (kindOf t n) 0 e in let o = table .term n h i .kind in omega arith in
+          let k : kindOf t n ≡ applicationKind = let z = eqb-false (kindOf t n) 0 e in let o = table .term n h i .kind in omega arith in
           let g = closure-tag n f (omega arith) (omega arith) in
           let p = closure-node n f (omega arith) (omega arith) in
           let q = closure-frame n f (omega arith) (omega arith) in (
@@ -170,7 +172,7 @@ module _ (t : List ℕ) (nodes : ℕ) (table : Nodes t nodes) (size : nodes ≤ 
               tag = g;
               there = subst (λ (z : ℕ). z < nodes) (sym p) h;
               term = subst (λ (z : ℕ). IsTerm t z) (sym p) i;
-              application = subst (λ (z : ℕ). kindOf t z ≡ 1) (sym p) k;
+              application = subst (λ (z : ℕ). kindOf t z ≡ applicationKind) (sym p) k;
               frame = subst (λ (z : ℕ). z ≤ acts) (sym q) l;
               slots = λ v j. subst (λ (z : ℕ). LeafWord acts (slotOf w z v)) (sym q) (slots v j);
             }),
@@ -203,7 +205,7 @@ module _ (t : List ℕ) (nodes : ℕ) (table : Nodes t nodes) (size : nodes ≤ 
       ((x .0, subst (λ (u : Term Leaf). Leaves u (Below (s .next))) (sym (x .1)) l), x .1)
 
   -- Its constants were made.
-  environment-known : (f : ℕ) → ((v : ℕ) → v < 8 → LeafWord acts (slotOf w f v)) → (v : ℕ) → Leaves (environmentAt w f v) Known
+  environment-known : (f : ℕ) → ((v : ℕ) → v < variableNames → LeafWord acts (slotOf w f v)) → (v : ℕ) → Leaves (environmentAt w f v) Known
   unfolding environmentAt Leaves
   environment-known f h v = go (ltb v 8) refl
     where
@@ -244,7 +246,7 @@ module _ (t : List ℕ) (nodes : ℕ) (table : Nodes t nodes) (size : nodes ≤ 
     bound-good x l g = (g, subst (λ (u : Term Leaf). Leaves u (Below (s .next))) (sym (holds x l) ∙ bound-word x g) (bound-below (s .bindings) (s .next) x (formed .below) l))
 
     -- one turn of a variable
-    variable-below : (a : ℕ) → tagOf a ≡ 1 → Leaves (termOf t w a) (Below (s .next)) → nameOf a < s .next
+    variable-below : (a : ℕ) → tagOf a ≡ variableTag → Leaves (termOf t w a) (Below (s .next)) → nameOf a < s .next
     unfolding Leaves Below
     variable-below a e b = subst (λ (u : Term Leaf). Leaves u (Below (s .next))) (variable-term a e) b
 
@@ -279,9 +281,9 @@ module _ (t : List ℕ) (nodes : ℕ) (table : Nodes t nodes) (size : nodes ≤ 
             subst (λ (v : Term Leaf). (look (s .bindings) (leaf (var x)) ≡ look (s .bindings) v) × (hops (s .bindings) (leaf (var x)) ≡ suc (hops (s .bindings) v))) q (hop (s .bindings) x u (formed .bound) e)
 
     -- other words
-    other-look : (a : ℕ) → Word a → (tagOf a ≡ 1 → ⊥) → look (s .bindings) (termOf t w a) ≡ termOf t w a
+    other-look : (a : ℕ) → Word a → (tagOf a ≡ variableTag → ⊥) → look (s .bindings) (termOf t w a) ≡ termOf t w a
     other-look a (ofLeaf (variable e)) d = absurd (d e)
-    other-look a (ofLeaf (constant e l)) d = rw (constant-term a e) (look-con (s .bindings) (nameOf a) (field w (nameOf a) 22) .0)
+    other-look a (ofLeaf (constant e l)) d = rw (constant-term a e) (look-con (s .bindings) (nameOf a) (field w (nameOf a) fields.constantLevel) .0)
     other-look a (ofClosure c) d = rw (closure-term a c) (look-app (s .bindings) _ _ .0)
 
     -- the turns
@@ -299,7 +301,7 @@ module _ (t : List ℕ) (nodes : ℕ) (table : Nodes t nodes) (size : nodes ≤ 
             at (inr k) l = absurd (let r = bound-look (nameOf a) l k .1 in let q = ap (hops (s .bindings)) (variable-term a e) in omega arith)
     seek-look (suc n) a g h = go (g .0) (seek-look n (cellOf w (nameOf a)))
       where
-        turn : tagOf a ≡ 1 → nameOf a < s .next → (cellOf w (nameOf a) ≡ 0) ⊎ Word (cellOf w (nameOf a))
+        turn : tagOf a ≡ variableTag → nameOf a < s .next → (cellOf w (nameOf a) ≡ 0) ⊎ Word (cellOf w (nameOf a))
             → (Good (cellOf w (nameOf a)) → hops (s .bindings) (termOf t w (cellOf w (nameOf a))) ≤ n → Sought (cellOf w (nameOf a)) (seek n w (cellOf w (nameOf a)))) → Sought a (seek (suc n) w a)
         turn e l (inl z) f = seek-stays (suc n) a g (rw (variable-term a e) (free-look (nameOf a) l z)) (seek-free n w a e (ap tagOf z ∙ zero-tag))
         turn e l (inr k) f =
@@ -323,7 +325,7 @@ module _ (t : List ℕ) (nodes : ℕ) (table : Nodes t nodes) (size : nodes ≤ 
     sought-value a g = sym (ap (value s) (sought a g .1) ∙ value-look s (termOf t w a) formed)
 
     -- a variable, then, is unbound
-    pub variable-value : (a : ℕ) → Good a → tagOf (seek acts w a) ≡ 1 → value s (termOf t w a) ≡ leaf (leftover (nameOf (seek acts w a)) (s .level (nameOf (seek acts w a))))
+    pub variable-value : (a : ℕ) → Good a → tagOf (seek acts w a) ≡ variableTag → value s (termOf t w a) ≡ leaf (leftover (nameOf (seek acts w a)) (s .level (nameOf (seek acts w a))))
     unfolding substitute
     variable-value a g e =
         let x = nameOf (seek acts w a) in
@@ -332,7 +334,7 @@ module _ (t : List ℕ) (nodes : ℕ) (table : Nodes t nodes) (size : nodes ≤ 
         sought-value a g ∙ ap (value s) (variable-term (seek acts w a) e) ∙ value-unbound s x formed u
 
     -- a constant is itself,
-    pub constant-value : (a : ℕ) → Good a → tagOf (seek acts w a) ≡ 2 → value s (termOf t w a) ≡ leaf (made (nameOf (seek acts w a)) (field w (nameOf (seek acts w a)) 22))
+    pub constant-value : (a : ℕ) → Good a → tagOf (seek acts w a) ≡ constantTag → value s (termOf t w a) ≡ leaf (made (nameOf (seek acts w a)) (field w (nameOf (seek acts w a)) fields.constantLevel))
     unfolding substitute final at symbolOf
     constant-value a g e = sought-value a g ∙ ap (value s) (constant-term (seek acts w a) e)
 

@@ -1,16 +1,26 @@
 -- Before the passes: the path, which is linked latest line first, gets links in the order taken, and the numbers of constants are
 -- cleared. After them: the numbers of variables are cleared, so that the search may go on. All in fields that the search leaves
--- free (62, 63) and in bindings that it left at 0.
+-- free and in bindings that it left at 0.
 use Prim.Native.Nat.{ℕ, zero, suc, _+_, _-_, _*_}
 use mathlib.Core.Bool.{true, false, cond}
 use mathlib.Core.List.{List}
 use lib.Dec.{eqb}
+use Rattle.machine.specs.Fields as fields
 use Rattle.machine.specs.Records.{field, put, cellOf, putCell}
 use Rattle.machine.specs.Words.{narrow, tagOf}
+use Rattle.printing.specs.Marks.{constantNumberField}
+
+-- Field of a record that the search leaves free: the link to the line after that of the record.
+abbrev pub nextLineField : ℕ
+nextLineField = 62
+
+-- How many lines of the path there are to tell apart.
+abbrev pub lineCodes : ℕ
+lineCodes = 8
 
 -- A link: a pointer to the record of a line, and which of the eight lines it is; 0 for none.
 unfoldable pub linkWord : ℕ → ℕ → ℕ
-linkWord p k = narrow (8 * p + k)
+linkWord p k = narrow (lineCodes * p + k)
 
 -- The work buffer, and the link to the first line.
 pub record Linked : Type 0 where
@@ -21,19 +31,19 @@ pub record Linked : Type 0 where
 abbrev pub linked : List ℕ → ℕ → Linked
 linked w e = record { memory = w; first = e }
 
--- Field 62 of a line's record: the link to the line after it. From pointer p on, at most n lines; e is the link to those done.
+-- Each line's record gets the link to the line after it. From pointer p on, at most n lines; e is the link to those done.
 unfoldable pub linkPath : ℕ → List ℕ → ℕ → ℕ → ℕ → Linked
 linkPath zero w p k e = linked w e
 linkPath (suc n) w p k e =
     elim (eqb p 0) [
       | true ↦ linked w e
-      | false ↦ linkPath n (put w (p - 1) 62 e) (field w (p - 1) 39) (field w (p - 1) 40) (linkWord p k)
+      | false ↦ linkPath n (put w (p - 1) nextLineField e) (field w (p - 1) fields.pathBefore) (field w (p - 1) fields.pathLine) (linkWord p k)
     ]
 
 -- Field 63 of the first n records: no constant has shown.
 unfoldable pub clearConstants : ℕ → List ℕ → List ℕ
 clearConstants zero w = w
-clearConstants (suc n) w = clearConstants n (put w n 63 0)
+clearConstants (suc n) w = clearConstants n (put w n constantNumberField 0)
 
 -- The first n variables: none has shown.
 unfoldable pub clearVariables : ℕ → List ℕ → List ℕ

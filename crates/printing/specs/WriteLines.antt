@@ -4,11 +4,13 @@ use mathlib.Core.Bool.{true, false, cond}
 use mathlib.Core.List.{List}
 use lib.Dec.{eqb, ltb}
 use Rattle.sheet_format.specs.Bytes.{ascii, tab, lf}
-use Rattle.machine.specs.Records.{field}
+use Rattle.machine.specs.Fields as fields
+use Rattle.machine.specs.Records.{field, trueLine, andLine, leftLine, rightLine, someLine, allLine}
 use Rattle.machine.specs.Words.{variableWord, constantWord}
 use Rattle.printing.specs.Output.{writeBytes, writeNumber}
 use Rattle.printing.specs.Marks.{Page, wrote}
 use Rattle.printing.specs.WriteTerms.{emitTo, termTo}
+use Rattle.printing.specs.Links.{nextLineField, lineCodes}
 
 -- Bytes on a page.
 unfoldable pub bytesTo : ℕ → Page → List ℕ → Page
@@ -25,9 +27,9 @@ resultTo limit g bs units = emitTo limit (numberTo limit (bytesTo limit g bs) un
 -- The five lines that have no term.
 unfoldable pub plainBytes : ℕ → List ℕ
 plainBytes k =
-    cond (eqb k 0) (ascii "D\ttrue\n")
-    (cond (eqb k 1) (ascii "D\tand\n")
-    (cond (eqb k 2) (ascii "D\tleft\n") (cond (eqb k 3) (ascii "D\tright\n") (ascii "D\tassume\n"))))
+    cond (eqb k trueLine) (ascii "D\ttrue\n")
+    (cond (eqb k andLine) (ascii "D\tand\n")
+    (cond (eqb k leftLine) (ascii "D\tleft\n") (cond (eqb k rightLine) (ascii "D\tright\n") (ascii "D\tassume\n"))))
 
 module _ (sheet t : List ℕ) (turns limit : ℕ) where
   -- A line of these bytes and the term of word a.
@@ -51,20 +53,20 @@ module _ (sheet t : List ℕ) (turns limit : ℕ) where
   -- "`D clause place term...`", of record q.
   unfoldable pub clauseTo : Page → ℕ → Page
   clauseTo g q =
-      let s = numberTo limit (bytesTo limit g (ascii "D\tclause\t")) (field (g .memory) q 41) in
-      emitTo limit (prefixTo (field (g .memory) q 42) s (field (g .memory) q 43)) lf
+      let s = numberTo limit (bytesTo limit g (ascii "D\tclause\t")) (field (g .memory) q fields.usePlace) in
+      emitTo limit (prefixTo (field (g .memory) q fields.useCount) s (field (g .memory) q fields.variables)) lf
 
   -- The line of kind k in record q.
   unfoldable pub lineTo : Page → ℕ → ℕ → Page
-  lineTo g q k = elim (ltb k 5) [
+  lineTo g q k = elim (ltb k someLine) [
     | true ↦ bytesTo limit g (plainBytes k)
-    | false ↦ elim (eqb k 5) [
-      | true ↦ termLine g (ascii "D\tsome\t") (variableWord (field (g .memory) q 43))
-      | false ↦ elim (eqb k 6) [ true ↦ termLine g (ascii "D\tall\t") (constantWord q) | false ↦ clauseTo g q ]
+    | false ↦ elim (eqb k someLine) [
+      | true ↦ termLine g (ascii "D\tsome\t") (variableWord (field (g .memory) q fields.variables))
+      | false ↦ elim (eqb k allLine) [ true ↦ termLine g (ascii "D\tall\t") (constantWord q) | false ↦ clauseTo g q ]
     ]
   ]
 
   -- The lines from link e on, at most n of them (Links).
   unfoldable pub linesTo : ℕ → Page → ℕ → Page
   linesTo zero g e = g
-  linesTo (suc n) g e = elim (eqb (e / 8) 0) [ true ↦ g | false ↦ linesTo n (lineTo g (e / 8 - 1) (e % 8)) (field (g .memory) (e / 8 - 1) 62) ]
+  linesTo (suc n) g e = elim (eqb (e / lineCodes) 0) [ true ↦ g | false ↦ linesTo n (lineTo g (e / lineCodes - 1) (e % lineCodes)) (field (g .memory) (e / lineCodes - 1) nextLineField) ]

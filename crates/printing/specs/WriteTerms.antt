@@ -7,7 +7,7 @@ use mathlib.Core.Bool.{true, false, cond}
 use mathlib.Core.List.{List}
 use lib.Dec.{eqb, ltb}
 use Rattle.node_table.specs.Layout.{childCount, labelOf, childOf, nameStart, nameLength}
-use Rattle.machine.specs.Words.{up, tagOf, nameOf, nodeOf, frameOf, wordOf}
+use Rattle.machine.specs.Words.{up, tagOf, nameOf, nodeOf, frameOf, wordOf, constantTag, variableTag}
 use Rattle.printing.specs.Output.{emit, copyBytes}
 use Rattle.printing.specs.Marks.{Page, wrote, seek, showVariable, showConstant}
 
@@ -38,9 +38,9 @@ applicationBy write sheet t limit g n f =
 
 -- The word a, looked through.
 unfoldable pub wordBy : (Page → ℕ → Page) → List ℕ → List ℕ → ℕ → Page → ℕ → Page
-wordBy write sheet t limit g a = elim (eqb (tagOf a) 1) [
+wordBy write sheet t limit g a = elim (eqb (tagOf a) variableTag) [
   | true ↦ showVariable limit g (nameOf a)
-  | false ↦ elim (eqb (tagOf a) 2) [ true ↦ showConstant limit g (nameOf a) | false ↦ applicationBy write sheet t limit g (nodeOf a) (frameOf a) ]
+  | false ↦ elim (eqb (tagOf a) constantTag) [ true ↦ showConstant limit g (nameOf a) | false ↦ applicationBy write sheet t limit g (nodeOf a) (frameOf a) ]
 ]
 
 -- The term of word a: at most `turns` bindings are looked through at a time.

@@ -5,7 +5,7 @@ use mathlib.Core.Bool.{true, false}
 use mathlib.Core.List.{List, []}
 use lib.Dec.{ltb}
 use lib.ListN.{length}
-use Rattle.sheet_format.specs.Limits.{maxTextBytes}
+use Rattle.sheet_format.specs.Limits.{maxTextBytes, variableNames}
 use Rattle.sheet_format.specs.Bytes.{ascii, lf}
 use Rattle.node_table.specs.Layout.{maskOf}
 use Rattle.machine.specs.Records.{Made}
@@ -30,7 +30,7 @@ freshPen = record { at = 0; variables = 0; constants = 0 }
 -- The text of a proved search: the path begins at link e.
 unfoldable pub proofPass : List ℕ → List ℕ → ℕ → ℕ → ℕ → ℕ → ℕ → Page → Page
 proofPass sheet t turns limit goal units e g =
-    linesTo sheet t turns limit turns (bindingsTo sheet t turns limit 8 (maskOf t goal) 0 (resultTo limit g (ascii "R\tproved\t") units)) e
+    linesTo sheet t turns limit turns (bindingsTo sheet t turns limit variableNames (maskOf t goal) 0 (resultTo limit g (ascii "R\tproved\t") units)) e
 
 -- Forward links, and no numbers.
 unfoldable pub prepare : Made → List ℕ

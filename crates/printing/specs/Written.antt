@@ -9,35 +9,37 @@ use lib.ListN.{length, drop}
 use Rattle.sequents.specs.Sequents.{Line}
 use Rattle.unification.specs.Store.{Leaf, Store}
 use Rattle.unification.specs.Promises.{Unbound, Formed}
-use Rattle.node_table.specs.Layout.{kindOf}
+use Rattle.sheet_format.specs.Limits.{maxBudget, numbersPerUnit, variableNames}
+use Rattle.node_table.specs.Layout.{kindOf, applicationKind}
 use Rattle.search.specs.Search.{proved, ends, search}
 use Rattle.node_table.specs.Decoding.{clausesFrom, goalAt, decodeSheet}
 use Rattle.node_table.specs.WellMade.{IsTerm, WellMade, Named}
-use Rattle.machine.specs.Records.{field, cellOf, levelOf, Made}
-use Rattle.machine.specs.Words.{tagOf, nameOf, nodeOf, frameOf, slotOf}
+use Rattle.machine.specs.Fields as fields
+use Rattle.machine.specs.Records.{field, cellOf, levelOf, Made, provedMode, someLine, clauseLine}
+use Rattle.machine.specs.Words.{tagOf, nameOf, nodeOf, frameOf, slotOf, closureTag, constantTag, variableTag}
 use Rattle.machine.specs.Machine.{runMachine}
 use Rattle.machine.specs.Simulation.{StandsAt}
 use Rattle.answer_texts.specs.Spelling.{noText, spentText}
 use Rattle.answer_texts.specs.Promises.{searchText}
 use Rattle.printing.specs.Output.{Written, written}
-use Rattle.printing.specs.Links.{clearVariables}
+use Rattle.printing.specs.Links.{clearVariables, nextLineField}
 use Rattle.printing.specs.Writer.{textLimit, noRoom, writeProof, writeNo, writeSpent}
 
 -- What holds of the machine's memory after a proved search, beside `StandsAt`. All of it is part of the simulation's invariant.
 
 -- A word of a leaf: a variable, or the constant of an act done.
 pub data LeafWord (acts a : ℕ) : Type 0 where
-  variable : tagOf a ≡ 1 → LeafWord acts a
-  constant : tagOf a ≡ 2 → nameOf a < acts → LeafWord acts a
+  variable : tagOf a ≡ variableTag → LeafWord acts a
+  constant : tagOf a ≡ constantTag → nameOf a < acts → LeafWord acts a
 
 -- A closure's: an application's node, and a frame that was made, in which every name stands for a leaf.
 pub record Closure (t w : List ℕ) (nodes acts a : ℕ) : Type 0 where
-  pub tag : tagOf a ≡ 3
+  pub tag : tagOf a ≡ closureTag
   pub there : nodeOf a < nodes
   pub term : IsTerm t (nodeOf a)
-  pub application : kindOf t (nodeOf a) ≡ 1
+  pub application : kindOf t (nodeOf a) ≡ applicationKind
   pub frame : frameOf a ≤ acts
-  pub slots : (v : ℕ) → v < 8 → LeafWord acts (slotOf w (frameOf a) v)
+  pub slots : (v : ℕ) → v < variableNames → LeafWord acts (slotOf w (frameOf a) v)
 
 -- A word of a term.
 pub data TermWord (t w : List ℕ) (nodes acts a : ℕ) : Type 0 where
@@ -46,22 +48,22 @@ pub data TermWord (t w : List ℕ) (nodes acts a : ℕ) : Type 0 where
 
 -- The line of kind k in record q: its variables were made.
 pub record LineMade (w : List ℕ) (next q k : ℕ) : Type 0 where
-  pub kind : k ≤ 7
-  pub some : k ≡ 5 → field w q 43 < next
-  pub clause : k ≡ 7 → field w q 42 + field w q 43 ≤ next
+  pub kind : k ≤ clauseLine
+  pub some : k ≡ someLine → field w q fields.variables < next
+  pub clause : k ≡ clauseLine → field w q fields.useCount + field w q fields.variables ≤ next
 
 -- From pointer p on, at most n lines, each made before the one after it.
 unfoldable pub PathMade : ℕ → List ℕ → ℕ → ℕ → ℕ → Type 0
 PathMade zero w next p k = p ≡ 0
-PathMade (suc n) w next p k = (p ≡ 0) ⊎ ((1 ≤ p) × LineMade w next (p - 1) k × (field w (p - 1) 39 < p) × PathMade n w next (field w (p - 1) 39) (field w (p - 1) 40))
+PathMade (suc n) w next p k = (p ≡ 0) ⊎ ((1 ≤ p) × LineMade w next (p - 1) k × (field w (p - 1) fields.pathBefore < p) × PathMade n w next (field w (p - 1) fields.pathBefore) (field w (p - 1) fields.pathLine))
 
 -- The memory as a whole.
 pub record Orderly (t : List ℕ) (nodes : ℕ) (m : Made) (s : Store) : Type 0 where
   -- the demanded part of the work buffer, and in it the variables made
-  pub few : m .registers .acts ≤ 50000
-  pub room : 64 * m .registers .acts ≤ length (m .memory)
-  pub goals : 8 ≤ s .next
-  pub variables : s .next ≤ 9 * m .registers .acts
+  pub few : m .registers .acts ≤ maxBudget
+  pub room : numbersPerUnit * m .registers .acts ≤ length (m .memory)
+  pub goals : variableNames ≤ s .next
+  pub variables : s .next ≤ fields.cells * m .registers .acts
   -- each act binds at most once, and an unbound variable has no word
   pub formed : Formed s
   pub bindings : length (s .bindings) ≤ m .registers .acts
@@ -77,14 +79,14 @@ told text out = cond (leb (length text) (textLimit out)) (written (text ++ drop 
 -- The answer text is written if it fits, and otherwise no byte.
 abbrev pub WritesProof : Type 0
 WritesProof = (sheet t : List ℕ) (symbols nodes clauses goal : ℕ) → WellMade t nodes clauses goal → Named t nodes symbols
-    → (m : Made) (s : Store) (path : List (Line Leaf)) → StandsAt t m 4 s path → Orderly t nodes m s → (units : ℕ) (out : List ℕ)
+    → (m : Made) (s : Store) (path : List (Line Leaf)) → StandsAt t m provedMode s path → Orderly t nodes m s → (units : ℕ) (out : List ℕ)
     → written (writeProof sheet t goal m units out .buffer) (writeProof sheet t goal m units out .length)
     ≡ told (searchText (decodeSheet sheet t symbols clauses goal) s path units) out
 
 -- So after every run of the machine that ends with a proof.
 abbrev pub WritesAnswer : Type 0
 WritesAnswer = (sheet t : List ℕ) (symbols nodes clauses goal : ℕ) → WellMade t nodes clauses goal → Named t nodes symbols
-    → (budget : ℕ) → budget ≤ 50000 → (w : List ℕ) → 64 * budget ≤ length w
+    → (budget : ℕ) → budget ≤ maxBudget → (w : List ℕ) → numbersPerUnit * budget ≤ length w
     → (s : Store) (path : List (Line Leaf)) (n : ℕ) → search budget (clausesFrom t clauses 0) (goalAt t goal) ≡ ends (proved s path) n → (out : List ℕ)
     → written (writeProof sheet t goal (runMachine budget t clauses goal w) n out .buffer) (writeProof sheet t goal (runMachine budget t clauses goal w) n out .length)
     ≡ told (searchText (decodeSheet sheet t symbols clauses goal) s path n) out
@@ -100,12 +102,12 @@ WritesSpent = (budget : ℕ) (out : List ℕ) → writeSpent budget out ≡ told
 -- With the numbers cleared, all that the search reads is as it was.
 pub record Restored (w w′ : List ℕ) (next : ℕ) : Type 0 where
   pub long : length w′ ≡ length w
-  pub fields : (u f : ℕ) → 18 ≤ f → f < 62 → field w′ u f ≡ field w u f
+  pub fields : (u f : ℕ) → fields.entryLowered ≤ f → f < nextLineField → field w′ u f ≡ field w u f
   pub levels : (x : ℕ) → levelOf w′ x ≡ levelOf w x
   pub cells : (x : ℕ) → x < next → cellOf w′ x ≡ cellOf w x
 
 -- It is so after the writer.
 abbrev pub Restores : Type 0
 Restores = (sheet t : List ℕ) (symbols nodes clauses goal : ℕ) → WellMade t nodes clauses goal → Named t nodes symbols
-    → (m : Made) (s : Store) (path : List (Line Leaf)) → StandsAt t m 4 s path → Orderly t nodes m s → (units : ℕ) (out : List ℕ)
+    → (m : Made) (s : Store) (path : List (Line Leaf)) → StandsAt t m provedMode s path → Orderly t nodes m s → (units : ℕ) (out : List ℕ)
     → Restored (m .memory) (clearVariables (s .next) (writeProof sheet t goal m units out .memory)) (s .next)

@@ -3,6 +3,7 @@ use memory::put;
 use outcomes::Outcome;
 use outcomes::Run;
 use outcomes::Verdict;
+use outcomes::codes;
 ghost use mathlib.Core.Path.{_≡_};
 ghost use mathlib.Core.List.{[], _∷_};
 ghost use Rattle.engine_spec.specs.Handed.{handed as handedRun};
@@ -30,10 +31,10 @@ fn report_run(r: Run, result: &mut [u32]) -> u32
     let length = r.length;
     let outcome = r.outcome;
     match outcome {
-        Outcome::Proved => put_run(result, 0, units, length, 0, 0),
-        Outcome::No => put_run(result, 1, units, length, 0, 0),
-        Outcome::Spent => put_run(result, 2, units, length, 0, 0),
-        Outcome::Refused(f) => put_run(result, 3, units, length, f.number, f.line),
+        Outcome::Proved => put_run(result, codes::PROVED, units, length, 0, 0),
+        Outcome::No => put_run(result, codes::NO, units, length, 0, 0),
+        Outcome::Spent => put_run(result, codes::SPENT, units, length, 0, 0),
+        Outcome::Refused(f) => put_run(result, codes::RUN_REFUSED, units, length, f.number, f.line),
     }
 }
 
@@ -67,9 +68,9 @@ fn report_check(v: Verdict, result: &mut [u32]) -> u32
     ensures { λ n. ⌜ (n ≡ handedCheck v .verdict) × (now (result .exit) ≡ putFront (checkNumbers (handedCheck v)) (now (result .entry))) ⌝ }
 {
     match v {
-        Verdict::Valid => put_check(result, 0, 0, 0),
-        Verdict::Invalid(line) => put_check(result, 1, line, 0),
-        Verdict::Refused(f) => put_check(result, 3, f.line, f.number),
+        Verdict::Valid => put_check(result, codes::VALID, 0, 0),
+        Verdict::Invalid(line) => put_check(result, codes::NOT_VALID, line, 0),
+        Verdict::Refused(f) => put_check(result, codes::CHECK_REFUSED, f.line, f.number),
     }
 }
 

@@ -18,7 +18,7 @@ use Rattle.sheet_format.specs.Nodes.{Declaration}
 use Rattle.sheet_format.proofs.Bytes.{name-kinds}
 use Rattle.sheet_format.proofs.Names.{Names}
 use Rattle.sheet_format.proofs.Formed.{Declares, FormedTerm, FormedTerms}
-use Rattle.node_table.specs.Layout.{kindOf, childCount, labelOf, childOf, nameStart, nameLength}
+use Rattle.node_table.specs.Layout.{kindOf, childCount, labelOf, childOf, nameStart, nameLength, variableKind, applicationKind}
 use Rattle.node_table.specs.Decoding.{childrenBy, termAt, argumentsAt, declarationAt, declarationsFrom}
 use Rattle.node_table.specs.WellMade.{IsTerm}
 use Rattle.node_table.proofs.Decoding.{Nodes, term-variable, term-application}
@@ -278,7 +278,7 @@ module _ (b t : List ℕ) (symbols : ℕ) (names : Names (declarationsFrom b t s
       → (i : ℕ) → along f b t x w g m i ≡ reach (spellTerm (substitute (termAt t m) e) (declarationsFrom b t symbols 0)) x i
 
   -- a variable
-  along-variable : (f m : ℕ) → kindOf t m ≡ 0 → Instance (suc f) m
+  along-variable : (f m : ℕ) → kindOf t m ≡ variableKind → Instance (suc f) m
   unfolding along FormedTerm substitute freeT
   along-variable f m z l u is formed frame i =
       let tree = term-variable t nodes table m u is z in
@@ -288,7 +288,7 @@ module _ (b t : List ℕ) (symbols : ℕ) (names : Names (declarationsFrom b t s
       rw (along, z) (along-slot b t symbols names x w g v i (e v) s ∙ ap (λ (y : Term ℕ). reach (spellTerm (substitute y e) (declarationsFrom b t symbols 0)) x i) (sym tree))
 
   -- an application
-  along-applied : (f m : ℕ) → kindOf t m ≡ 1 → ((k : ℕ) → Instance f k) → Instance (suc f) m
+  along-applied : (f m : ℕ) → kindOf t m ≡ applicationKind → ((k : ℕ) → Instance f k) → Instance (suc f) m
   unfolding along alongApplication FormedTerm substitute freeT spellTerm argumentsAt
   along-applied f m z ih l u is formed frame i =
       let tree = term-application t nodes table m u is z in
@@ -313,9 +313,9 @@ module _ (b t : List ℕ) (symbols : ℕ) (names : Names (declarationsFrom b t s
   -- The instance of a node stands where its spelling does.
   pub along-instance : (f m : ℕ) → Instance f m
   along-instance zero m l u is formed frame i = absurd (omega arith)
-  along-instance (suc f) m l u is formed frame i = go (eqb (kindOf t m) 0) refl (along-instance f)
+  along-instance (suc f) m l u is formed frame i = go (eqb (kindOf t m) variableKind) refl (along-instance f)
     where
-      go : (z : Bool) → eqb (kindOf t m) 0 ≡ z → ((k : ℕ) → Instance f k) → along (suc f) b t x w g m i ≡ reach (spellTerm (substitute (termAt t m) e) (declarationsFrom b t symbols 0)) x i
+      go : (z : Bool) → eqb (kindOf t m) variableKind ≡ z → ((k : ℕ) → Instance f k) → along (suc f) b t x w g m i ≡ reach (spellTerm (substitute (termAt t m) e) (declarationsFrom b t symbols 0)) x i
       go true q ih = along-variable f m (eqb-true (kindOf t m) 0 q) l u is formed frame i
       go false q ih =
           let n = eqb-false (kindOf t m) 0 q in

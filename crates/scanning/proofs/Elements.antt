@@ -11,7 +11,8 @@ use Rattle.sequents.specs.Symbols.{Symbol, Ground}
 use Rattle.sequents.specs.Sequents.{Environment}
 use Rattle.sheet_format.specs.Nodes.{Declaration}
 use Rattle.sheet_format.proofs.Names.{Names}
-use Rattle.node_table.specs.Layout.{kindOf, labelOf}
+use Rattle.sheet_format.specs.Limits.{maxNodes, variableNames}
+use Rattle.node_table.specs.Layout.{kindOf, labelOf, applicationKind, variableKind}
 use Rattle.node_table.specs.Decoding.{termAt, declarationsFrom}
 use Rattle.node_table.proofs.Decoding.{Nodes}
 use Rattle.answer_texts.specs.Judging.{sameTerm}
@@ -36,7 +37,7 @@ pub record NodeNumber (i m s : ℕ) : Type 0 where
   pub node : elementNode i ≡ m
 
 -- a name's element
-name-number : (v s : ℕ) → v < 8 → s < 2 → NameNumber (nameElement s v) v s
+name-number : (v s : ℕ) → v < variableNames → s < 2 → NameNumber (nameElement s v) v s
 unfolding nameElement isName elementSide elementName
 name-number v s h k =
     let e : v % 8 ≡ v = omega arith in
@@ -50,13 +51,13 @@ node-number m s h k =
     rw e (record { kind = le-ltb (2 * m + (s + 2048)) 2048 (omega arith); side = omega arith; node = omega arith })
 
 -- by its kind
-name-element : (t : List ℕ) (s m : ℕ) → kindOf t m ≡ 0 → labelOf t m < 8 → s < 2 → NameNumber (elementOf t s m) (labelOf t m) s
+name-element : (t : List ℕ) (s m : ℕ) → kindOf t m ≡ variableKind → labelOf t m < 8 → s < 2 → NameNumber (elementOf t s m) (labelOf t m) s
 unfolding elementOf
 name-element t s m z h k = rw z (name-number (labelOf t m) s h k)
 
-node-element : (t : List ℕ) (s m : ℕ) → (kindOf t m ≡ 0 → ⊥) → m < 1024 → s < 2 → NodeNumber (elementOf t s m) m s
+node-element : (t : List ℕ) (s m : ℕ) → (kindOf t m ≡ variableKind → ⊥) → m < 1024 → s < 2 → NodeNumber (elementOf t s m) m s
 unfolding elementOf
-node-element t s m z h k = rw (ne-eqb (kindOf t m) 0 z) (node-number m s h k)
+node-element t s m z h k = rw (ne-eqb (kindOf t m) variableKind z) (node-number m s h k)
 
 -- a side
 pub side-low : (i : ℕ) → elementSide i < 2
@@ -65,7 +66,7 @@ side-low i = omega arith
 
 -- terms
 
-module _ (b t : List ℕ) (symbols : ℕ) (names : Names (declarationsFrom b t symbols 0)) (x : List ℕ) (nodes : ℕ) (table : Nodes t nodes) (few : nodes ≤ 1024) (w : List ℕ)
+module _ (b t : List ℕ) (symbols : ℕ) (names : Names (declarationsFrom b t symbols 0)) (x : List ℕ) (nodes : ℕ) (table : Nodes t nodes) (few : nodes ≤ maxNodes) (w : List ℕ)
     (f g : ℕ) (e d : Environment Symbol) where
   -- the declared symbols
   abbrev ds : List Declaration
@@ -83,7 +84,7 @@ module _ (b t : List ℕ) (symbols : ℕ) (names : Names (declarationsFrom b t s
   pub record Means (i : ℕ) (u : Ground) : Type 0 where
     pub placed : isName i ≡ true → Placed ds x (startOf w f g i) (endOf w f g i) u
     pub node : isName i ≡ false → NodeOn (elementNode i) (elementSide i)
-    pub applied : isName i ≡ false → kindOf t (elementNode i) ≡ 1
+    pub applied : isName i ≡ false → kindOf t (elementNode i) ≡ applicationKind
     pub instance : isName i ≡ false → u ≡ substitute (termAt t (elementNode i)) (environmentOn (elementSide i))
 
   -- one term only
@@ -105,7 +106,7 @@ module _ (b t : List ℕ) (symbols : ℕ) (names : Names (declarationsFrom b t s
   -- a node's element means its instance
   pub element-means : (s m : ℕ) → s < 2 → NodeOn m s → Means (elementOf t s m) (substitute (termAt t m) (environmentOn s))
   unfolding startOf endOf
-  element-means s m l h = go (eqb (kindOf t m) 0) refl
+  element-means s m l h = go (eqb (kindOf t m) variableKind) refl
     where
       i : ℕ
       i = elementOf t s m
@@ -113,7 +114,7 @@ module _ (b t : List ℕ) (symbols : ℕ) (names : Names (declarationsFrom b t s
       u : Ground
       u = substitute (termAt t m) (environmentOn s)
 
-      go : (z : Bool) → eqb (kindOf t m) 0 ≡ z → Means i u
+      go : (z : Bool) → eqb (kindOf t m) variableKind ≡ z → Means i u
       go true q =
           let z = eqb-true (kindOf t m) 0 q in
           let n = name-element t s m z (table .term m (h .below) (h .is) .variable z) l in
@@ -127,7 +128,7 @@ module _ (b t : List ℕ) (symbols : ℕ) (names : Names (declarationsFrom b t s
       go false q =
           let z = eqb-false (kindOf t m) 0 q in
           let n = node-element t s m z (let y = h .below in omega arith) l in
-          let k : kindOf t m ≡ 1 = omega (arith, table .term m (h .below) (h .is) .kind) in
+          let k : kindOf t m ≡ applicationKind = omega (arith, table .term m (h .below) (h .is) .kind) in
           record {
             placed = λ y. absurd (true≢false (sym y ∙ n .kind));
             node = λ y. rw (n .side, n .node) h;

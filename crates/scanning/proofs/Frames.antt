@@ -11,6 +11,8 @@ use Rattle.terms.proofs.Lists.{update-same, update-other}
 use Rattle.sequents.specs.Symbols.{Symbol, Ground}
 use Rattle.sequents.specs.Sequents.{Environment}
 use Rattle.sheet_format.specs.Nodes.{Declaration}
+use Rattle.sheet_format.specs.Limits.{variableNames}
+use Rattle.scanning.specs.Fields as fields
 use Rattle.scanning.specs.Frames.{field, put, slotStart, slotEnd, putSlot, copyFrame, bindFrame}
 use Rattle.scanning.proofs.Placed.{Placed}
 use Rattle.scanning.proofs.Along.{Frame}
@@ -29,14 +31,14 @@ module _ (ds : List Declaration) (x : List ℕ) where
       (sym (k .others r (2 * v) d (omega arith))) (sym (k .others r (2 * v + 1) d (omega arith))) (f v l h)
 
   -- a frame that is copied
-  pub frame-copy : (q r : ℕ) (w : List ℕ) (e : Environment Symbol) (p : ℕ → Bool) → Room q w → (r ≡ q → ⊥) → Frame ds x w r e p → Frame ds x (copyFrame 16 w q r 0) q e p
+  pub frame-copy : (q r : ℕ) (w : List ℕ) (e : Environment Symbol) (p : ℕ → Bool) → Room q w → (r ≡ q → ⊥) → Frame ds x w r e p → Frame ds x (copyFrame fields.frameNumbers w q r 0) q e p
   unfolding slotStart slotEnd
   frame-copy q r w e p room d f v l h =
-      moved (field w r (2 * v)) (field w r (2 * v + 1)) (field (copyFrame 16 w q r 0) q (2 * v)) (field (copyFrame 16 w q r 0) q (2 * v + 1)) (e v)
+      moved (field w r (2 * v)) (field w r (2 * v + 1)) (field (copyFrame fields.frameNumbers w q r 0) q (2 * v)) (field (copyFrame fields.frameNumbers w q r 0) q (2 * v + 1)) (e v)
       (sym (copy-at 16 w q r 0 (2 * v) room d (omega arith) (omega arith) (omega arith))) (sym (copy-at 16 w q r 0 (2 * v + 1) room d (omega arith) (omega arith) (omega arith))) (f v l h)
 
   -- a frame with another term for name v
-  pub frame-put : (q v s j : ℕ) (u : Ground) (w : List ℕ) (e : Environment Symbol) (p p′ : ℕ → Bool) → Room q w → v < 8 → Placed ds x s j u
+  pub frame-put : (q v s j : ℕ) (u : Ground) (w : List ℕ) (e : Environment Symbol) (p p′ : ℕ → Bool) → Room q w → v < variableNames → Placed ds x s j u
       → ((z : ℕ) → (z ≡ v → ⊥) → p′ z ≡ true → p z ≡ true) → Frame ds x w q e p → Frame ds x (putSlot w q v s j) q (update e v u) p′
   unfolding slotStart slotEnd putSlot
   frame-put q v s j u w e p p′ room k h n f z l g = go (eqb z v) refl
@@ -64,8 +66,8 @@ module _ (ds : List Declaration) (x : List ℕ) where
           (f z l (n z d g)))
 
   -- both
-  pub frame-bind : (q r v s j : ℕ) (u : Ground) (w : List ℕ) (e : Environment Symbol) (p p′ : ℕ → Bool) → Room q w → (r ≡ q → ⊥) → v < 8 → Placed ds x s j u
+  pub frame-bind : (q r v s j : ℕ) (u : Ground) (w : List ℕ) (e : Environment Symbol) (p p′ : ℕ → Bool) → Room q w → (r ≡ q → ⊥) → v < variableNames → Placed ds x s j u
       → ((z : ℕ) → (z ≡ v → ⊥) → p′ z ≡ true → p z ≡ true) → Frame ds x w r e p → Frame ds x (bindFrame w q r v s j) q (update e v u) p′
   unfolding bindFrame
   frame-bind q r v s j u w e p p′ room d k h n f =
-      frame-put q v s j u (copyFrame 16 w q r 0) e p p′ (kept-room q q w (copyFrame 16 w q r 0) (copy-kept 16 w q r 0 (omega arith)) room) k h n (frame-copy q r w e p room d f)
+      frame-put q v s j u (copyFrame fields.frameNumbers w q r 0) e p p′ (kept-room q q w (copyFrame fields.frameNumbers w q r 0) (copy-kept 16 w q r 0 (omega arith)) room) k h n (frame-copy q r w e p room d f)

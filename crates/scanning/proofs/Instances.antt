@@ -15,6 +15,7 @@ use Rattle.sequents.specs.Sequents.{Environment}
 use Rattle.sheet_format.specs.Nodes.{Declaration}
 use Rattle.sheet_format.proofs.Names.{Names}
 use Rattle.sheet_format.proofs.Formed.{FormedTerms}
+use Rattle.sheet_format.specs.Limits.{maxNodes}
 use Rattle.node_table.specs.Layout.{childCount, labelOf, childOf, arityOf}
 use Rattle.node_table.specs.Decoding.{childrenBy, termAt, argumentsAt, declarationsFrom}
 use Rattle.node_table.specs.WellMade.{Arguments}
@@ -29,7 +30,7 @@ use Rattle.scanning.proofs.Nodes.{sameTerm-swap, TermIn, child-in, inst
 use Rattle.scanning.proofs.Classes.{Forest, forest-set, root-of, separate-forest, separate-root}
 use Rattle.scanning.proofs.Elements.{environmentOn, Means, means-once, Alike, alike, element-means, same-name, side-low, node-number}
 
-module _ (b t : List ℕ) (symbols : ℕ) (names : Names (declarationsFrom b t symbols 0)) (x : List ℕ) (nodes : ℕ) (table : Nodes t nodes) (few : nodes ≤ 1024) (w : List ℕ) where
+module _ (b t : List ℕ) (symbols : ℕ) (names : Names (declarationsFrom b t symbols 0)) (x : List ℕ) (nodes : ℕ) (table : Nodes t nodes) (few : nodes ≤ maxNodes) (w : List ℕ) where
   -- the declared symbols
   abbrev ds : List Declaration
   ds = declarationsFrom b t symbols 0

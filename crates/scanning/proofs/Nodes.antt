@@ -17,7 +17,8 @@ use Rattle.sheet_format.specs.Nodes.{Declaration}
 use Rattle.sheet_format.proofs.Bytes.{same-equal, equal-same}
 use Rattle.sheet_format.proofs.Names.{Names}
 use Rattle.sheet_format.proofs.Formed.{FormedTerm}
-use Rattle.node_table.specs.Layout.{kindOf, childCount, labelOf, childOf}
+use Rattle.sheet_format.specs.Limits.{maxNodes}
+use Rattle.node_table.specs.Layout.{kindOf, childCount, labelOf, childOf, applicationKind, variableKind}
 use Rattle.node_table.specs.Decoding.{termAt, argumentsAt, declarationsFrom}
 use Rattle.node_table.specs.WellMade.{IsTerm}
 use Rattle.node_table.proofs.Decoding.{Nodes, term-variable, term-application}
@@ -64,7 +65,7 @@ sameTerm-swap t u =
     (λ h. subst (λ (z : Ground). sameTerm z t ≡ true) (sameTerm-true t u h) (sameTerm-refl t))
     (λ h. subst (λ (z : Ground). sameTerm z u ≡ true) (sameTerm-true u t h) (sameTerm-refl u))
 
-module _ (b t : List ℕ) (symbols : ℕ) (names : Names (declarationsFrom b t symbols 0)) (x : List ℕ) (nodes : ℕ) (table : Nodes t nodes) (few : nodes ≤ 1024) (w : List ℕ) where
+module _ (b t : List ℕ) (symbols : ℕ) (names : Names (declarationsFrom b t symbols 0)) (x : List ℕ) (nodes : ℕ) (table : Nodes t nodes) (few : nodes ≤ maxNodes) (w : List ℕ) where
   -- the declared symbols
   abbrev ds : List Declaration
   ds = declarationsFrom b t symbols 0
@@ -88,7 +89,7 @@ module _ (b t : List ℕ) (symbols : ℕ) (names : Names (declarationsFrom b t s
       ∙ ends-same ds x s j u (spellTerm (substitute (termAt t m) e) ds) p ∙ same-spelled u (substitute (termAt t m) e) ds names (p .writable) (term-writable m g e h)
 
   -- a variable's place, and what it stands for
-  pub slot-of : (m g : ℕ) (e : Environment Symbol) → TermIn m g e → kindOf t m ≡ 0
+  pub slot-of : (m g : ℕ) (e : Environment Symbol) → TermIn m g e → kindOf t m ≡ variableKind
       → Placed ds x (slotStart w g (labelOf t m)) (slotEnd w g (labelOf t m)) (e (labelOf t m)) × (substitute (termAt t m) e ≡ e (labelOf t m))
   unfolding FormedTerm freeT substitute
   slot-of m g e h z =
@@ -99,7 +100,7 @@ module _ (b t : List ℕ) (symbols : ℕ) (names : Names (declarationsFrom b t s
       )
 
   -- a child of an application
-  pub child-in : (m g : ℕ) (e : Environment Symbol) → TermIn m g e → kindOf t m ≡ 1 → (n : ℕ) → n < childCount t m → TermIn (childOf t m n) g e
+  pub child-in : (m g : ℕ) (e : Environment Symbol) → TermIn m g e → kindOf t m ≡ applicationKind → (n : ℕ) → n < childCount t m → TermIn (childOf t m n) g e
   unfolding FormedTerm freeT argumentsAt
   child-in m g e h z n l =
       let tree = term-application t nodes table m (h .below) (h .is) z in
@@ -118,9 +119,9 @@ module _ (b t : List ℕ) (symbols : ℕ) (names : Names (declarationsFrom b t s
   pub instance-depth : (n m g : ℕ) (e : Environment Symbol) → m < n → TermIn m g e → depth (substitute (termAt t m) e) ≤ m + length x
   unfolding depth substitute argumentsAt
   instance-depth zero m g e l h = absurd (omega arith)
-  instance-depth (suc n) m g e l h = go (eqb (kindOf t m) 0) refl (λ k u i. instance-depth n k g e u i)
+  instance-depth (suc n) m g e l h = go (eqb (kindOf t m) variableKind) refl (λ k u i. instance-depth n k g e u i)
     where
-      go : (z : Bool) → eqb (kindOf t m) 0 ≡ z → ((k : ℕ) → k < n → TermIn k g e → depth (substitute (termAt t k) e) ≤ k + length x) → depth (substitute (termAt t m) e) ≤ m + length x
+      go : (z : Bool) → eqb (kindOf t m) variableKind ≡ z → ((k : ℕ) → k < n → TermIn k g e → depth (substitute (termAt t k) e) ≤ k + length x) → depth (substitute (termAt t m) e) ≤ m + length x
       go true q ih =
           let s = slot-of m g e h (eqb-true (kindOf t m) 0 q) in
           let a = placed-depth ds x _ _ (e (labelOf t m)) (s .0) in
@@ -129,7 +130,7 @@ module _ (b t : List ℕ) (symbols : ℕ) (names : Names (declarationsFrom b t s
       go false q ih =
           let a = eqb-false (kindOf t m) 0 q in
           let y = table .term m (h .below) (h .is) in
-          let z : kindOf t m ≡ 1 = omega (arith, y .kind) in
+          let z : kindOf t m ≡ applicationKind = omega (arith, y .kind) in
           let b = ap (λ (p : Term ℕ). depth (substitute p e)) (term-application t nodes table m (h .below) (h .is) z) in
           let c = children-depth t m e (m + length x) (childCount t m) 0 (λ j u v.
           let r = y .application z .terms j (omega arith) in

@@ -8,25 +8,36 @@ use mathlib.Core.Bool.{Bool, cond}
 use mathlib.Core.List.{List}
 use lib.Dec.{eqb, ltb}
 use lib.ListN.{getD, set, replicate}
-use Rattle.node_table.specs.Layout.{kindOf, labelOf, childOf}
+use Rattle.sheet_format.specs.Limits.{maxNodes, variableNames}
+use Rattle.node_table.specs.Layout.{kindOf, labelOf, childOf, variableKind}
 
 -- elements
 
+-- The first name, the first application, and how many elements there are.
+abbrev pub firstName : ℕ
+firstName = 16
+
+abbrev pub firstApplication : ℕ
+firstApplication = 2048
+
+abbrev pub elementCount : ℕ
+elementCount = 4096
+
 -- Name v on side s. The remainders here do nothing where the name and the node are ones of the table.
 unfoldable pub nameElement : ℕ → ℕ → ℕ
-nameElement s v = 2 * (v % 8) + (s + 16)
+nameElement s v = 2 * (v % variableNames) + (s + firstName)
 
 -- the application at node m
 unfoldable pub nodeElement : ℕ → ℕ → ℕ
-nodeElement s m = 2 * (m % 1024) + (s + 2048)
+nodeElement s m = 2 * (m % maxNodes) + (s + firstApplication)
 
 -- The element of node m on side s.
 unfoldable pub elementOf : List ℕ → ℕ → ℕ → ℕ
-elementOf t s m = cond (eqb (kindOf t m) 0) (nameElement s (labelOf t m)) (nodeElement s m)
+elementOf t s m = cond (eqb (kindOf t m) variableKind) (nameElement s (labelOf t m)) (nodeElement s m)
 
 -- A name, or else an application.
 unfoldable pub isName : ℕ → Bool
-isName i = ltb i 2048
+isName i = ltb i firstApplication
 
 -- its side
 unfoldable pub elementSide : ℕ → ℕ
@@ -34,11 +45,11 @@ elementSide i = i % 2
 
 -- which name
 unfoldable pub elementName : ℕ → ℕ
-elementName i = i / 2 % 8
+elementName i = i / 2 % variableNames
 
 -- which node
 unfoldable pub elementNode : ℕ → ℕ
-elementNode i = i / 2 % 1024
+elementNode i = i / 2 % maxNodes
 
 -- The element of the j-th child of application i.
 unfoldable pub elementChild : List ℕ → ℕ → ℕ → ℕ
@@ -52,7 +63,7 @@ frameOn f g s = cond (eqb s 0) f g
 
 -- Each element in a class of its own.
 unfoldable pub separate : List ℕ
-separate = replicate 4096 0
+separate = replicate elementCount 0
 
 -- A representative, and the forest that the search for it leaves.
 pub record Rooted : Type 0 where
@@ -70,6 +81,10 @@ rootFrom (suc n) c i =
     cond (eqb (getD c i 0) 0) (rooted c i)
     (cond (eqb (getD c (getD c i 0) 0) 0) (rooted c (getD c i 0)) (rootFrom n (set c i (getD c (getD c i 0) 0)) (getD c (getD c i 0) 0)))
 
--- of a way through all 2,064 elements
+-- the most steps of a way through all 2,064 elements
+abbrev pub rootSteps : ℕ
+rootSteps = 1032
+
+-- within them
 unfoldable pub rootOf : List ℕ → ℕ → Rooted
-rootOf c i = rootFrom 1032 c i
+rootOf c i = rootFrom rootSteps c i

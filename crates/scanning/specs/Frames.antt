@@ -1,20 +1,16 @@
--- The work buffer: records of 64 numbers, field f of record r at 64 * r + f. Line k of the text writes record k only, and once.
---
---   0 .. 15   frame: for name v, where the term that it stands for starts (2 * v) and ends (2 * v + 1) in the text
---   16 .. 20  sequent left: node, frame, hypotheses, level, next sequent
---   21 .. 23  hypothesis: clause's node, frame, next hypothesis
---
--- A frame is named by its record. Of a hypothesis and of a sequent left the pointer is the number of its record plus 1, 0 for none.
+-- The work buffer: records of 64 numbers, field f of record r at 64 * r + f, for the fields of Fields.
 use Prim.Native.Nat.{ℕ, zero, suc, _+_, _*_}
 use mathlib.Core.List.{List}
 use lib.ListN.{getD, set}
+use Rattle.sheet_format.specs.Limits.{numbersPerUnit}
+use Rattle.scanning.specs.Fields as fields
 
 -- Reading and writing a field.
 unfoldable pub field : List ℕ → ℕ → ℕ → ℕ
-field w r f = getD w (64 * r + f) 0
+field w r f = getD w (numbersPerUnit * r + f) 0
 
 unfoldable pub put : List ℕ → ℕ → ℕ → ℕ → List ℕ
-put w r f a = set w (64 * r + f) a
+put w r f a = set w (numbersPerUnit * r + f) a
 
 -- The place of name v in frame r.
 unfoldable pub slotStart : List ℕ → ℕ → ℕ → ℕ
@@ -35,4 +31,4 @@ copyFrame (suc n) w r q f = copyFrame n (put w r f (field w q f)) r q (f + 1)
 
 -- The frame of record r: frame q with another term for name v.
 unfoldable pub bindFrame : List ℕ → ℕ → ℕ → ℕ → ℕ → ℕ → List ℕ
-bindFrame w r q v s e = putSlot (copyFrame 16 w r q 0) r v s e
+bindFrame w r q v s e = putSlot (copyFrame fields.frameNumbers w r q 0) r v s e

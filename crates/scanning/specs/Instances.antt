@@ -2,12 +2,13 @@
 -- found to be the same are put into one class, so the work grows with the nodes of two atoms and with the texts of their names, however
 -- often these stand in the atoms.
 use Prim.Native.Nat.{ℕ, zero, suc, _+_, _-_}
+use Prim.Native.Char.{code}
 use mathlib.Core.Bool.{Bool, true, false, cond}
 use mathlib.Core.List.{List}
 use lib.Dec.{eqb, leb}
 use lib.ListN.{length, getD, set}
 use Rattle.sheet_format.specs.Limits.{maxNodes}
-use Rattle.node_table.specs.Layout.{kindOf, childCount, labelOf, childOf, nameStart}
+use Rattle.node_table.specs.Layout.{kindOf, childCount, labelOf, childOf, nameStart, variableKind}
 use Rattle.scanning.specs.declared.Reach.{Reach}
 use Rattle.scanning.specs.declared.Reach.the-variants.{To, Differs}
 use Rattle.scanning.specs.Ranges.{sameRange}
@@ -35,13 +36,13 @@ alongSlot x w g v i = alongRange (slotEnd w g v - slotStart w g v) x (slotStart 
 
 -- So do n children of node m from the j-th on, the first after the byte c, each other one after a comma, and the closing bracket.
 unfoldable pub alongMore : (ℕ → ℕ → Reach) → ℕ → List ℕ → ℕ → ℕ → List ℕ → ℕ → ℕ → Reach
-alongMore r zero t m j x c i = cond (eqb (getD x i 0) 41) (To (i + 1)) Differs
+alongMore r zero t m j x c i = cond (eqb (getD x i 0) (code ")")) (To (i + 1)) Differs
 alongMore r (suc n) t m j x c i =
-    cond (eqb (getD x i 0) c) (elim (r (childOf t m j) (i + 1)) [ To e ↦ alongMore r n t m (j + 1) x 44 e | Differs ↦ Differs ]) Differs
+    cond (eqb (getD x i 0) c) (elim (r (childOf t m j) (i + 1)) [ To e ↦ alongMore r n t m (j + 1) x (code ",") e | Differs ↦ Differs ]) Differs
 
 -- all children, in brackets
 unfoldable pub alongArguments : (ℕ → ℕ → Reach) → List ℕ → ℕ → List ℕ → ℕ → Reach
-alongArguments r t m x i = cond (eqb (childCount t m) 0) (To i) (alongMore r (childCount t m) t m 0 x 40 i)
+alongArguments r t m x i = cond (eqb (childCount t m) 0) (To i) (alongMore r (childCount t m) t m 0 x (code "(") i)
 
 -- the symbol of node m, then its children
 unfoldable pub alongApplication : (ℕ → ℕ → Reach) → List ℕ → List ℕ → ℕ → List ℕ → ℕ → Reach
@@ -51,7 +52,7 @@ alongApplication r b t m x i = elim (alongName b t (labelOf t m) x i) [ To e ↦
 unfoldable pub along : ℕ → List ℕ → List ℕ → List ℕ → List ℕ → ℕ → ℕ → ℕ → Reach
 along zero b t x w g m i = Differs
 along (suc f) b t x w g m i =
-    cond (eqb (kindOf t m) 0)
+    cond (eqb (kindOf t m) variableKind)
     (alongSlot x w g (labelOf t m) i)
     (alongApplication (along f b t x w g) b t m x i)
 

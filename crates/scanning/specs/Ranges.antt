@@ -1,10 +1,12 @@
 -- Reading bytes in place: equal ranges, the end of a line, numbers. A read past the end gives 0, which is no byte of a right line.
 use Prim.Native.Nat.{ℕ, zero, suc, _+_, _-_, _*_}
+use Prim.Native.Char.{code}
 use mathlib.Core.Bool.{Bool, true, false, cond}
 use mathlib.Core.List.{List}
 use lib.Dec.{eqb, leb}
 use lib.ListN.{length, getD}
-use Rattle.sheet_format.specs.Bytes.{isDigit}
+use Rattle.sheet_format.specs.Bytes.{lf, isDigit}
+use Rattle.sheet_format.specs.Limits.{maxNumber}
 use Rattle.scanning.specs.declared.Number.{Number}
 use Rattle.scanning.specs.declared.Number.the-variants.{Value, Missing}
 
@@ -20,14 +22,14 @@ findByte (suc n) x c i = cond (eqb (getD x i 0) c) i (findByte n x c (i + 1))
 
 -- Where the line from i on ends: at its LF, or at the end of the text.
 unfoldable pub lineEnd : List ℕ → ℕ → ℕ
-lineEnd x i = findByte (length x - i) x 10 i
+lineEnd x i = findByte (length x - i) x lf i
 
 -- A number, with the value v before place i; at most n digits more.
 unfoldable pub numberFrom : ℕ → List ℕ → ℕ → ℕ → Number
 numberFrom zero x i v = Value v i
 numberFrom (suc n) x i v =
     cond (isDigit (getD x i 0))
-    (cond (leb (10 * v + (getD x i 0 - 48)) 65535) (numberFrom n x (i + 1) (10 * v + (getD x i 0 - 48))) Missing)
+    (cond (leb (10 * v + (getD x i 0 - code "0")) maxNumber) (numberFrom n x (i + 1) (10 * v + (getD x i 0 - code "0"))) Missing)
     (Value v i)
 
 -- After a first digit 0 there is no digit.
@@ -38,5 +40,5 @@ numberZero x i = cond (isDigit (getD x i 0)) Missing (Value 0 i)
 unfoldable pub readNumber : List ℕ → ℕ → Number
 readNumber x i =
     cond (isDigit (getD x i 0))
-    (cond (eqb (getD x i 0) 48) (numberZero x (i + 1)) (numberFrom (length x - (i + 1)) x (i + 1) (getD x i 0 - 48)))
+    (cond (eqb (getD x i 0) (code "0")) (numberZero x (i + 1)) (numberFrom (length x - (i + 1)) x (i + 1) (getD x i 0 - code "0")))
     Missing

@@ -1,5 +1,6 @@
 -- Scanning a term in place: where it ends, and the highest level in it. Names are looked up on the sheet.
 use Prim.Native.Nat.{ℕ, zero, suc, _+_, _-_, min}
+use Prim.Native.Char.{code}
 use mathlib.Core.Bool.{Bool, false, cond}
 use mathlib.Core.List.{List}
 use lib.Dec.{eqb, ltb}
@@ -43,7 +44,7 @@ scanLevel x i = elim (readNumber x i) [ Value k e ↦ Term e k | Missing ↦ Mal
 
 -- `@`, then the level
 unfoldable pub scanMark : List ℕ → ℕ → Scan
-scanMark x i = cond (eqb (getD x i 0) 64) (scanLevel x (i + 1)) Malformed
+scanMark x i = cond (eqb (getD x i 0) (code "@")) (scanLevel x (i + 1)) Malformed
 
 -- the number, `@`, the level
 unfoldable pub scanSymbol : List ℕ → ℕ → Scan
@@ -58,13 +59,13 @@ higher k j = cond (ltb k j) j k
 -- n more arguments, the first after the byte c, each other one after a comma, and the closing bracket; r scans a term, k is the
 -- highest level so far.
 unfoldable pub scanMore : (ℕ → Scan) → ℕ → List ℕ → ℕ → ℕ → ℕ → Scan
-scanMore r zero x c i k = cond (eqb (getD x i 0) 41) (Term (i + 1) k) Malformed
+scanMore r zero x c i k = cond (eqb (getD x i 0) (code ")")) (Term (i + 1) k) Malformed
 scanMore r (suc n) x c i k =
-    cond (eqb (getD x i 0) c) (elim (r (i + 1)) [ Term e j ↦ scanMore r n x 44 e (higher k j) | Malformed ↦ Malformed ]) Malformed
+    cond (eqb (getD x i 0) c) (elim (r (i + 1)) [ Term e j ↦ scanMore r n x (code ",") e (higher k j) | Malformed ↦ Malformed ]) Malformed
 
 -- n arguments in brackets
 unfoldable pub scanArguments : (ℕ → Scan) → ℕ → List ℕ → ℕ → Scan
-scanArguments r n x i = cond (eqb n 0) (Term i 0) (scanMore r n x 40 i 0)
+scanArguments r n x i = cond (eqb n 0) (Term i 0) (scanMore r n x (code "(") i 0)
 
 -- Symbol k, of so many symbols, and its arguments from i on.
 unfoldable pub scanApplication : (ℕ → Scan) → List ℕ → ℕ → ℕ → List ℕ → ℕ → Scan
@@ -75,6 +76,6 @@ scanApplication r t symbols k x i =
 unfoldable pub scanTerm : ℕ → List ℕ → List ℕ → ℕ → List ℕ → ℕ → Scan
 scanTerm zero b t symbols x i = Malformed
 scanTerm (suc f) b t symbols x i =
-    cond (eqb (getD x i 0) 33) (scanSymbol x (i + 1))
-    (cond (eqb (getD x i 0) 95) (scanSymbol x (i + 1))
+    cond (eqb (getD x i 0) (code "!")) (scanSymbol x (i + 1))
+    (cond (eqb (getD x i 0) (code "_")) (scanSymbol x (i + 1))
     (scanApplication (scanTerm f b t symbols x) t symbols (symbolFrom symbols b t 0 x i (nameEnd x i)) x (nameEnd x i)))

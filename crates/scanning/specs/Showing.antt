@@ -1,6 +1,7 @@
 -- Numbering by first showing, checked in place: a number is the next one of its kind, or has the level that it had where it showed
 -- first. That place is looked for in the text from its beginning.
 use Prim.Native.Nat.{ℕ, zero, suc, _+_, _-_}
+use Prim.Native.Char.{code}
 use mathlib.Core.Bool.{Bool, true, false, not, cond}
 use mathlib.Core.List.{List}
 use lib.Dec.{eqb, ltb}
@@ -17,15 +18,19 @@ outsideName x i = cond (eqb i 0) false (not (isNameByte (getD x (i - 1) 0)))
 
 -- `!` or such a `_`
 unfoldable pub isSymbol : List ℕ → ℕ → Bool
-isSymbol x i = cond (eqb (getD x i 0) 33) true (cond (eqb (getD x i 0) 95) (outsideName x i) false)
+isSymbol x i = cond (eqb (getD x i 0) (code "!")) true (cond (eqb (getD x i 0) (code "_")) (outsideName x i) false)
+
+-- Above every number of a text: there is none.
+abbrev pub noNumber : ℕ
+noNumber = 65536
 
 -- Its number and its level; 65,536 where there is none.
 unfoldable pub numberAt : List ℕ → ℕ → ℕ
-numberAt x i = elim (readNumber x i) [ Value n e ↦ n | Missing ↦ 65536 ]
+numberAt x i = elim (readNumber x i) [ Value n e ↦ n | Missing ↦ noNumber ]
 
 -- after the number and `@`
 unfoldable pub levelAt : List ℕ → ℕ → ℕ
-levelAt x i = elim (readNumber x (i + 1)) [ Value n e ↦ numberAt x (e + 1) | Missing ↦ 65536 ]
+levelAt x i = elim (readNumber x (i + 1)) [ Value n e ↦ numberAt x (e + 1) | Missing ↦ noNumber ]
 
 -- A symbol with first byte c and number n begins at place i.
 unfoldable pub isShowing : List ℕ → ℕ → ℕ → ℕ → Bool
@@ -33,7 +38,7 @@ isShowing x c n i = cond (eqb (getD x i 0) c) (cond (isSymbol x i) (eqb (numberA
 
 -- The level at its first showing, from place i on, of m places; 65,536 where it does not show.
 unfoldable pub levelFrom : ℕ → List ℕ → ℕ → ℕ → ℕ → ℕ
-levelFrom zero x c n i = 65536
+levelFrom zero x c n i = noNumber
 levelFrom (suc m) x c n i = cond (isShowing x c n i) (levelAt x i) (levelFrom m x c n (i + 1))
 
 -- in the whole text
@@ -60,7 +65,7 @@ showLeftover x i m l = cond (inOrder x i l) (Counts m (countAfter x i l)) Misnum
 
 -- whatever is at place i
 unfoldable pub showAt : List ℕ → ℕ → ℕ → ℕ → Shown
-showAt x i m l = cond (isSymbol x i) (cond (eqb (getD x i 0) 33) (showMade x i m l) (showLeftover x i m l)) (Counts m l)
+showAt x i m l = cond (isSymbol x i) (cond (eqb (getD x i 0) (code "!")) (showMade x i m l) (showLeftover x i m l)) (Counts m l)
 
 -- n places from i on.
 unfoldable pub showFrom : ℕ → List ℕ → ℕ → ℕ → ℕ → Shown

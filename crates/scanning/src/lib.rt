@@ -1,4 +1,9 @@
 // Terms as places in an answer text: see specs/ for the definitions, proofs/ for their laws.
+pub mod class_elements;
+pub mod fields;
+
+// Above every number of a text: there is none (specs/Showing.antt).
+pub const NO_NUMBER: u32 = 65536;
 
 // A number at a place: its value and where it ends.
 pub enum Number {

@@ -1,1 +1,2 @@
 // The sheet format, see specs/ and proofs/.
+pub mod limits;

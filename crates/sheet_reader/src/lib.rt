@@ -2,6 +2,7 @@
 pub mod sheet_lines;
 
 use outcomes::Refusal;
+use outcomes::refusals;
 use sheet_lines::Read;
 use sheet_lines::line_end;
 use sheet_lines::read_at;
@@ -24,7 +25,7 @@ fn finish(sheet: &[u8], k: Counts, goal: u32, at: usize, line: u32) -> Read
     ensures { λ r. ⌜ r ≡ finished (now (sheet .entry)) k goal at line ⌝ }
 {
     if at < sheet.len() {
-        return refused(11, line);
+        return refused(refusals::NO_GOAL, line);
     }
     Read::Done(k, goal)
 }
@@ -44,7 +45,7 @@ pub fn read_sheet(sheet: &[u8], t: &mut [u32]) -> Read
     while at < sheet.len() {
         let end = line_end(sheet, at);
         if end == sheet.len() {
-            return refused(6, line);
+            return refused(refusals::MALFORMED, line);
         }
         let taken = read_at(sheet, t, k, at, end);
         match taken {
@@ -55,5 +56,5 @@ pub fn read_sheet(sheet: &[u8], t: &mut [u32]) -> Read
         at = end + 1;
         line += 1;
     }
-    refused(11, line)
+    refused(refusals::NO_GOAL, line)
 }

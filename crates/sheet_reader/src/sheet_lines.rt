@@ -2,6 +2,7 @@
 use line_parser::lines::Line;
 use line_parser::lines::NodeLine;
 use outcomes::Refusal;
+use outcomes::refusals;
 use table_builder::node_info::Counts;
 use table_builder::node_info::Taken;
 ghost use mathlib.Core.Path.{_≡_};
@@ -75,7 +76,7 @@ fn take_line(sheet: &[u8], t: &mut [u32], k: Counts, at: usize, l: Line) -> Take
         Line::Node(node) => take_node(t, k, node),
         Line::Clause(n) => table_builder::node_lines::take_clause(t, k, n),
         Line::Goal(n) => table_builder::node_lines::take_goal(t, k, n),
-        Line::Malformed => Taken::Stop(6),
+        Line::Malformed => Taken::Stop(refusals::MALFORMED),
     }
 }
 

@@ -4,6 +4,13 @@ use libc::STDIN_FILENO;
 use libc::STDOUT_FILENO;
 use memory::wide;
 use outcomes::Outcome;
+use sheet_format::limits;
+
+const UNITS: u32 = 256;
+
+const WORK_NUMBERS: usize = limits::NUMBERS_PER_UNIT * UNITS as usize;
+
+const ANSWER_BYTES: usize = 16384;
 
 fn print_refusal(number: u32, line: u32) {
     io::write_all(STDOUT_FILENO, b"X\t");
@@ -16,10 +23,10 @@ fn print_refusal(number: u32, line: u32) {
 fn main() {
     let mut sheet = io::large_buffer();
     let n = io::read_full(STDIN_FILENO, &mut sheet);
-    let mut table = [0u32; 8192];
-    let mut work = [0u32; 16384];
-    let mut answer = [0u8; 16384];
-    let r = engine::run(&sheet[..n], 256, &mut table, &mut work, &mut answer);
+    let mut table = [0u32; limits::TABLE_NUMBERS];
+    let mut work = [0u32; WORK_NUMBERS];
+    let mut answer = [0u8; ANSWER_BYTES];
+    let r = engine::run(&sheet[..n], UNITS, &mut table, &mut work, &mut answer);
     let length = wide(r.length);
     let outcome = r.outcome;
     match outcome {

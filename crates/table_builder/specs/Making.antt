@@ -7,7 +7,7 @@ use lib.Bits.{bitOr}
 use lib.Dec.{leb, eqb}
 use lib.ListN.{getD, set}
 use Rattle.sheet_format.specs.Limits.{maxMembers, maxNodes, maxClauses}
-use Rattle.node_table.specs.Layout.{nodeAt, clauseAt, kindOf, maskOf, goalBit, membersOf, packInfo}
+use Rattle.node_table.specs.Layout.{nodeAt, clauseAt, kindOf, maskOf, goalBit, membersOf, packInfo, atomKind, variableKind, trueKind, andKind, orKind, impliesKind, existsKind, forallKind, headField, labelField, firstChildField, secondChildField, thirdChildField, fourthChildField, infoField, childUnit, goalUnit}
 use Rattle.table_builder.specs.declared.node_info.Counts.{Counts}
 use Rattle.table_builder.specs.declared.node_info.NodeRecord.{NodeRecord}
 use Rattle.table_builder.specs.declared.node_info.Taken.{Taken}
@@ -31,7 +31,8 @@ nodeRecord head label first second third fourth info =
 -- Writing.
 unfoldable pub nodeWritten : List ℕ → ℕ → NodeRecord → List ℕ
 nodeWritten t n r =
-    set (set (set (set (set (set (set t (nodeAt n 0) (r .head)) (nodeAt n 1) (r .label)) (nodeAt n 2) (r .first)) (nodeAt n 3) (r .second)) (nodeAt n 4) (r .third)) (nodeAt n 5) (r .fourth)) (nodeAt n 6) (r .info)
+    set (set (set (set (set (set (set t (nodeAt n headField) (r .head)) (nodeAt n labelField) (r .label)) (nodeAt n firstChildField) (r .first))
+    (nodeAt n secondChildField) (r .second)) (nodeAt n thirdChildField) (r .third)) (nodeAt n fourthChildField) (r .fourth)) (nodeAt n infoField) (r .info)
 
 -- Masks: bit v alone; bit v taken away.
 unfoldable pub onlyBit : ℕ → ℕ
@@ -44,7 +45,7 @@ withoutBit (suc v) m = withoutBit v (m / 2) * 2 + m % 2
 -- 9 where the node is nothing.
 unfoldable pub addNode : List ℕ → Counts → NodeRecord → Made
 addNode t k r =
-    cond (eqb (r .info / 256) 0) (made t (Stop 9))
+    cond (eqb (r .info / goalUnit) 0) (made t (Stop 9))
     (made (nodeWritten t (k .nodes) r) (Next (counts (k .symbols) (k .nodes + 1) (k .clauses))))
 
 -- What a node is, from what its children are.
@@ -58,7 +59,7 @@ unfoldable pub supposedGoal : List ℕ → ℕ → ℕ → ℕ
 supposedGoal t a b = cond (eqb (membersOf t a) 0) 0 (goalBit t b)
 
 unfoldable pub ruledMembers : List ℕ → ℕ → ℕ → ℕ
-ruledMembers t a b = cond (eqb (kindOf t b) 2) (bothGoals t a b) 0
+ruledMembers t a b = cond (eqb (kindOf t b) atomKind) (bothGoals t a b) 0
 
 unfoldable pub unitedMask : List ℕ → ℕ → ℕ → ℕ
 unitedMask t a b = bitOr (maskOf t a) (maskOf t b)
@@ -80,37 +81,37 @@ forallInfo t v a = packInfo (withoutBit v (maskOf t a)) (goalBit t a) (membersOf
 
 -- V and Y.
 unfoldable pub takeVariable : List ℕ → Counts → ℕ → Made
-takeVariable t k v = cond (leb maxNodes (k .nodes)) (made t (Stop 7)) (addNode t k (nodeRecord 0 v 0 0 0 0 (packInfo (onlyBit v) 0 0 1)))
+takeVariable t k v = cond (leb maxNodes (k .nodes)) (made t (Stop 7)) (addNode t k (nodeRecord variableKind v 0 0 0 0 (packInfo (onlyBit v) 0 0 1)))
 
 unfoldable pub takeTrue : List ℕ → Counts → Made
-takeTrue t k = cond (leb maxNodes (k .nodes)) (made t (Stop 7)) (addNode t k (nodeRecord 3 0 0 0 0 0 256))
+takeTrue t k = cond (leb maxNodes (k .nodes)) (made t (Stop 7)) (addNode t k (nodeRecord trueKind 0 0 0 0 0 goalUnit))
 
 -- A node of that kind with two children, with one: 7, then 8, then 9.
 unfoldable pub addTwo : List ℕ → Counts → ℕ → ℕ → ℕ → ℕ → Made
 addTwo t k kind a b info =
     cond (leb maxNodes (k .nodes)) (made t (Stop 7))
     (cond (leb (k .nodes) a) (made t (Stop 8))
-    (cond (leb (k .nodes) b) (made t (Stop 8)) (addNode t k (nodeRecord (kind + 32) 0 a b 0 0 info))))
+    (cond (leb (k .nodes) b) (made t (Stop 8)) (addNode t k (nodeRecord (kind + 2 * childUnit) 0 a b 0 0 info))))
 
 unfoldable pub addOne : List ℕ → Counts → ℕ → ℕ → ℕ → ℕ → Made
 addOne t k kind v a info =
     cond (leb maxNodes (k .nodes)) (made t (Stop 7))
-    (cond (leb (k .nodes) a) (made t (Stop 8)) (addNode t k (nodeRecord (kind + 16) v a 0 0 0 info)))
+    (cond (leb (k .nodes) a) (made t (Stop 8)) (addNode t k (nodeRecord (kind + childUnit) v a 0 0 0 info)))
 
 unfoldable pub takeAnd : List ℕ → Counts → ℕ → ℕ → Made
-takeAnd t k a b = addTwo t k 4 a b (andInfo t a b)
+takeAnd t k a b = addTwo t k andKind a b (andInfo t a b)
 
 unfoldable pub takeOr : List ℕ → Counts → ℕ → ℕ → Made
-takeOr t k a b = addTwo t k 5 a b (orInfo t a b)
+takeOr t k a b = addTwo t k orKind a b (orInfo t a b)
 
 unfoldable pub takeImplies : List ℕ → Counts → ℕ → ℕ → Made
-takeImplies t k a b = addTwo t k 6 a b (impliesInfo t a b)
+takeImplies t k a b = addTwo t k impliesKind a b (impliesInfo t a b)
 
 unfoldable pub takeExists : List ℕ → Counts → ℕ → ℕ → Made
-takeExists t k v a = addOne t k 7 v a (existsInfo t v a)
+takeExists t k v a = addOne t k existsKind v a (existsInfo t v a)
 
 unfoldable pub takeForall : List ℕ → Counts → ℕ → ℕ → Made
-takeForall t k v a = addOne t k 8 v a (forallInfo t v a)
+takeForall t k v a = addOne t k forallKind v a (forallInfo t v a)
 
 -- C and Q.
 unfoldable pub takeClause : List ℕ → Counts → ℕ → Made

@@ -7,7 +7,7 @@ use lib.Bits.{bitOr}
 use lib.Dec.{ltb, leb, eqb}
 use lib.ListN.{length, take, drop, getD, set}
 use Rattle.sheet_format.specs.Limits.{maxTermSize, maxSymbols, maxNodes}
-use Rattle.node_table.specs.Layout.{symbolAt, maskOf, sizeOf, packInfo, nameStart, nameLength, isFunctionBit, arityOf}
+use Rattle.node_table.specs.Layout.{symbolAt, maskOf, sizeOf, packInfo, nameStart, nameLength, isFunctionBit, arityOf, applicationKind, atomKind, nameStartField, nameLengthField, arityField, childUnit}
 use Rattle.table_builder.specs.declared.node_info.Counts.{Counts}
 use Rattle.table_builder.specs.declared.node_info.Taken.the-variants.{Next, Stop}
 use Rattle.table_builder.specs.Making.{Made, made, counts, nodeRecord, addNode}
@@ -42,7 +42,7 @@ unfoldable pub applicationInfo : List ℕ → ℕ → List ℕ → ℕ
 applicationInfo t f args = cond (eqb (arityOf t f) (length args)) (cond (allTerms t args) (appliedInfo t f args) 0) 0
 
 unfoldable pub appliedKind : List ℕ → ℕ → ℕ
-appliedKind t f = cond (eqb (isFunctionBit t f) 1) 1 2
+appliedKind t f = cond (eqb (isFunctionBit t f) 1) applicationKind atomKind
 
 abbrev pub firstOf : ℕ → ℕ → ℕ → ℕ → ℕ → List ℕ
 firstOf count a b c d = take count (a ∷ b ∷ c ∷ d ∷ [])
@@ -52,7 +52,7 @@ takeApplication t k f count a b c d =
     cond (leb maxNodes (k .nodes)) (made t (Stop 7))
     (cond (leb (k .symbols) f) (made t (Stop 8))
     (cond (allThere (k .nodes) (firstOf count a b c d))
-    (addNode t k (nodeRecord (appliedKind t f + 16 * count) f a b c d (applicationInfo t f (firstOf count a b c d))))
+    (addNode t k (nodeRecord (appliedKind t f + childUnit * count) f a b c d (applicationInfo t f (firstOf count a b c d))))
     (made t (Stop 8))))
 
 -- F and P. The name stands on the sheet at `at`; it is symbol i's name; it is one of `left` symbols' names from the i-th on.
@@ -71,7 +71,7 @@ unfoldable pub findName : List ℕ → List ℕ → ℕ → List ℕ → Bool
 findName sheet t count name = findFrom count sheet t 0 name
 
 unfoldable pub symbolWritten : List ℕ → ℕ → ℕ → ℕ → ℕ → List ℕ
-symbolWritten t i start len word = set (set (set t (symbolAt i 0) start) (symbolAt i 1) len) (symbolAt i 2) word
+symbolWritten t i start len word = set (set (set t (symbolAt i nameStartField) start) (symbolAt i nameLengthField) len) (symbolAt i arityField) word
 
 unfoldable pub symbolWord : Bool → ℕ → ℕ
 symbolWord function arity = cond function (2 * arity + 1) (2 * arity)

@@ -5,9 +5,11 @@ use super::arguments::applied_kind;
 use super::node_info::Counts;
 use super::node_info::NodeRecord;
 use super::node_info::Taken;
-use super::nodes::MAX_NODES;
 use super::nodes::add_node;
 use memory::wide;
+use node_table::layout;
+use outcomes::refusals;
+use sheet_format::limits;
 ghost use mathlib.Core.Path.{_≡_};
 ghost use Prim.Native.Nat.{_+_, _*_, _<_, _≤_};
 ghost use Rattle.table_builder.specs.Making.{made};
@@ -27,17 +29,17 @@ pub fn take_application(
     requires { ⌜ count ≤ 4 ⌝ }
     ensures { λ r. ⌜ made (now (t .exit)) r ≡ takeApplication (now (t .entry)) k f count a b c d ⌝ }
 {
-    if MAX_NODES <= k.nodes {
-        return Taken::Stop(7);
+    if limits::MAX_NODES <= k.nodes {
+        return Taken::Stop(refusals::TOO_MANY);
     }
     if k.symbols <= f {
-        return Taken::Stop(8);
+        return Taken::Stop(refusals::UNKNOWN);
     }
     let args = [a, b, c, d];
     let n = wide(count);
     if all_there(k.nodes, &args[..n]) {
         let info = application_info(t, f, &args[..n]);
-        let head = applied_kind(t, f) + 16 * count;
+        let head = applied_kind(t, f) + layout::CHILD_UNIT * count;
         return add_node(
             t,
             k,
@@ -52,5 +54,5 @@ pub fn take_application(
             },
         );
     }
-    Taken::Stop(8)
+    Taken::Stop(refusals::UNKNOWN)
 }

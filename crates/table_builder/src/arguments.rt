@@ -3,14 +3,14 @@ use super::node_info::pack_info;
 use memory::wide;
 use node_table::arity;
 use node_table::is_function;
+use node_table::kinds;
 use node_table::mask;
 use node_table::size;
+use sheet_format::limits;
 ghost use mathlib.Core.Path.{_≡_};
 ghost use Prim.Native.Nat.{_+_, _<_, _≤_};
 ghost use lib.ListN.{length};
 ghost use Rattle.table_builder.specs.Symbols.{allThere, allTerms, sizesFrom, masksFrom, termInfo, appliedInfo, applicationInfo, appliedKind};
-
-const MAX_TERM_SIZE: u32 = 1024;
 
 // Whether all are numbers of nodes that are there.
 pub fn all_there(n: u32, args: &[u32]) -> bool
@@ -76,7 +76,7 @@ fn term_info(free: u32, size: u32) -> u32
     requires { ⌜ free < 256 ⌝ }
     ensures { λ r. ⌜ r ≡ termInfo free size ⌝ }
 {
-    if size <= MAX_TERM_SIZE {
+    if size <= limits::MAX_TERM_SIZE {
         return pack_info(free, 0, 0, size);
     }
     0
@@ -113,7 +113,7 @@ pub fn applied_kind(t: &[u32], f: u32) -> u32
     ensures { λ r. ⌜ (r ≡ appliedKind (now (t .entry)) f) × (r ≤ 2) ⌝ }
 {
     if is_function(t, f) {
-        return 1;
+        return kinds::APPLICATION;
     }
-    2
+    kinds::ATOM
 }

@@ -3,14 +3,15 @@ use memory::wide;
 use node_table::goal_bit;
 use node_table::is_goal;
 use node_table::kind;
+use node_table::kinds;
+use node_table::layout;
 use node_table::mask;
 use node_table::members;
+use sheet_format::limits;
 ghost use mathlib.Core.Path.{_≡_};
 ghost use Prim.Native.Nat.{_<_, _≤_};
 ghost use Rattle.node_table.specs.Layout.{maskOf, packInfo};
 ghost use Rattle.table_builder.specs.Making.{onlyBit, withoutBit, bothGoals, sumMembers, supposedGoal, ruledMembers, unitedMask, andInfo, orInfo, impliesInfo, existsInfo, forallInfo};
-
-const MAX_MEMBERS: u32 = 64;
 
 // How many symbols, nodes and clauses there are.
 pub struct Counts {
@@ -42,7 +43,7 @@ pub fn pack_info(mask: u32, goal: u32, members: u32, size: u32) -> u32
     requires { ⌜ (mask < 256) × (goal ≤ 1) × (members < 128) × (size ≤ 1024) ⌝ }
     ensures { λ r. ⌜ r ≡ packInfo mask goal members size ⌝ }
 {
-    mask + (256 * goal + (512 * members + 65536 * size))
+    mask + (layout::GOAL_UNIT * goal + (layout::MEMBER_UNIT * members + layout::SIZE_UNIT * size))
 }
 
 // The mask of variable v alone.
@@ -86,7 +87,7 @@ fn sum_members(m: u32, n: u32) -> u32
     if n == 0 {
         return 0;
     }
-    if m + n <= MAX_MEMBERS {
+    if m + n <= limits::MAX_MEMBERS {
         return m + n;
     }
     0
@@ -106,7 +107,7 @@ fn supposed_goal(t: &[u32], a: u32, b: u32) -> u32
 fn ruled_members(t: &[u32], a: u32, b: u32) -> u32
     ensures { λ r. ⌜ (r ≡ ruledMembers (now (t .entry)) a b) × (r ≤ 1) ⌝ }
 {
-    if kind(t, b) == 2 {
+    if kind(t, b) == kinds::ATOM {
         return both_goals(t, a, b);
     }
     0

@@ -10,35 +10,36 @@ use super::node_info::implies_info;
 use super::node_info::only_bit;
 use super::node_info::or_info;
 use super::node_info::pack_info;
-use super::nodes::MAX_NODES;
 use super::nodes::add_node;
 use super::nodes::add_one;
 use super::nodes::add_two;
 use memory::put;
 use memory::wide;
 use node_table::is_goal;
+use node_table::kinds;
+use node_table::layout;
 use node_table::mask;
 use node_table::members;
+use outcomes::refusals;
+use sheet_format::limits;
 ghost use mathlib.Core.Path.{_≡_};
 ghost use Prim.Native.Nat.{_<_};
 ghost use Rattle.table_builder.specs.Making.{made, takeVariable, takeTrue, takeAnd, takeOr, takeImplies, takeExists, takeForall, takeClause, takeGoal};
-
-const MAX_CLAUSES: u32 = 128;
 
 // V v
 pub fn take_variable(t: &mut [u32], k: Counts, v: u32) -> Taken
     requires { ⌜ v < 8 ⌝ }
     ensures { λ r. ⌜ made (now (t .exit)) r ≡ takeVariable (now (t .entry)) k v ⌝ }
 {
-    if MAX_NODES <= k.nodes {
-        return Taken::Stop(7);
+    if limits::MAX_NODES <= k.nodes {
+        return Taken::Stop(refusals::TOO_MANY);
     }
     let info = pack_info(only_bit(v), 0, 0, 1);
     add_node(
         t,
         k,
         NodeRecord {
-            head: 0,
+            head: kinds::VARIABLE,
             label: v,
             first: 0,
             second: 0,
@@ -53,20 +54,20 @@ pub fn take_variable(t: &mut [u32], k: Counts, v: u32) -> Taken
 pub fn take_true(t: &mut [u32], k: Counts) -> Taken
     ensures { λ r. ⌜ made (now (t .exit)) r ≡ takeTrue (now (t .entry)) k ⌝ }
 {
-    if MAX_NODES <= k.nodes {
-        return Taken::Stop(7);
+    if limits::MAX_NODES <= k.nodes {
+        return Taken::Stop(refusals::TOO_MANY);
     }
     add_node(
         t,
         k,
         NodeRecord {
-            head: 3,
+            head: kinds::TRUE,
             label: 0,
             first: 0,
             second: 0,
             third: 0,
             fourth: 0,
-            info: 256,
+            info: layout::GOAL_UNIT,
         },
     )
 }
@@ -76,7 +77,7 @@ pub fn take_and(t: &mut [u32], k: Counts, a: u32, b: u32) -> Taken
     ensures { λ r. ⌜ made (now (t .exit)) r ≡ takeAnd (now (t .entry)) k a b ⌝ }
 {
     let info = and_info(t, a, b);
-    add_two(t, k, 4, a, b, info)
+    add_two(t, k, kinds::AND, a, b, info)
 }
 
 // | a b
@@ -84,7 +85,7 @@ pub fn take_or(t: &mut [u32], k: Counts, a: u32, b: u32) -> Taken
     ensures { λ r. ⌜ made (now (t .exit)) r ≡ takeOr (now (t .entry)) k a b ⌝ }
 {
     let info = or_info(t, a, b);
-    add_two(t, k, 5, a, b, info)
+    add_two(t, k, kinds::OR, a, b, info)
 }
 
 // > a b
@@ -92,7 +93,7 @@ pub fn take_implies(t: &mut [u32], k: Counts, a: u32, b: u32) -> Taken
     ensures { λ r. ⌜ made (now (t .exit)) r ≡ takeImplies (now (t .entry)) k a b ⌝ }
 {
     let info = implies_info(t, a, b);
-    add_two(t, k, 6, a, b, info)
+    add_two(t, k, kinds::IMPLIES, a, b, info)
 }
 
 // E v a
@@ -100,7 +101,7 @@ pub fn take_exists(t: &mut [u32], k: Counts, v: u32, a: u32) -> Taken
     ensures { λ r. ⌜ made (now (t .exit)) r ≡ takeExists (now (t .entry)) k v a ⌝ }
 {
     let info = exists_info(t, v, a);
-    add_one(t, k, 7, v, a, info)
+    add_one(t, k, kinds::EXISTS, v, a, info)
 }
 
 // U v a
@@ -108,33 +109,33 @@ pub fn take_forall(t: &mut [u32], k: Counts, v: u32, a: u32) -> Taken
     ensures { λ r. ⌜ made (now (t .exit)) r ≡ takeForall (now (t .entry)) k v a ⌝ }
 {
     let info = forall_info(t, v, a);
-    add_one(t, k, 8, v, a, info)
+    add_one(t, k, kinds::FORALL, v, a, info)
 }
 
 // C n
 pub fn take_clause(t: &mut [u32], k: Counts, n: u32) -> Taken
     ensures { λ r. ⌜ made (now (t .exit)) r ≡ takeClause (now (t .entry)) k n ⌝ }
 {
-    if MAX_CLAUSES <= k.clauses {
-        return Taken::Stop(7);
+    if limits::MAX_CLAUSES <= k.clauses {
+        return Taken::Stop(refusals::TOO_MANY);
     }
     if k.nodes <= n {
-        return Taken::Stop(8);
+        return Taken::Stop(refusals::UNKNOWN);
     }
     if members(t, n) == 0 {
-        return Taken::Stop(9);
+        return Taken::Stop(refusals::WRONG_KIND);
     }
     if mask(t, n) == 0 {
         let i = k.clauses;
         let w = wide(i);
-        put(t, 7936 + w, n);
+        put(t, layout::FIRST_CLAUSE + w, n);
         return Taken::Next(Counts {
             symbols: k.symbols,
             nodes: k.nodes,
             clauses: i + 1,
         });
     }
-    Taken::Stop(10)
+    Taken::Stop(refusals::FREE_VARIABLE)
 }
 
 // Q n
@@ -142,10 +143,10 @@ pub fn take_goal(t: &[u32], k: Counts, n: u32) -> Taken
     ensures { λ r. ⌜ r ≡ takeGoal (now (t .entry)) k n ⌝ }
 {
     if k.nodes <= n {
-        return Taken::Stop(8);
+        return Taken::Stop(refusals::UNKNOWN);
     }
     if is_goal(t, n) {
         return Taken::Last(n);
     }
-    Taken::Stop(9)
+    Taken::Stop(refusals::WRONG_KIND)
 }

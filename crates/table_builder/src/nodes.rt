@@ -5,6 +5,9 @@ use super::node_info::Taken;
 use memory::put;
 use memory::wide;
 use node_table::kind;
+use node_table::layout;
+use outcomes::refusals;
+use sheet_format::limits;
 ghost use mathlib.Core.Path.{_≡_};
 ghost use Prim.Native.Nat.{_<_};
 ghost use lib.ListN.{set};
@@ -12,26 +15,27 @@ ghost use Rattle.sheet_format.specs.Limits.{maxNodes};
 ghost use Rattle.node_table.specs.Layout.{nodeAt};
 ghost use Rattle.table_builder.specs.Making.{made, nodeWritten, addNode, addTwo, addOne};
 
-pub const MAX_NODES: u32 = 1024;
+// What two children add to the head of a node.
+const TWO_CHILDREN: u32 = 2 * layout::CHILD_UNIT;
 
 fn put_node_field(t: &mut [u32], n: u32, f: usize, x: u32)
     requires { ⌜ f < 7 ⌝ }
     ensures { λ _. ⌜ now (t .exit) ≡ set (now (t .entry)) (nodeAt n f) x ⌝ }
 {
     let w = wide(n);
-    put(t, 768 + (7 * w + f), x);
+    put(t, layout::FIRST_NODE + (layout::NODE_NUMBERS * w + f), x);
 }
 
 fn write_node(t: &mut [u32], n: u32, r: NodeRecord)
     ensures { λ _. ⌜ now (t .exit) ≡ nodeWritten (now (t .entry)) n r ⌝ }
 {
-    put_node_field(t, n, 0, r.head);
-    put_node_field(t, n, 1, r.label);
-    put_node_field(t, n, 2, r.first);
-    put_node_field(t, n, 3, r.second);
-    put_node_field(t, n, 4, r.third);
-    put_node_field(t, n, 5, r.fourth);
-    put_node_field(t, n, 6, r.info);
+    put_node_field(t, n, layout::HEAD, r.head);
+    put_node_field(t, n, layout::LABEL, r.label);
+    put_node_field(t, n, layout::FIRST_CHILD, r.first);
+    put_node_field(t, n, layout::SECOND_CHILD, r.second);
+    put_node_field(t, n, layout::THIRD_CHILD, r.third);
+    put_node_field(t, n, layout::FOURTH_CHILD, r.fourth);
+    put_node_field(t, n, layout::INFO, r.info);
 }
 
 // The next node, if it is a term, a goal or a clause.
@@ -39,8 +43,8 @@ pub fn add_node(t: &mut [u32], k: Counts, r: NodeRecord) -> Taken
     requires { ⌜ k .nodes < maxNodes ⌝ }
     ensures { λ a. ⌜ made (now (t .exit)) a ≡ addNode (now (t .entry)) k r ⌝ }
 {
-    if r.info / 256 == 0 {
-        return Taken::Stop(9);
+    if r.info / layout::GOAL_UNIT == 0 {
+        return Taken::Stop(refusals::WRONG_KIND);
     }
     let n = k.nodes;
     write_node(t, n, r);
@@ -56,20 +60,20 @@ pub fn add_two(t: &mut [u32], k: Counts, kind: u32, a: u32, b: u32, info: u32) -
     requires { ⌜ kind < 16 ⌝ }
     ensures { λ r. ⌜ made (now (t .exit)) r ≡ addTwo (now (t .entry)) k kind a b info ⌝ }
 {
-    if MAX_NODES <= k.nodes {
-        return Taken::Stop(7);
+    if limits::MAX_NODES <= k.nodes {
+        return Taken::Stop(refusals::TOO_MANY);
     }
     if k.nodes <= a {
-        return Taken::Stop(8);
+        return Taken::Stop(refusals::UNKNOWN);
     }
     if k.nodes <= b {
-        return Taken::Stop(8);
+        return Taken::Stop(refusals::UNKNOWN);
     }
     add_node(
         t,
         k,
         NodeRecord {
-            head: kind + 32,
+            head: kind + TWO_CHILDREN,
             label: 0,
             first: a,
             second: b,
@@ -85,17 +89,17 @@ pub fn add_one(t: &mut [u32], k: Counts, kind: u32, v: u32, a: u32, info: u32) -
     requires { ⌜ kind < 16 ⌝ }
     ensures { λ r. ⌜ made (now (t .exit)) r ≡ addOne (now (t .entry)) k kind v a info ⌝ }
 {
-    if MAX_NODES <= k.nodes {
-        return Taken::Stop(7);
+    if limits::MAX_NODES <= k.nodes {
+        return Taken::Stop(refusals::TOO_MANY);
     }
     if k.nodes <= a {
-        return Taken::Stop(8);
+        return Taken::Stop(refusals::UNKNOWN);
     }
     add_node(
         t,
         k,
         NodeRecord {
-            head: kind + 16,
+            head: kind + layout::CHILD_UNIT,
             label: v,
             first: a,
             second: 0,

@@ -5,8 +5,11 @@ use memory::byte;
 use memory::put;
 use memory::wide;
 use node_table::arity;
+use node_table::layout;
 use node_table::name_length;
 use node_table::name_start;
+use outcomes::refusals;
+use sheet_format::limits;
 ghost use mathlib.Core.Path.{_≡_};
 ghost use Prim.Native.Nat.{_+_, _*_, _<_, _≤_};
 ghost use lib.ListN.{length, set};
@@ -14,22 +17,20 @@ ghost use Rattle.node_table.specs.Layout.{symbolAt};
 ghost use Rattle.table_builder.specs.Making.{made};
 ghost use Rattle.table_builder.specs.Symbols.{symbolWritten, sameAt, nameIs, findName, symbolWord, takeDeclaration};
 
-const MAX_SYMBOLS: u32 = 256;
-
 fn put_symbol_field(t: &mut [u32], i: u32, f: usize, x: u32)
     requires { ⌜ f < 3 ⌝ }
     ensures { λ _. ⌜ now (t .exit) ≡ set (now (t .entry)) (symbolAt i f) x ⌝ }
 {
     let w = wide(i);
-    put(t, 3 * w + f, x);
+    put(t, layout::SYMBOL_NUMBERS * w + f, x);
 }
 
 fn write_symbol(t: &mut [u32], i: u32, start: u32, len: u32, word: u32)
     ensures { λ _. ⌜ now (t .exit) ≡ symbolWritten (now (t .entry)) i start len word ⌝ }
 {
-    put_symbol_field(t, i, 0, start);
-    put_symbol_field(t, i, 1, len);
-    put_symbol_field(t, i, 2, word);
+    put_symbol_field(t, i, layout::NAME_START, start);
+    put_symbol_field(t, i, layout::NAME_LENGTH, len);
+    put_symbol_field(t, i, layout::ARITY, word);
 }
 
 // Whether the name stands on the sheet at `at`.
@@ -105,12 +106,12 @@ pub fn take_declaration(
     requires { ⌜ (start + len ≤ length (now sheet)) × (length (now sheet) ≤ 65535) × (arity ≤ 4) ⌝ }
     ensures { λ r. ⌜ made (now (t .exit)) r ≡ takeDeclaration (now (sheet .entry)) (now (t .entry)) k function start len arity ⌝ }
 {
-    if MAX_SYMBOLS <= k.symbols {
-        return Taken::Stop(7);
+    if limits::MAX_SYMBOLS <= k.symbols {
+        return Taken::Stop(refusals::TOO_MANY);
     }
     let i = k.symbols;
     if find_name(sheet, t, i, &sheet[start..start + len]) {
-        return Taken::Stop(8);
+        return Taken::Stop(refusals::UNKNOWN);
     }
     let word = symbol_word(function, arity);
     write_symbol(t, i, narrow(start), narrow(len), word);

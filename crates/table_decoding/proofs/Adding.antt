@@ -14,7 +14,7 @@ use Rattle.formulas.specs.Formulas.{Goal, Clause}
 use Rattle.sheet_format.specs.Nodes.{Declaration, Node, isSome, isSomething}
 use Rattle.sheet_format.specs.Sheets.{Table, next, stop}
 use Rattle.sheet_format.specs.Sheets.{addNode as sheetAddNode}
-use Rattle.node_table.specs.Layout.{kindOf, labelOf, infoOf, goalBit, membersOf, sizeOf, clauseNode}
+use Rattle.node_table.specs.Layout.{kindOf, labelOf, infoOf, goalBit, membersOf, sizeOf, clauseNode, applicationKind, atomKind}
 use Rattle.node_table.specs.Decoding.{termAt, goalAt, clauseAtNode, declarationAt, declarationsFrom, clausesFrom}
 use Rattle.node_table.specs.WellMade.{IsTerm, IsGoal, IsClause, TermNode, GoalNode, ClauseNode}
 use Rattle.node_table.proofs.Same.{Same, same-kind, same-label, same-start, same-length, same-function, same-arity, same-goal, same-members, same-size}
@@ -83,7 +83,7 @@ module _ (bytes t u : List ℕ) (symbols nodes : ℕ) (s : Same t u symbols node
 
 -- What is to be shown of it.
 pub record NewNode (u : List ℕ) (n symbols : ℕ) : Type 0 where
-  pub named : 1 ≤ kindOf u n → kindOf u n ≤ 2 → labelOf u n < symbols
+  pub named : applicationKind ≤ kindOf u n → kindOf u n ≤ atomKind → labelOf u n < symbols
   pub term : IsTerm u n → TermNode u n
   pub goal : IsGoal u n → GoalNode u n
   pub clause : IsClause u n → ClauseNode u n
@@ -129,7 +129,7 @@ module _ (bytes t : List ℕ) (k : Counts) (st : Stands bytes t k) (h : k .nodes
             let b = same-length t u (k .symbols) n same i l in
             let c = st .names i l in
             omega arith;
-        named = below-more (λ i. 1 ≤ kindOf u i → kindOf u i ≤ 2 → labelOf u i < k .symbols) n
+        named = below-more (λ i. applicationKind ≤ kindOf u i → kindOf u i ≤ atomKind → labelOf u i < k .symbols) n
             (λ i l p q.
             let e = same-kind t u (k .symbols) n same i l in
             let f = same-label t u (k .symbols) n same i l in

@@ -8,7 +8,7 @@ use lib.ListN.{length}
 use Rattle.terms.specs.Terms.{size}
 use Rattle.formulas.specs.Formulas.{freeT, freeG, freeC}
 use Rattle.formulas.specs.Members.{members}
-use Rattle.node_table.specs.Layout.{kindOf, labelOf, childOf, maskOf, bitOf, membersOf, sizeOf}
+use Rattle.node_table.specs.Layout.{kindOf, labelOf, childOf, maskOf, bitOf, membersOf, sizeOf, forallKind, impliesKind, atomKind, andKind, existsKind, orKind, trueKind, applicationKind, variableKind}
 use Rattle.node_table.specs.Decoding.{termAt, goalAt, clauseAtNode}
 use Rattle.node_table.specs.WellMade.{IsGoal, IsClause, Arguments, TermNode, GoalNode, ClauseNode}
 
@@ -20,16 +20,16 @@ abbrev pub ClauseChild : List ℕ → ℕ → ℕ → Type 0
 ClauseChild u n j = (childOf u n j < n) × IsClause u (childOf u n j)
 
 module _ (u : List ℕ) (n : ℕ) where
-  pub a-variable : kindOf u n ≡ 0 → labelOf u n < 8 → sizeOf u n ≡ size (termAt u n)
+  pub a-variable : kindOf u n ≡ variableKind → labelOf u n < 8 → sizeOf u n ≡ size (termAt u n)
       → ((v : ℕ) → v < 8 → eqb (bitOf (maskOf u n) v) 1 ≡ freeT (termAt u n) v) → TermNode u n
   a-variable e h s f = record { kind = omega arith; variable = λ d. h; application = λ d. absurd (omega arith); size = s; free = f }
 
-  pub an-application : kindOf u n ≡ 1 → Arguments u n → sizeOf u n ≡ size (termAt u n)
+  pub an-application : kindOf u n ≡ applicationKind → Arguments u n → sizeOf u n ≡ size (termAt u n)
       → ((v : ℕ) → v < 8 → eqb (bitOf (maskOf u n) v) 1 ≡ freeT (termAt u n) v) → TermNode u n
   an-application e h s f = record { kind = omega arith; variable = λ d. absurd (omega arith); application = λ d. h; size = s; free = f }
 
   module _ (f : (v : ℕ) → v < 8 → eqb (bitOf (maskOf u n) v) 1 ≡ freeG (goalAt u n) v) where
-    pub a-goal-atom : kindOf u n ≡ 2 → Arguments u n → GoalNode u n
+    pub a-goal-atom : kindOf u n ≡ atomKind → Arguments u n → GoalNode u n
     a-goal-atom e h =
         record {
           least = omega arith;
@@ -43,7 +43,7 @@ module _ (u : List ℕ) (n : ℕ) where
           free = f;
         }
 
-    pub a-goal-true : kindOf u n ≡ 3 → GoalNode u n
+    pub a-goal-true : kindOf u n ≡ trueKind → GoalNode u n
     a-goal-true e =
         record {
           least = omega arith;
@@ -57,7 +57,7 @@ module _ (u : List ℕ) (n : ℕ) where
           free = f;
         }
 
-    pub a-goal-and : kindOf u n ≡ 4 → GoalChild u n 0 → GoalChild u n 1 → GoalNode u n
+    pub a-goal-and : kindOf u n ≡ andKind → GoalChild u n 0 → GoalChild u n 1 → GoalNode u n
     a-goal-and e x y =
         record {
           least = omega arith;
@@ -71,7 +71,7 @@ module _ (u : List ℕ) (n : ℕ) where
           free = f;
         }
 
-    pub a-goal-or : kindOf u n ≡ 5 → GoalChild u n 0 → GoalChild u n 1 → GoalNode u n
+    pub a-goal-or : kindOf u n ≡ orKind → GoalChild u n 0 → GoalChild u n 1 → GoalNode u n
     a-goal-or e x y =
         record {
           least = omega arith;
@@ -85,7 +85,7 @@ module _ (u : List ℕ) (n : ℕ) where
           free = f;
         }
 
-    pub a-goal-implies : kindOf u n ≡ 6 → ClauseChild u n 0 → GoalChild u n 1 → GoalNode u n
+    pub a-goal-implies : kindOf u n ≡ impliesKind → ClauseChild u n 0 → GoalChild u n 1 → GoalNode u n
     a-goal-implies e x y =
         record {
           least = omega arith;
@@ -99,7 +99,7 @@ module _ (u : List ℕ) (n : ℕ) where
           free = f;
         }
 
-    pub a-goal-exists : kindOf u n ≡ 7 → labelOf u n < 8 → GoalChild u n 0 → GoalNode u n
+    pub a-goal-exists : kindOf u n ≡ existsKind → labelOf u n < 8 → GoalChild u n 0 → GoalNode u n
     a-goal-exists e h x =
         record {
           least = omega arith;
@@ -113,7 +113,7 @@ module _ (u : List ℕ) (n : ℕ) where
           free = f;
         }
 
-    pub a-goal-forall : kindOf u n ≡ 8 → labelOf u n < 8 → GoalChild u n 0 → GoalNode u n
+    pub a-goal-forall : kindOf u n ≡ forallKind → labelOf u n < 8 → GoalChild u n 0 → GoalNode u n
     a-goal-forall e h x =
         record {
           least = omega arith;
@@ -129,7 +129,7 @@ module _ (u : List ℕ) (n : ℕ) where
 
   module _ (l : membersOf u n ≤ 64) (m : membersOf u n ≡ length (members (clauseAtNode u n)))
       (f : (v : ℕ) → v < 8 → eqb (bitOf (maskOf u n) v) 1 ≡ freeC (clauseAtNode u n) v) where
-    pub a-fact : kindOf u n ≡ 2 → Arguments u n → ClauseNode u n
+    pub a-fact : kindOf u n ≡ atomKind → Arguments u n → ClauseNode u n
     a-fact e h =
         record {
           kind = λ p q r. absurd (p e);
@@ -142,7 +142,7 @@ module _ (u : List ℕ) (n : ℕ) where
           free = f;
         }
 
-    pub a-conjunction : kindOf u n ≡ 4 → ClauseChild u n 0 → ClauseChild u n 1
+    pub a-conjunction : kindOf u n ≡ andKind → ClauseChild u n 0 → ClauseChild u n 1
         → membersOf u n ≡ membersOf u (childOf u n 0) + membersOf u (childOf u n 1) → ClauseNode u n
     a-conjunction e x y s =
         record {
@@ -156,7 +156,7 @@ module _ (u : List ℕ) (n : ℕ) where
           free = f;
         }
 
-    pub a-rule : kindOf u n ≡ 6 → GoalChild u n 0 → (childOf u n 1 < n) × (kindOf u (childOf u n 1) ≡ 2) × Arguments u (childOf u n 1) → ClauseNode u n
+    pub a-rule : kindOf u n ≡ impliesKind → GoalChild u n 0 → (childOf u n 1 < n) × (kindOf u (childOf u n 1) ≡ atomKind) × Arguments u (childOf u n 1) → ClauseNode u n
     a-rule e x y =
         record {
           kind = λ p q r. absurd (r e);
@@ -169,7 +169,7 @@ module _ (u : List ℕ) (n : ℕ) where
           free = f;
         }
 
-    pub a-quantified : kindOf u n ≡ 8 → labelOf u n < 8 → ClauseChild u n 0 → membersOf u n ≡ membersOf u (childOf u n 0) → ClauseNode u n
+    pub a-quantified : kindOf u n ≡ forallKind → labelOf u n < 8 → ClauseChild u n 0 → membersOf u n ≡ membersOf u (childOf u n 0) → ClauseNode u n
     a-quantified e h x s =
         record {
           kind = λ p q r. e;

@@ -12,7 +12,7 @@ use Rattle.formulas.specs.Formulas.{Goal, atom, and, or, implies, Clause, rule,
 use Rattle.formulas.specs.Members.{members}
 use Rattle.sheet_format.specs.Nodes.{goals2, bothClauses, supposed, ruled}
 use Rattle.sheet_format.specs.Sheets.{addNode as sheetAddNode}
-use Rattle.node_table.specs.Layout.{kindOf, labelOf, childOf, maskOf, bitOf, goalBit, membersOf}
+use Rattle.node_table.specs.Layout.{kindOf, labelOf, childOf, maskOf, bitOf, goalBit, membersOf, atomKind}
 use Rattle.node_table.specs.Decoding.{argumentsAt, goalBy, goalAt, clauseBy, clauseAtNode}
 use Rattle.node_table.specs.WellMade.{IsGoal, IsClause, Arguments}
 use Rattle.node_table.proofs.Same.{same-kind, same-label, same-members}
@@ -197,7 +197,7 @@ module _ (bytes t : List ℕ) (k : Counts) (st : Stands bytes t k) (h : k .nodes
 
   ruled-le : ruledMembers t a b ≤ 1
   unfolding ruledMembers
-  ruled-le = both-le (eqb (kindOf t b) 2) (bothGoals t a b) (both-goals-le t a b)
+  ruled-le = both-le (eqb (kindOf t b) atomKind) (bothGoals t a b) (both-goals-le t a b)
 
   implies-is : NodeIs impliesTable n 6 2 0 a b 0 0 (unitedMask t a b) (supposedGoal t a b) (ruledMembers t a b) 0
   unfolding impliesInfo
@@ -214,12 +214,12 @@ module _ (bytes t : List ℕ) (k : Counts) (st : Stands bytes t k) (h : k .nodes
       (ap (goalBy n impliesTable) (implies-is .second) ∙ goal-under bytes t k st h impliesRecord b lb j)
 
   -- the second is an atom
-  head-atom : kindOf t b ≡ 2 → goalAt t b ≡ atom (labelOf t b) (argumentsAt t b)
+  head-atom : kindOf t b ≡ atomKind → goalAt t b ≡ atom (labelOf t b) (argumentsAt t b)
   unfolding goalAt
   head-atom e = goalBy-atom b t b e
 
   -- the second is another goal
-  no-atom : (g : Goal) → (kindOf t b ≡ 2 → ⊥) → IsGoal t b → ruled (some g) (some (goalAt t b)) ≡ none
+  no-atom : (g : Goal) → (kindOf t b ≡ atomKind → ⊥) → IsGoal t b → ruled (some g) (some (goalAt t b)) ≡ none
   unfolding ruled goalAt
   no-atom g d i = let m = st .goal b lb i in go (goal-kind (kindOf t b) (m .least) (m .most))
     where
@@ -232,7 +232,7 @@ module _ (bytes t : List ℕ) (k : Counts) (st : Stands bytes t k) (h : k .nodes
       go (exists-kind e) = ap (λ (x : Goal). ruled (some g) (some x)) (goalBy-exists b t b e)
       go (forall-kind e) = ap (λ (x : Goal). ruled (some g) (some x)) (goalBy-forall b t b e)
 
-  implies-clause : kindOf t b ≡ 2 → IsGoal t a → IsGoal t b → clauseAtNode impliesTable n ≡ rule (goalAt t a) (labelOf t b) (argumentsAt t b)
+  implies-clause : kindOf t b ≡ atomKind → IsGoal t a → IsGoal t b → clauseAtNode impliesTable n ≡ rule (goalAt t a) (labelOf t b) (argumentsAt t b)
   unfolding clauseAtNode
   implies-clause e i j =
       let s = same bytes t k st h impliesRecord in
@@ -261,7 +261,7 @@ module _ (bytes t : List ℕ) (k : Counts) (st : Stands bytes t k) (h : k .nodes
       ∙ united-free t a b (freeC (clauseAtNode t a)) (freeG (goalAt t b)) v (st .clause a la i .free v l) (st .goal b lb j .free v l)
       ∙ ap (λ (g : Goal). freeG g v) (sym (implies-goal i j))
 
-  implies-free-clause : kindOf t b ≡ 2 → IsGoal t a → IsGoal t b → (v : ℕ) → v < 8 → eqb (bitOf (maskOf impliesTable n) v) 1 ≡ freeC (clauseAtNode impliesTable n) v
+  implies-free-clause : kindOf t b ≡ atomKind → IsGoal t a → IsGoal t b → (v : ℕ) → v < 8 → eqb (bitOf (maskOf impliesTable n) v) 1 ≡ freeC (clauseAtNode impliesTable n) v
   unfolding freeC freeG
   implies-free-clause e i j v l =
       ap (λ (m : ℕ). eqb (bitOf m v) 1) (implies-is .mask)
@@ -278,15 +278,15 @@ module _ (bytes t : List ℕ) (k : Counts) (st : Stands bytes t k) (h : k .nodes
       go true p false q r = absurd (omega arith)
       go false p d q r = absurd (omega arith)
 
-  rule-parts : 1 ≤ ruledMembers t a b → (kindOf t b ≡ 2) × IsGoal t a × IsGoal t b
+  rule-parts : 1 ≤ ruledMembers t a b → (kindOf t b ≡ atomKind) × IsGoal t a × IsGoal t b
   unfolding ruledMembers bothGoals
   rule-parts l = ruled-one (kindOf t b) (goalBit t a) (goalBit t b) l (goal-le t b)
 
-  implies-rule : kindOf t b ≡ 2 → IsGoal t a → IsGoal t b → membersOf impliesTable n ≡ 1 → Arguments t b
-      → (childOf impliesTable n 1 < n) × (kindOf impliesTable (childOf impliesTable n 1) ≡ 2) × Arguments impliesTable (childOf impliesTable n 1)
+  implies-rule : kindOf t b ≡ atomKind → IsGoal t a → IsGoal t b → membersOf impliesTable n ≡ 1 → Arguments t b
+      → (childOf impliesTable n 1 < n) × (kindOf impliesTable (childOf impliesTable n 1) ≡ atomKind) × Arguments impliesTable (childOf impliesTable n 1)
   implies-rule e i j m x =
       let s = same bytes t k st h impliesRecord in
-      subst (λ (c : ℕ). (c < n) × (kindOf impliesTable c ≡ 2) × Arguments impliesTable c) (sym (implies-is .second))
+      subst (λ (c : ℕ). (c < n) × (kindOf impliesTable c ≡ atomKind) × Arguments impliesTable c) (sym (implies-is .second))
       (lb, same-kind t impliesTable (k .symbols) n s b lb ∙ e, arguments-same t impliesTable (k .symbols) n s b lb (st .named b lb (omega arith) (omega arith)) x)
 
   implies-new : NewNode impliesTable n (k .symbols)

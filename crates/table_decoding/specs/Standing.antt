@@ -10,7 +10,8 @@ use lib.ListN.{length, drop}
 use Rattle.sheet_format.specs.Nodes.{Node}
 use Rattle.sheet_format.specs.Sheets.{Table, next, stop, last}
 use Rattle.sheet_format.specs.Sheets.{Taken as SheetTaken}
-use Rattle.node_table.specs.Layout.{kindOf, labelOf, goalBit, membersOf, sizeOf, nameStart, nameLength, clauseNode}
+use Rattle.sheet_format.specs.Limits.{maxNodes, tableNumbers, maxSymbols, maxClauses}
+use Rattle.node_table.specs.Layout.{kindOf, labelOf, goalBit, membersOf, sizeOf, nameStart, nameLength, clauseNode, applicationKind, atomKind}
 use Rattle.node_table.specs.Decoding.{termAt, goalAt, clauseAtNode, declarationsFrom, clausesFrom}
 use Rattle.node_table.specs.WellMade.{IsTerm, IsGoal, IsClause, TermNode, GoalNode, ClauseNode}
 use Rattle.table_builder.specs.declared.node_info.Counts.{Counts}
@@ -38,12 +39,12 @@ tableOf bytes t k = record { symbols = declarationsFrom bytes t (k .symbols) 0; 
 -- What holds of the table after every line. Symbols are named by their bytes on the sheet; applications and atoms name symbols that
 -- are there.
 pub record Stands (bytes t : List ℕ) (k : Counts) : Type 0 where
-  pub long : 8192 ≤ length t
-  pub fewSymbols : k .symbols ≤ 256
-  pub fewNodes : k .nodes ≤ 1024
-  pub fewClauses : k .clauses ≤ 128
+  pub long : tableNumbers ≤ length t
+  pub fewSymbols : k .symbols ≤ maxSymbols
+  pub fewNodes : k .nodes ≤ maxNodes
+  pub fewClauses : k .clauses ≤ maxClauses
   pub names : (i : ℕ) → i < k .symbols → nameStart t i + nameLength t i ≤ length bytes
-  pub named : (n : ℕ) → n < k .nodes → 1 ≤ kindOf t n → kindOf t n ≤ 2 → labelOf t n < k .symbols
+  pub named : (n : ℕ) → n < k .nodes → applicationKind ≤ kindOf t n → kindOf t n ≤ atomKind → labelOf t n < k .symbols
   pub term : (n : ℕ) → n < k .nodes → IsTerm t n → TermNode t n
   pub goal : (n : ℕ) → n < k .nodes → IsGoal t n → GoalNode t n
   pub clause : (n : ℕ) → n < k .nodes → IsClause t n → ClauseNode t n
@@ -59,4 +60,4 @@ Agrees bytes t k (Last n) s = (s ≡ last (goalAt t n)) × (n < k .nodes) × IsG
 pub record Follows (bytes t : List ℕ) (k : Counts) (m : Made) (s : SheetTaken) : Type 0 where
   pub agrees : Agrees bytes (m .table) k (m .answer) s
   pub long : length (m .table) ≡ length t
-  pub rest : drop 8192 (m .table) ≡ drop 8192 t
+  pub rest : drop tableNumbers (m .table) ≡ drop tableNumbers t

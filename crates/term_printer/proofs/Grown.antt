@@ -7,11 +7,12 @@ use mathlib.Core.Bool.{Bool, true, false, cond}
 use mathlib.Core.List.{List}
 use lib.Dec.{eqb, ltb}
 use Rattle.node_table.specs.Layout.{childCount, labelOf, childOf}
+use Rattle.machine.specs.Fields as fields
 use Rattle.machine.specs.Records.{field, cellOf, levelOf}
-use Rattle.machine.specs.Words.{tagOf, nameOf, nodeOf, frameOf, wordOf}
+use Rattle.machine.specs.Words.{tagOf, nameOf, nodeOf, frameOf, wordOf, constantTag, variableTag}
 use Rattle.printing.specs.declared.Pen.{Pen}
 use Rattle.printing.specs.Output.{writeSymbol}
-use Rattle.printing.specs.Marks.{onAt, onVariables, onConstants, Page, wrote, marked, seek, markVariable, markConstant, showVariable, showConstant}
+use Rattle.printing.specs.Marks.{onAt, onVariables, onConstants, Page, wrote, marked, seek, markVariable, markConstant, showVariable, showConstant, constantNumberField}
 use Rattle.printing.specs.WriteTerms.{emitTo, writeName, separator, argumentsBy, applicationBy, wordBy, writeTerm}
 use Rattle.printing.proofs.Bytes.{bytes-grow, symbol-bytes}
 use Rattle.printing.proofs.Pages.{emitted, name-then, page-grow}
@@ -40,7 +41,7 @@ variable-kept w p x = kept w _ p _ (eqb (cellOf w x) 0) refl
 
 constant-kept : (w : List ℕ) (p : Pen) (c : ℕ) → markConstant w p c .pen .at ≡ p .at
 unfolding markConstant onConstants
-constant-kept w p c = kept w _ p _ (eqb (field w c 63) 0) refl
+constant-kept w p c = kept w _ p _ (eqb (field w c constantNumberField) 0) refl
 
 from : (a b c : ℕ) → b ≡ a → b ≤ c → a ≤ c
 from a b c e h = omega arith
@@ -59,7 +60,7 @@ module _ (limit : ℕ) (small : limit ≤ 65535) where
   unfolding showConstant wrote onAt
   constant-grown g c =
       let m = markConstant (g .memory) (g .pen) c in
-      record { position = from _ _ _ (constant-kept (g .memory) (g .pen) c) (symbol-grown (g .buffer) (m .pen .at) (code "!") (field (m .memory) c 63 - 1) (field (m .memory) c 22)) }
+      record { position = from _ _ _ (constant-kept (g .memory) (g .pen) c) (symbol-grown (g .buffer) (m .pen .at) (code "!") (field (m .memory) c constantNumberField - 1) (field (m .memory) c fields.constantLevel)) }
 
   emit-grown : (g : Page) (b : ℕ) → Grown g (emitTo limit g b)
   emit-grown g b = record { position = rw (emitted limit g b) (page-grow limit g _ small) }
@@ -86,8 +87,8 @@ module _ (limit : ℕ) (small : limit ≤ 65535) where
     word-grown : (write : Page → ℕ → Page) → ((g : Page) (a : ℕ) → Grown g (write g a)) → (g : Page) (a : ℕ) → Grown g (wordBy write sheet t limit g a)
     unfolding wordBy
     word-grown write h g a =
-        grown-either g _ _ (eqb (tagOf a) 1) (variable-grown g (nameOf a))
-        (grown-either g _ _ (eqb (tagOf a) 2) (constant-grown g (nameOf a)) (application-grown write h g (nodeOf a) (frameOf a)))
+        grown-either g _ _ (eqb (tagOf a) variableTag) (variable-grown g (nameOf a))
+        (grown-either g _ _ (eqb (tagOf a) constantTag) (constant-grown g (nameOf a)) (application-grown write h g (nodeOf a) (frameOf a)))
 
     term-grown : (rank turns : ℕ) (g : Page) (a : ℕ) → Grown g (writeTerm rank sheet t turns limit g a)
     unfolding writeTerm

@@ -6,12 +6,17 @@ pub mod output;
 pub mod path_links;
 mod symbols;
 
+use cursor::AT;
+use cursor::LIMIT;
+use cursor::NUMBERS;
+use cursor::TURNS;
 use cursor::emit_in;
 use cursor::pen_in;
 use cursor::separator;
 use cursor::show_constant_in;
 use cursor::show_variable_in;
 use cursor::write_name_in;
+use machine::tags;
 use machine_memory::words::frame_of;
 use machine_memory::words::name_of;
 use machine_memory::words::node_of;
@@ -37,7 +42,7 @@ pub fn write_term(
     t: &&[u32],
     w: &mut [u32],
     out: &mut [u8],
-    s: &mut [u32; 5],
+    s: &mut [u32; NUMBERS],
     a: u32,
 )
     requires { ⌜ boundsIn (now s) .limit ≤ 65535 ⌝ }
@@ -46,16 +51,16 @@ pub fn write_term(
     if rank == 0 {
         return;
     }
-    if s[4] < s[0] {
+    if s[LIMIT] < s[AT] {
         return;
     }
-    let b = seek(s[3], w, a);
+    let b = seek(s[TURNS], w, a);
     let tag = tag_of(b);
-    if tag == 1 {
+    if tag == tags::VARIABLE {
         show_variable_in(w, out, s, name_of(b));
         return;
     }
-    if tag == 2 {
+    if tag == tags::CONSTANT {
         show_constant_in(w, out, s, name_of(b));
         return;
     }

@@ -1,9 +1,11 @@
 // The numbers of constants and variables at their first showing, kept in the lent work buffer.
 // Each function is a definition of the crate printing, and its contract says so.
+use machine::tags;
 use machine_memory::cells::cell_of;
 use machine_memory::cells::field;
 use machine_memory::cells::put_cell;
 use machine_memory::cells::put_field;
+use machine_memory::words::TAGS;
 use machine_memory::words::name_of;
 use machine_memory::words::narrow;
 use machine_memory::words::tag_of;
@@ -46,7 +48,7 @@ pub fn seek(n: u32, w: &[u32], a: u32) -> u32
     let mut bindings = n;
     let mut at = a;
     while 0 < bindings {
-        if tag_of(at) != 1 {
+        if tag_of(at) != tags::VARIABLE {
             return at;
         }
         let b = cell_of(w, name_of(at));
@@ -67,7 +69,7 @@ pub fn mark_variable(w: &mut [u32], p: Pen, x: u32) -> Pen
         return p;
     }
     let count = up(p.variables);
-    put_cell(w, x, narrow(4 * wide(count)));
+    put_cell(w, x, narrow(TAGS * wide(count)));
     on_variables(p, count)
 }
 
@@ -75,10 +77,10 @@ pub fn mark_variable(w: &mut [u32], p: Pen, x: u32) -> Pen
 pub fn mark_constant(w: &mut [u32], p: Pen, c: u32) -> Pen
     ensures { λ q. ⌜ marked (now (w .exit)) q ≡ markConstant (now (w .entry)) p c ⌝ }
 {
-    if field(w, c, 63) != 0 {
+    if field(w, c, printing::fields::CONSTANT_NUMBER) != 0 {
         return p;
     }
     let count = up(p.constants);
-    put_field(w, c, 63, count);
+    put_field(w, c, printing::fields::CONSTANT_NUMBER, count);
     on_constants(p, count)
 }

@@ -60,7 +60,7 @@ fn digit(n: u32) -> u8
     requires { ⌜ n < 10 ⌝ }
     ensures { λ r. ⌜ r ≡ 48 + n ⌝ }
 {
-    48 + n as u8
+    b'0' + n as u8
 }
 
 // A number in base ten, of at most f digits.

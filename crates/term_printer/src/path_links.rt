@@ -1,5 +1,6 @@
 // Links between the lines of the path, and the lent work buffer cleared of numbers before a pass.
 // Each function is a definition of the crate printing, and its contract says so.
+use machine::fields;
 use machine_memory::cells::cell_of;
 use machine_memory::cells::field;
 use machine_memory::cells::put_cell;
@@ -16,11 +17,13 @@ ghost use Rattle.machine.specs.Records.{cellOf, putCell};
 ghost use Rattle.machine.specs.Words.{tagOf};
 ghost use Rattle.printing.specs.Links.{linkWord, linked, linkPath, clearConstants, clearVariables};
 
+const LINE_CODES: usize = printing::LINE_CODES as usize;
+
 // A pointer to the record of a line, and which line it is.
 pub fn link_word(p: u32, k: u32) -> u32
     ensures { λ r. ⌜ r ≡ linkWord p k ⌝ }
 {
-    narrow(8 * wide(p) + wide(k))
+    narrow(LINE_CODES * wide(p) + wide(k))
 }
 
 // Links at most n lines, from pointer p on, which is latest first, in the order taken; e is the link to those done.
@@ -36,9 +39,9 @@ pub fn link_path(n: u32, w: &mut [u32], p: u32, k: u32, e: u32) -> u32
             return link;
         }
         let u = record_of(pointer);
-        let before = field(w, u, 39);
-        let which = field(w, u, 40);
-        put_field(w, u, 62, link);
+        let before = field(w, u, fields::PATH_BEFORE);
+        let which = field(w, u, fields::PATH_LINE);
+        put_field(w, u, printing::fields::NEXT_LINE, link);
         link = link_word(pointer, line);
         pointer = before;
         line = which;
@@ -54,7 +57,7 @@ pub fn clear_constants(n: u32, w: &mut [u32])
     let mut left = n;
     while 0 < left {
         left -= 1;
-        put_field(w, left, 63, 0);
+        put_field(w, left, printing::fields::CONSTANT_NUMBER, 0);
     }
 }
 

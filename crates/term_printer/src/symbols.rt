@@ -4,6 +4,8 @@ use super::numbering::mark_constant;
 use super::numbering::mark_variable;
 use super::numbering::on_at;
 use super::output::write_symbol;
+use machine::fields;
+use machine::tags;
 use machine_memory::cells::cell_of;
 use machine_memory::cells::field;
 use machine_memory::cells::level_of;
@@ -17,7 +19,7 @@ pub fn show_variable(limit: u32, w: &mut [u32], out: &mut [u8], p: Pen, x: u32) 
     ensures { λ q. ⌜ page (now (w .exit)) (now (out .exit)) q ≡ showVariable limit (page (now (w .entry)) (now (out .entry)) p) x ⌝ }
 {
     let m = mark_variable(w, p, x);
-    let number = record_of(cell_of(w, x) / 4);
+    let number = record_of(cell_of(w, x) / tags::COUNT);
     let to = write_symbol(out, limit, m.at, b'_', number, level_of(w, x));
     on_at(m, to)
 }
@@ -26,7 +28,14 @@ pub fn show_constant(limit: u32, w: &mut [u32], out: &mut [u8], p: Pen, c: u32) 
     ensures { λ q. ⌜ page (now (w .exit)) (now (out .exit)) q ≡ showConstant limit (page (now (w .entry)) (now (out .entry)) p) c ⌝ }
 {
     let m = mark_constant(w, p, c);
-    let number = record_of(field(w, c, 63));
-    let to = write_symbol(out, limit, m.at, b'!', number, field(w, c, 22));
+    let number = record_of(field(w, c, printing::fields::CONSTANT_NUMBER));
+    let to = write_symbol(
+        out,
+        limit,
+        m.at,
+        b'!',
+        number,
+        field(w, c, fields::CONSTANT_LEVEL),
+    );
     on_at(m, to)
 }

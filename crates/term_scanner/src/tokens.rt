@@ -1,6 +1,7 @@
 // Numbers and names of an answer text, read in place.
 use memory::byte;
 use scanning::Number;
+use sheet_format::limits;
 ghost use mathlib.Core.Path.{_≡_};
 ghost use mathlib.Core.Bool.{true, false};
 ghost use Prim.Native.Nat.{_+_, _-_, _<_, _≤_};
@@ -67,7 +68,7 @@ fn number_from(text: &[u8], i: usize, v: u32) -> Number
             return Number::Value(value, at);
         }
         let next = 10 * value + ((b - b'0') as u32);
-        if 65535 < next {
+        if limits::MAX_NUMBER < next {
             return Number::Missing;
         }
         value = next;

@@ -12,26 +12,26 @@ use Rattle.scanning.specs.declared.Shown.the-variants.{Counts, Misnumbered}
 use Rattle.scanning.specs.Ranges.{findByte, lineEnd}
 use Rattle.scanning.specs.Showing.{showFrom}
 use Rattle.line_checking.specs.declared.Registers.{Registers}
-use Rattle.line_checking.specs.Sequents.{Made, made, start, broken, onCounts}
+use Rattle.line_checking.specs.Sequents.{Made, made, start, broken, onCounts, brokenStage, doneStage, openingStage, bindingStage, sequentStage}
 use Rattle.line_checking.specs.Bindings.{openLine, bindLine}
 use Rattle.line_checking.specs.Judging.{sequentLine, stageLine, countLine, orderLine, judgeLine, Judged, judged, endVerdict, judgeFrom, judgeText}
 
 -- the stage
 
 module _ (b t : List ℕ) (symbols clauses goal : ℕ) (x w : List ℕ) (r : Registers) (q i e : ℕ) (m : Made) where
-  pub open-due : r .stage ≡ 0 → m ≡ openLine t goal x w r i e → m ≡ stageLine b t symbols clauses goal x w r q i e
+  pub open-due : r .stage ≡ openingStage → m ≡ openLine t goal x w r i e → m ≡ stageLine b t symbols clauses goal x w r q i e
   unfolding stageLine
   open-due h em = rw (eq-eqb _ _ h) em
 
-  pub bind-due : (r .stage ≡ 0 → ⊥) → r .stage ≡ 1 → m ≡ bindLine b t symbols goal x w r q i e → m ≡ stageLine b t symbols clauses goal x w r q i e
+  pub bind-due : (r .stage ≡ openingStage → ⊥) → r .stage ≡ bindingStage → m ≡ bindLine b t symbols goal x w r q i e → m ≡ stageLine b t symbols clauses goal x w r q i e
   unfolding stageLine
   bind-due n₀ h em = rw (ne-eqb _ _ n₀, eq-eqb _ _ h) em
 
-  pub sequent-due : (r .stage ≡ 0 → ⊥) → (r .stage ≡ 1 → ⊥) → r .stage ≡ 2 → m ≡ sequentLine b t symbols clauses x w r q i e → m ≡ stageLine b t symbols clauses goal x w r q i e
+  pub sequent-due : (r .stage ≡ openingStage → ⊥) → (r .stage ≡ bindingStage → ⊥) → r .stage ≡ sequentStage → m ≡ sequentLine b t symbols clauses x w r q i e → m ≡ stageLine b t symbols clauses goal x w r q i e
   unfolding stageLine
   sequent-due n₀ n₁ h em = rw (ne-eqb _ _ n₀, ne-eqb _ _ n₁, eq-eqb _ _ h) em
 
-  pub none-due : (r .stage ≡ 0 → ⊥) → (r .stage ≡ 1 → ⊥) → (r .stage ≡ 2 → ⊥) → m ≡ broken w r → m ≡ stageLine b t symbols clauses goal x w r q i e
+  pub none-due : (r .stage ≡ openingStage → ⊥) → (r .stage ≡ bindingStage → ⊥) → (r .stage ≡ sequentStage → ⊥) → m ≡ broken w r → m ≡ stageLine b t symbols clauses goal x w r q i e
   unfolding stageLine
   none-due n₀ n₁ n₂ em = rw (ne-eqb _ _ n₀, ne-eqb _ _ n₁, ne-eqb _ _ n₂) em
 
@@ -47,11 +47,11 @@ module _ (x w : List ℕ) (r : Registers) (i e : ℕ) where
     unfolding countLine
     misnumbered a h ea = rw (countLine, ← eo, h) ea
 
-  pub order-broken : r .stage ≡ 4 → made w r ≡ orderLine x (made w r) i e
+  pub order-broken : r .stage ≡ brokenStage → made w r ≡ orderLine x (made w r) i e
   unfolding orderLine
   order-broken h = rw (eq-eqb _ _ h)
 
-  pub order-counted : (a : Made) → (r .stage ≡ 4 → ⊥) → a ≡ countLine x (made w r) i e → a ≡ orderLine x (made w r) i e
+  pub order-counted : (a : Made) → (r .stage ≡ brokenStage → ⊥) → a ≡ countLine x (made w r) i e → a ≡ orderLine x (made w r) i e
   unfolding orderLine
   order-counted a h ea = rw (ne-eqb _ _ h) ea
 
@@ -62,11 +62,11 @@ line-judged b t symbols clauses goal x w w′ r s q i e m es em = rw (em, es)
 -- the end
 
 module _ (x : List ℕ) (r : Registers) (q i : ℕ) where
-  pub end-valid : i ≡ length x → r .stage ≡ 3 → 0 ≡ endVerdict x r q i
+  pub end-valid : i ≡ length x → r .stage ≡ doneStage → 0 ≡ endVerdict x r q i
   unfolding endVerdict
   end-valid h k = rw (eq-eqb _ _ h, eq-eqb _ _ k)
 
-  pub end-due : i ≡ length x → (r .stage ≡ 3 → ⊥) → q + 1 ≡ endVerdict x r q i
+  pub end-due : i ≡ length x → (r .stage ≡ doneStage → ⊥) → q + 1 ≡ endVerdict x r q i
   unfolding endVerdict
   end-due h k = rw (eq-eqb _ _ h, ne-eqb _ _ k)
 
@@ -111,7 +111,7 @@ module _ (v : Judged) (b t : List ℕ) (symbols clauses goal : ℕ) (x w : List 
       go (suc n) h ev = ev ∙ simp (judgeFrom, ← he, le-ltb _ _ l, ← eu)
 
   module _ (w′ : List ℕ) (s : Registers) (es : made w′ s ≡ judgeLine b t symbols clauses goal x w r q i e) (l : e < length x) where
-    pub text-breaks : Rest v b t symbols clauses goal x w r q i → s .stage ≡ 4 → v ≡ judged w′ (q + 1)
+    pub text-breaks : Rest v b t symbols clauses goal x w r q i → s .stage ≡ brokenStage → v ≡ judged w′ (q + 1)
     unfolding judgeFrom
     text-breaks a k = go (a .turns) (a .enough) (a .same)
       where
@@ -119,7 +119,7 @@ module _ (v : Judged) (b t : List ℕ) (symbols clauses goal : ℕ) (x w : List 
         go zero h ev = absurd (omega arith)
         go (suc n) h ev = ev ∙ simp (judgeFrom, ← he, lt-ltb _ _ l, ← es, eq-eqb _ _ k)
 
-    pub text-on : Rest v b t symbols clauses goal x w r q i → (s .stage ≡ 4 → ⊥) → Rest v b t symbols clauses goal x w′ s (q + 1) (e + 1)
+    pub text-on : Rest v b t symbols clauses goal x w r q i → (s .stage ≡ brokenStage → ⊥) → Rest v b t symbols clauses goal x w′ s (q + 1) (e + 1)
     unfolding judgeFrom
     text-on a k = go (a .turns) (a .enough) (a .same)
       where

@@ -9,6 +9,7 @@ use line_rules::connective_rules::true_line;
 use line_rules::quantifier_rules::all_line;
 use line_rules::quantifier_rules::some_line;
 use node_table::kind;
+use node_table::kinds;
 ghost use mathlib.Core.Path.{_≡_};
 ghost use Prim.Native.Nat.{_+_, _<_};
 ghost use lib.ListN.{length};
@@ -30,7 +31,7 @@ pub fn quantifier_line(
     requires { ⌜ (i + 7 < 4294967296) × (e < 4294967296) ⌝ }
     ensures { λ s. ⌜ made (now (w .exit)) s ≡ quantifierLine (now (sheet .entry)) (now (t .entry)) symbols (now (text .entry)) (now (w .entry)) r q i e ⌝ }
 {
-    if kind(t, r.node) == 7 {
+    if kind(t, r.node) == kinds::EXISTS {
         return some_line(sheet, t, symbols, text, w, r, q, i, e);
     }
     all_line(t, text, w, r, q, i, e)
@@ -52,13 +53,13 @@ pub fn connective_line(
     ensures { λ s. ⌜ made (now (w .exit)) s ≡ connectiveLine (now (sheet .entry)) (now (t .entry)) symbols (now (text .entry)) (now (w .entry)) r q i e ⌝ }
 {
     let sort = kind(t, r.node);
-    if sort == 4 {
+    if sort == kinds::AND {
         return and_line(t, text, w, r, q, i, e);
     }
-    if sort == 5 {
+    if sort == kinds::OR {
         return or_line(t, text, r, i, e);
     }
-    if sort == 6 {
+    if sort == kinds::IMPLIES {
         return assume_line(t, text, w, r, q, i, e);
     }
     quantifier_line(sheet, t, symbols, text, w, r, q, i, e)
@@ -81,10 +82,10 @@ pub fn sequent_line(
     ensures { λ s. ⌜ made (now (w .exit)) s ≡ sequentLine (now (sheet .entry)) (now (t .entry)) symbols clauses (now (text .entry)) (now (w .entry)) r q i e ⌝ }
 {
     let sort = kind(t, r.node);
-    if sort == 2 {
+    if sort == kinds::ATOM {
         return clause_line(sheet, t, symbols, clauses, text, w, r, q, i, e);
     }
-    if sort == 3 {
+    if sort == kinds::TRUE {
         return true_line(text, w, r, i, e);
     }
     connective_line(sheet, t, symbols, text, w, r, q, i, e)

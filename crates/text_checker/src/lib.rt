@@ -7,6 +7,7 @@ use checker_state::registers::on_counts;
 use checker_state::registers::start;
 use derivation_lines::sequent_line;
 use line_checking::Registers;
+use line_checking::text_stages;
 use line_rules::binding_lines::bind_line;
 use line_rules::result_lines::open_line;
 use numbering_check::show_from;
@@ -37,13 +38,13 @@ pub fn stage_line(
     ensures { λ s. ⌜ made (now (w .exit)) s ≡ stageLine (now (sheet .entry)) (now (t .entry)) symbols clauses goal (now (text .entry)) (now (w .entry)) r q i e ⌝ }
 {
     let stage = r.stage;
-    if stage == 0 {
+    if stage == text_stages::OPENING {
         return open_line(t, goal, text, r, i, e);
     }
-    if stage == 1 {
+    if stage == text_stages::BINDING {
         return bind_line(sheet, t, symbols, goal, text, w, r, q, i, e);
     }
-    if stage == 2 {
+    if stage == text_stages::SEQUENT {
         return sequent_line(sheet, t, symbols, clauses, text, w, r, q, i, e);
     }
     broken(r)
@@ -64,7 +65,7 @@ pub fn order_line(text: &[u8], r: Registers, i: usize, e: usize) -> Registers
     ensures { λ s. ⌜ ((w : List ℕ) → made w s ≡ orderLine (now (text .entry)) (made w r) i e) ⌝ }
 {
     let stage = r.stage;
-    if stage == 4 {
+    if stage == text_stages::BROKEN {
         return r;
     }
     count_line(text, r, i, e)
@@ -97,7 +98,7 @@ pub fn end_verdict(text: &[u8], r: Registers, q: u32, i: usize) -> u32
     ensures { λ v. ⌜ v ≡ endVerdict (now (text .entry)) r q i ⌝ }
 {
     if i == text.len() {
-        if r.stage == 3 {
+        if r.stage == text_stages::DONE {
             return 0;
         }
         return q + 1;
@@ -125,7 +126,7 @@ pub fn judge_text(
     while e < text.len() {
         r = judge_line(sheet, t, symbols, clauses, goal, text, w, r, q, i, e);
         let stage = r.stage;
-        if stage == 4 {
+        if stage == text_stages::BROKEN {
             return q + 1;
         }
         q += 1;

@@ -5,6 +5,7 @@ use native.Mathlib.Omega.{arith}
 use mathlib.Core.Path.{_≡_, refl}
 use mathlib.Core.List.{List}
 use Rattle.sheet_format.specs.Bytes.{ascii}
+use Rattle.machine.specs.Fields as fields
 use Rattle.machine.specs.Records.{field}
 use Rattle.machine.specs.Words.{narrow, variableWord}
 use Rattle.printing.specs.declared.Pen.{Pen}
@@ -25,6 +26,6 @@ module _ (sheet t : List ℕ) (turns limit : ℕ) where
     prefix-on (suc n) a g₁ s h e₁ ea es = rw (sub-one (suc n), add-one x, es, ea, e₁)
 
   module _ (w out : List ℕ) (p : Pen) (u : ℕ) (s : Page) where
-    pub clause-written : (k c f x : ℕ) (g₁ g₂ g₃ : Page) → k ≡ field w u 41 → c ≡ field w u 42 → f ≡ field w u 43 → x ≡ f → g₁ ≡ bytesTo limit (page w out p) (ascii "D\tclause\t") → g₂ ≡ numberTo limit g₁ k → g₃ ≡ prefixTo sheet t turns limit c g₂ x → s ≡ emitTo limit g₃ 10 → s ≡ clauseTo sheet t turns limit (page w out p) u
+    pub clause-written : (k c f x : ℕ) (g₁ g₂ g₃ : Page) → k ≡ field w u fields.usePlace → c ≡ field w u fields.useCount → f ≡ field w u fields.variables → x ≡ f → g₁ ≡ bytesTo limit (page w out p) (ascii "D\tclause\t") → g₂ ≡ numberTo limit g₁ k → g₃ ≡ prefixTo sheet t turns limit c g₂ x → s ≡ emitTo limit g₃ 10 → s ≡ clauseTo sheet t turns limit (page w out p) u
     unfolding clauseTo
     clause-written k c f x g₁ g₂ g₃ ek ec ef ex e₁ e₂ e₃ es = rw (es, e₃, e₂, e₁, ex, ef, ec, ek)

@@ -6,11 +6,13 @@ use mathlib.Core.Path.{_≡_, refl}
 use mathlib.Core.List.{List}
 use borrow.Author.Tests.{lt-ltb, le-ltb, eq-eqb, ne-eqb}
 use Rattle.sheet_format.specs.Bytes.{ascii}
+use Rattle.machine.specs.Fields as fields
 use Rattle.machine.specs.Records.{field}
 use Rattle.machine.specs.Words.{variableWord, constantWord}
 use Rattle.printing.specs.declared.Pen.{Pen}
 use Rattle.printing.specs.Marks.{Page, page}
 use Rattle.printing.specs.WriteLines.{bytesTo, plainBytes, termLine, clauseTo, lineTo, linesTo}
+use Rattle.printing.specs.Links.{nextLineField}
 
 module _ (limit : ℕ) (g s : Page) where
   module _ (k : ℕ) where
@@ -40,7 +42,7 @@ module _ (sheet t : List ℕ) (turns limit : ℕ) where
     unfolding lineTo
     line-plain k h es = rw es (simp (lineTo, lt-ltb _ _ h))
 
-    pub line-some : (k f a : ℕ) → 5 ≤ k → k ≡ 5 → f ≡ field w u 43 → a ≡ variableWord f → s ≡ termLine sheet t turns limit (page w out p) (ascii "D\tsome\t") a → s ≡ lineTo sheet t turns limit (page w out p) u k
+    pub line-some : (k f a : ℕ) → 5 ≤ k → k ≡ 5 → f ≡ field w u fields.variables → a ≡ variableWord f → s ≡ termLine sheet t turns limit (page w out p) (ascii "D\tsome\t") a → s ≡ lineTo sheet t turns limit (page w out p) u k
     unfolding lineTo
     line-some k f a h e ef ea es = rw (es, ea, ef) (simp (lineTo, le-ltb _ _ h, eq-eqb _ _ e))
 
@@ -62,7 +64,7 @@ module _ (sheet t : List ℕ) (turns limit : ℕ) where
   lines-last g e zero z = refl
   lines-last g e (suc n) z = simp (linesTo, eq-eqb _ _ z)
 
-  pub lines-on : (w out : List ℕ) (p : Pen) (e n u l : ℕ) (s : Page) → 0 < n → (e / 8 ≡ 0 → ⊥) → u ≡ e / 8 - 1 → l ≡ field w u 62 → s ≡ lineTo sheet t turns limit (page w out p) u (e % 8) → linesTo sheet t turns limit n (page w out p) e ≡ linesTo sheet t turns limit (n - 1) s l
+  pub lines-on : (w out : List ℕ) (p : Pen) (e n u l : ℕ) (s : Page) → 0 < n → (e / 8 ≡ 0 → ⊥) → u ≡ e / 8 - 1 → l ≡ field w u nextLineField → s ≡ lineTo sheet t turns limit (page w out p) u (e % 8) → linesTo sheet t turns limit n (page w out p) e ≡ linesTo sheet t turns limit (n - 1) s l
   unfolding linesTo
   lines-on w out p e zero u l s h z eu el es = absurd (omega arith)
   lines-on w out p e (suc n) u l s h z eu el es = rw (sub-one (suc n), es, el, eu) (simp (linesTo, ne-eqb _ _ z))

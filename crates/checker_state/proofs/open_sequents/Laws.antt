@@ -3,17 +3,18 @@ use Prim.Native.Nat.{ℕ, _-_}
 use mathlib.Core.Path.{_≡_, _∙_}
 use mathlib.Core.List.{List}
 use borrow.Author.Tests.{eq-eqb, ne-eqb}
+use Rattle.scanning.specs.Fields as fields
 use Rattle.scanning.specs.Frames.{field}
 use Rattle.line_checking.specs.declared.Registers.{Registers}
-use Rattle.line_checking.specs.Sequents.{onStage, onSequent, dueSequent, proceed}
+use Rattle.line_checking.specs.Sequents.{onStage, onSequent, dueSequent, proceed, doneStage}
 
 -- the next sequent
 
-pub sequent-due : (w : List ℕ) (r s : Registers) (q n f h i m : ℕ) → n ≡ field w q 16 → f ≡ field w q 17 → h ≡ field w q 18 → i ≡ field w q 19 → m ≡ field w q 20 → s ≡ onSequent r n f h i m → s ≡ dueSequent w r q
+pub sequent-due : (w : List ℕ) (r s : Registers) (q n f h i m : ℕ) → n ≡ field w q fields.sequentNode → f ≡ field w q fields.sequentFrame → h ≡ field w q fields.sequentHypotheses → i ≡ field w q fields.sequentLevel → m ≡ field w q fields.sequentNext → s ≡ onSequent r n f h i m → s ≡ dueSequent w r q
 unfolding dueSequent
 sequent-due w r s q n f h i m en ef eh ei em es = rw (es, en, ef, eh, ei, em)
 
-pub all-done : (w : List ℕ) (r s : Registers) → r .rest ≡ 0 → s ≡ onStage r 3 → s ≡ proceed w r
+pub all-done : (w : List ℕ) (r s : Registers) → r .rest ≡ 0 → s ≡ onStage r doneStage → s ≡ proceed w r
 unfolding proceed
 all-done w r s z es = rw (es, eq-eqb _ _ z)
 

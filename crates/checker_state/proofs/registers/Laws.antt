@@ -4,11 +4,12 @@ use native.Mathlib.Omega.{arith}
 use mathlib.Core.Path.{_≡_, _∙_}
 use mathlib.Core.List.{List}
 use borrow.Author.Tests.{lt-ltb, le-ltb, eq-eqb, ne-eqb}
+use Rattle.sheet_format.specs.Limits.{variableNames}
 use Rattle.node_table.specs.Layout.{maskOf, bitOf}
 use Rattle.line_checking.specs.declared.Registers.{Registers}
-use Rattle.line_checking.specs.Sequents.{made, onStage, broken, onBinding, onSequent, freeFrom, boundFrom, bound}
+use Rattle.line_checking.specs.Sequents.{made, onStage, broken, onBinding, onSequent, freeFrom, boundFrom, bound, brokenStage}
 
-pub line-wrong : (r s : Registers) → s ≡ onStage r 4 → (w : List ℕ) → made w s ≡ broken w r
+pub line-wrong : (r s : Registers) → s ≡ onStage r brokenStage → (w : List ℕ) → made w s ≡ broken w r
 unfolding broken
 line-wrong r s e w = rw e
 
@@ -20,19 +21,19 @@ free-none m v h =
     let z : 8 - v ≡ 0 = omega arith in
     rw z
 
-pub free-here : (m v y : ℕ) → v < 8 → y ≡ bitOf m v → y ≡ 1 → freeFrom (8 - v) m v ≡ v
+pub free-here : (m v y : ℕ) → v < variableNames → y ≡ bitOf m v → y ≡ 1 → freeFrom (8 - v) m v ≡ v
 unfolding freeFrom
 free-here m v y h ey e =
     let z : 8 - v ≡ suc (8 - (v + 1)) = omega arith in
     rw z (simp (freeFrom, ← ey, eq-eqb _ _ e))
 
-pub free-on : (m v y : ℕ) → v < 8 → y ≡ bitOf m v → (y ≡ 1 → ⊥) → freeFrom (8 - v) m v ≡ freeFrom (8 - (v + 1)) m (v + 1)
+pub free-on : (m v y : ℕ) → v < variableNames → y ≡ bitOf m v → (y ≡ 1 → ⊥) → freeFrom (8 - v) m v ≡ freeFrom (8 - (v + 1)) m (v + 1)
 unfolding freeFrom
 free-on m v y h ey e =
     let z : 8 - v ≡ suc (8 - (v + 1)) = omega arith in
     rw z (simp (freeFrom, ← ey, ne-eqb _ _ e))
 
-pub bound-next : (goal : ℕ) (r s : Registers) (v f : ℕ) → v < 8 → s ≡ onBinding r v f → s ≡ boundFrom goal r v f
+pub bound-next : (goal : ℕ) (r s : Registers) (v f : ℕ) → v < variableNames → s ≡ onBinding r v f → s ≡ boundFrom goal r v f
 unfolding boundFrom
 bound-next goal r s v f h e = e ∙ simp (boundFrom, lt-ltb _ _ h)
 

@@ -4,10 +4,10 @@ use mathlib.Core.Path.{_≡_}
 use mathlib.Core.Bool.{cond}
 use mathlib.Core.List.{List}
 use lib.Dec.{eqb}
-use Rattle.node_table.specs.Layout.{kindOf}
+use Rattle.node_table.specs.Layout.{kindOf, impliesKind}
 use Rattle.machine.specs.declared.Registers.{Registers}
 use Rattle.machine.specs.declared.Found.{Found}
-use Rattle.machine.specs.Records.{putPath, putUse}
+use Rattle.machine.specs.Records.{putPath, putUse, clauseLine}
 use Rattle.machine.specs.Changes.{onNext, onChoice, onGoals, onPath}
 use Rattle.machine.specs.Words.{narrow, up}
 use Rattle.machine.specs.Goals.{membersLeft}
@@ -15,7 +15,7 @@ use Rattle.machine.specs.Trying.{leaveOthers, putBody, putTry, tried}
 
 module _ (t : List ℕ) (c : ℕ) (r s : Registers) (m : Found) where
   -- The registers after a try.
-  pub tried-made : (p v o z : Registers) (q g x y k a : ℕ) → q ≡ cond (membersLeft c s) (up (r .acts)) (r .choice) → g ≡ cond (eqb (kindOf t (m .leaf)) 6) (up (r .acts)) (r .goals) → x ≡ r .next → y ≡ m .count → k ≡ narrow (x + y) → a ≡ up (r .acts) → p ≡ onPath r a 7 → v ≡ onNext p k → o ≡ onChoice v q → z ≡ onGoals o g → z ≡ tried t c r m s
+  pub tried-made : (p v o z : Registers) (q g x y k a : ℕ) → q ≡ cond (membersLeft c s) (up (r .acts)) (r .choice) → g ≡ cond (eqb (kindOf t (m .leaf)) impliesKind) (up (r .acts)) (r .goals) → x ≡ r .next → y ≡ m .count → k ≡ narrow (x + y) → a ≡ up (r .acts) → p ≡ onPath r a clauseLine → v ≡ onNext p k → o ≡ onChoice v q → z ≡ onGoals o g → z ≡ tried t c r m s
   unfolding tried
   tried-made p v o z q g x y k a eq eg ex ey ek ea ep ev eo ez = rw (ez, eo, ev, ep, ea, ek, ey, ex, eg, eq)
 

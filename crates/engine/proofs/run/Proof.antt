@@ -4,6 +4,7 @@ use mathlib.Core.Path.{sym, _∙_}
 use lib.ListN.{length}
 use lib.Seq.{length-take-le}
 use Rattle.sheet_format.specs.Buffers.{demanded}
+use Rattle.sheet_format.specs.Limits.{numbersPerUnit}
 use Rattle.engine_spec.proofs.Answered.{Passed}
 use Rattle.memory.proofs.Parts.{part-fits}
 use Rattle.engine.proofs.Laws.{part-demanded}
@@ -16,7 +17,7 @@ use Rattle.engine.proofs.run.Tie as tie
 passed : (c : tie.Else1) → Passed (c .before .before .before .before .before .before .args .sheet .now) (c .before .before .before .before .before .before .args .budget) (length (c .before .before .before .before .before .before .args .table .now)) (length (c .before .before .before .before .before .before .args .work .now))
 passed c = early-passed _ _ _ _ (sym (c .before .early .ensures) ∙ c .if1 .left)
 
-work-fits : (c : tie.After-wide) → 64 * c .wide .result ≤ length (c .before .before .before .before .before .before .before .args .work .now)
+work-fits : (c : tie.After-wide) → numbersPerUnit * c .wide .result ≤ length (c .before .before .before .before .before .before .before .args .work .now)
 unfolding demanded
 work-fits c =
     let h = passed (c .before) .workFits in

@@ -4,6 +4,7 @@ use native.Mathlib.Omega.{arith}
 use native.Mathlib.Numerals.{sub-one}
 use mathlib.Core.Path.{_≡_, refl, ap, _∙_}
 use mathlib.Core.List.{List}
+use Rattle.scanning.specs.Fields as fields
 use Rattle.scanning.specs.Frames.{field, put, putSlot, copyFrame, bindFrame}
 
 -- A write after others.
@@ -24,6 +25,6 @@ unfolding copyFrame
 copy-on zero w w′ r q f a h p e = absurd (omega arith)
 copy-on (suc n) w w′ r q f a h p e = rw (sub-one (suc n), e, p)
 
-pub bind-made : (w w₁ w₂ : List ℕ) (r q v s e : ℕ) → w₁ ≡ copyFrame 16 w r q 0 → w₂ ≡ putSlot w₁ r v s e → w₂ ≡ bindFrame w r q v s e
+pub bind-made : (w w₁ w₂ : List ℕ) (r q v s e : ℕ) → w₁ ≡ copyFrame fields.frameNumbers w r q 0 → w₂ ≡ putSlot w₁ r v s e → w₂ ≡ bindFrame w r q v s e
 unfolding bindFrame
 bind-made w w₁ w₂ r q v s e p h = rw (h, p)

@@ -10,6 +10,7 @@ use Rattle.scanning.specs.declared.Number.{Number}
 use Rattle.scanning.specs.declared.Number.the-variants.{Value, Missing}
 use Rattle.scanning.specs.declared.Scan.{Scan}
 use Rattle.scanning.specs.declared.Scan.the-variants.{Term, Malformed}
+use Rattle.scanning.specs.Fields as fields
 use Rattle.scanning.specs.Ranges.{readNumber}
 use Rattle.scanning.specs.Frames.{copyFrame}
 use Rattle.scanning.specs.Instances.{sameAtoms}
@@ -57,7 +58,7 @@ module _ (b t x w : List ℕ) (r : Registers) (q n : ℕ) where
     terms-none h em = rw (useTerms, h) em
 
 module _ (b t : List ℕ) (symbols : ℕ) (x w : List ℕ) (r : Registers) (q i e : ℕ) (m : Made) where
-  pub found-used : (a : Found) (f : ℕ) (w₁ w₂ : List ℕ) (o : Scan) → w₁ ≡ copyFrame 16 w q f 0 → read w₂ o ≡ prefixFrom (a .count) b t symbols x w₁ q (a .names) i (r .level) e → m ≡ useTerms b t x r q (a .leaf) (read w₂ o) e → m ≡ useFound b t symbols x w r q a f i e
+  pub found-used : (a : Found) (f : ℕ) (w₁ w₂ : List ℕ) (o : Scan) → w₁ ≡ copyFrame fields.frameNumbers w q f 0 → read w₂ o ≡ prefixFrom (a .count) b t symbols x w₁ q (a .names) i (r .level) e → m ≡ useTerms b t x r q (a .leaf) (read w₂ o) e → m ≡ useFound b t symbols x w r q a f i e
   unfolding useFound
   found-used a f w₁ w₂ o e₁ e₂ em = rw (em, e₂, e₁)
 

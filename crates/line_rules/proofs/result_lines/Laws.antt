@@ -6,6 +6,7 @@ use mathlib.Core.List.{List}
 use lib.ListN.{length}
 use borrow.Author.Tests.{le-leb, lt-leb, eq-eqb, ne-eqb}
 use Rattle.sheet_format.specs.Bytes.{ascii}
+use Rattle.sheet_format.specs.Limits.{maxBudget}
 use Rattle.scanning.specs.declared.Number.{Number}
 use Rattle.scanning.specs.declared.Number.the-variants.{Value, Missing}
 use Rattle.scanning.specs.Ranges.{readNumber}
@@ -26,12 +27,12 @@ module _ (a x : List ℕ) (i e n : ℕ) (en : n ≡ e - i) where
 
 module _ (t : List ℕ) (goal : ℕ) (w : List ℕ) (r : Registers) where
   module _ (n j e : ℕ) where
-    pub open-right : (s : Registers) → j ≡ e → 1 ≤ n → n ≤ 50000 → s ≡ bound t goal r 0 0 → made w s ≡ openWith t goal w r n j e
+    pub open-right : (s : Registers) → j ≡ e → 1 ≤ n → n ≤ maxBudget → s ≡ bound t goal r 0 0 → made w s ≡ openWith t goal w r n j e
     unfolding openWith
     open-right s h a b es = rw es (simp (openWith, eq-eqb _ _ h, le-leb _ _ a, le-leb _ _ b))
 
     module _ (m : Made) (em : m ≡ broken w r) where
-      pub open-many : j ≡ e → 1 ≤ n → 50000 < n → m ≡ openWith t goal w r n j e
+      pub open-many : j ≡ e → 1 ≤ n → maxBudget < n → m ≡ openWith t goal w r n j e
       unfolding openWith
       open-many h a b = em ∙ simp (openWith, eq-eqb _ _ h, le-leb _ _ a, lt-leb _ _ b)
 

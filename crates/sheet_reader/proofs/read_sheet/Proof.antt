@@ -1,8 +1,10 @@
-use Prim.Native.Nat.{_-_}
+use Prim.Native.Nat.{_-_, _≤_}
 use native.Mathlib.Omega.{arith}
 use lib.ListN.{length}
 use borrow.Author.Needs.{needs}
-use Rattle.sheet_reader.proofs.sheet_lines.Reading.{Reading, LineEnds, reading-begins, reading-line, reading-on, reading-stops, reading-ends, reading-open, reading-none}
+use Rattle.sheet_format.specs.Limits.{maxSheetBytes}
+use Rattle.sheet_reader.proofs.sheet_lines.Reading.{Reading, LineEnds, reading-begins, reading-line, reading-on, reading-stops}
+use Rattle.sheet_reader.proofs.sheet_lines.Reading.{reading-ends, reading-open, reading-none}
 use Rattle.sheet_reader.proofs.read_sheet.Statement.{statement}
 use Rattle.sheet_reader.proofs.read_sheet.Tie as tie
 
@@ -12,71 +14,64 @@ Inv-loop sheet t₀ k₀ at₀ line₀ t k at line = Reading sheet t₀ t k at l
 abbrev μ-loop : tie.MeasureT-loop
 μ-loop sheet t₀ k₀ at₀ line₀ t k at line = length sheet - at
 
--- where the line ends
-ends : (c : tie.Else1 Inv-loop μ-loop) → LineEnds (c .before .before .before .before .before .before .args .sheet .now) (c .before .before .before .loop .at) (c .before .before .before .loop .line) (c .before .line-end .result)
-ends c = reading-line (c .before .before .before .loop .inv) (c .before .line-end .ensures) (c .if1 .left)
+-- How long the sheet is at most, and where its line ends.
+ends : (c : tie.Else1 Inv-loop μ-loop)
+    → (length (c .before .before .before .before .before .before .args .sheet .now) ≤ maxSheetBytes)
+    × LineEnds (c .before .before .before .before .before .before .args .sheet .now) (c .before .before .before .loop .at)
+    (c .before .before .before .loop .line) (c .before .line-end .result)
+ends c =
+    let start = c .before .before .before .before .before .before in
+    (start .pre .0, reading-line (c .before .before .before .loop .inv) (c .before .line-end .ensures) (c .if1 .left))
 
 loop-holds : tie.Need-loop-holds Inv-loop μ-loop
 loop-holds c = reading-begins _ _ (c .before .before .pre .1)
 
 returns : tie.Need-returns Inv-loop μ-loop
 returns c =
-    reading-open _ _ _ _ _ _ _
-    (c .before .before .before .before .loop .inv) _
-    (c .before .before .before .loop-test .taken)
-    (c .before .before .line-end .ensures)
-    (c .before .if1 .taken)
-    (c .refused .ensures)
+    let at-line-end = c .before .before in
+    reading-open _ _ _ _ _ _ _ (at-line-end .before .before .loop .inv) _ (at-line-end .before .loop-test .taken)
+    (at-line-end .line-end .ensures) (c .before .if1 .taken) (c .refused .ensures)
 
 read-at-requires : tie.Need-read-at-requires Inv-loop μ-loop
-read-at-requires c κs = let w = ends (c .before) in (c .before .before .before .before .before .before .before .pre .0, w .from, search needs)
+read-at-requires c κs = let e = ends (c .before) in (e .0, e .1 .from, search needs)
 
 returns-2 : tie.Need-returns-2 Inv-loop μ-loop
 returns-2 c =
-    reading-stops _ _ _ _ _ _ _ _ _
-    (c .before .before .before .before .before .before .before .before .before .before .before .loop .inv)
-    (c .before .before .before .before .before .before .before .before .before .before .loop-test .taken)
-    (c .before .before .before .before .before .before .before .before .before .line-end .ensures)
-    (c .before .before .before .before .before .before .before .before .if1 .left)
-    (c .before .before .before .before .before .before .read-at .ensures) _ _
-    (c .before .before .taken2 .given .1)
+    let at-read-at = c .before .before .before .before .before .before in
+    let at-if1 = at-read-at .before .before in
+    reading-stops _ _ _ _ _ _ _ _ _ (at-if1 .before .before .before .loop .inv) (at-if1 .before .before .loop-test .taken)
+    (at-if1 .before .line-end .ensures) (at-if1 .if1 .left) (at-read-at .read-at .ensures) _ _ (c .before .before .taken2 .given .1)
     (c .refused2 .ensures)
 
 add-finish : tie.Need-add-finish Inv-loop μ-loop
-add-finish c = let w = ends (c .before .before .before .before .before .before .before) in omega (arith, c .before .before .before .before .before .before .before .before .before .before .before .before .before .pre .0)
+add-finish c = let e = ends (c .before .before .before .before .before .before .before) in omega arith
 
 add-finish-2 : tie.Need-add-finish-2 Inv-loop μ-loop
-add-finish-2 c = let w = ends (c .before .before .before .before .before .before .before) in omega (arith, c .before .before .before .before .before .before .before .before .before .before .before .before .before .pre .0)
+add-finish-2 c = let e = ends (c .before .before .before .before .before .before .before) in omega arith
 
 returns-3 : tie.Need-returns-3 Inv-loop μ-loop
 returns-3 c =
-    reading-ends _ _ _ _ _ _ _ _ _
-    (c .before .before .before .before .before .before .before .before .before .before .before .loop .inv)
-    (c .before .before .before .before .before .before .before .before .before .before .loop-test .taken)
-    (c .before .before .before .before .before .before .before .before .before .line-end .ensures)
-    (c .before .before .before .before .before .before .before .before .if1 .left)
-    (c .before .before .before .before .before .before .read-at .ensures) _ _
-    (c .before .before .taken3 .given .1)
+    let at-read-at = c .before .before .before .before .before .before in
+    let at-if1 = at-read-at .before .before in
+    reading-ends _ _ _ _ _ _ _ _ _ (at-if1 .before .before .before .loop .inv) (at-if1 .before .before .loop-test .taken)
+    (at-if1 .before .line-end .ensures) (at-if1 .if1 .left) (at-read-at .read-at .ensures) _ _ (c .before .before .taken3 .given .1)
     (c .finish .ensures)
 
 add-at : tie.Need-add-at Inv-loop μ-loop
-add-at c = let w = ends (c .before .before .before .before .before .before .before) in omega (arith, c .before .before .before .before .before .before .before .before .before .before .before .before .before .pre .0)
+add-at c = let e = ends (c .before .before .before .before .before .before .before) in omega arith
 
 add-line : tie.Need-add-line Inv-loop μ-loop
-add-line c = let w = ends (c .before .before .before .before .before .before .before) in omega (arith, c .before .before .before .before .before .before .before .before .before .before .before .before .before .pre .0)
+add-line c = let e = ends (c .before .before .before .before .before .before .before) in omega arith
 
 loop-less : tie.Need-loop-less Inv-loop μ-loop
-loop-less c = let w = ends (c .before .before .before .before .before .before .before) in omega (arith, c .before .before .before .before .before .before .before .before .before .before .before .before .before .pre .0)
+loop-less c = let e = ends (c .before .before .before .before .before .before .before) in omega arith
 
 loop-again : tie.Need-loop-again Inv-loop μ-loop
 loop-again c =
-    reading-on _ _ _ _ _ _ _ _ _
-    (c .before .before .before .before .before .before .before .before .before .before .loop .inv)
-    (c .before .before .before .before .before .before .before .before .before .loop-test .taken)
-    (c .before .before .before .before .before .before .before .before .line-end .ensures)
-    (c .before .before .before .before .before .before .before .if1 .left)
-    (c .before .before .before .before .before .read-at .ensures) _
-    (c .before .taken .given .1)
+    let at-read-at = c .before .before .before .before .before in
+    let at-if1 = at-read-at .before .before in
+    reading-on _ _ _ _ _ _ _ _ _ (at-if1 .before .before .before .loop .inv) (at-if1 .before .before .loop-test .taken)
+    (at-if1 .before .line-end .ensures) (at-if1 .if1 .left) (at-read-at .read-at .ensures) _ (c .before .taken .given .1)
 
 returns-4 : tie.Need-returns-4 Inv-loop μ-loop
 returns-4 c = reading-none _ _ _ _ _ _ _ (c .before .before .loop .inv) (c .before .loop-test .left) (c .refused3 .ensures)

@@ -8,7 +8,7 @@ use borrow.Author.Tests.{eq-eqb, ne-eqb}
 use Rattle.machine.specs.Records.{field, put, cellOf, putCell}
 use Rattle.machine.specs.Words.{narrow, up, tagOf, nameOf}
 use Rattle.printing.specs.declared.Pen.{Pen}
-use Rattle.printing.specs.Marks.{onVariables, onConstants, marked, seek, markVariable, markConstant}
+use Rattle.printing.specs.Marks.{onVariables, onConstants, marked, seek, markVariable, markConstant, constantNumberField}
 
 -- Looking through bindings.
 pub seek-end : (n : ℕ) (w : List ℕ) (a : ℕ) → n ≤ 0 → seek n w a ≡ a
@@ -41,10 +41,10 @@ module _ (w : List ℕ) (p : Pen) (x b : ℕ) where
   unfolding markVariable
   variable-numbered n k a w′ q eb e en ek ea ew eq = rw (eq, ew, ea, ek) (simp (markVariable, ← eb, ← en, eq-eqb _ _ e))
 
-  pub constant-marked : b ≡ field w x 63 → (b ≡ 0 → ⊥) → marked w p ≡ markConstant w p x
+  pub constant-marked : b ≡ field w x constantNumberField → (b ≡ 0 → ⊥) → marked w p ≡ markConstant w p x
   unfolding markConstant
   constant-marked eb e = simp (markConstant, ← eb, ne-eqb _ _ e)
 
-  pub constant-numbered : (n : ℕ) (w′ : List ℕ) (q : Pen) → b ≡ field w x 63 → b ≡ 0 → n ≡ up (p .constants) → w′ ≡ put w x 63 n → q ≡ onConstants p n → marked w′ q ≡ markConstant w p x
+  pub constant-numbered : (n : ℕ) (w′ : List ℕ) (q : Pen) → b ≡ field w x constantNumberField → b ≡ 0 → n ≡ up (p .constants) → w′ ≡ put w x constantNumberField n → q ≡ onConstants p n → marked w′ q ≡ markConstant w p x
   unfolding markConstant
   constant-numbered n w′ q eb e en ew eq = rw (eq, ew) (simp (markConstant, ← eb, ← en, eq-eqb _ _ e))

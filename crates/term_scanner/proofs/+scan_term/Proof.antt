@@ -1,5 +1,16 @@
 use Prim.Native.Nat.{_-_, _<_, ℕ}
-use Rattle.term_scanner.proofs.Laws.{mark-inside, more-closed, more-none, more-on, more-other, term-applied, term-constant, term-mark, term-rank, term-unknown}
+use Rattle.term_scanner.proofs.Laws.{
+  mark-inside,
+  more-closed,
+  more-none,
+  more-on,
+  more-other,
+  term-applied,
+  term-constant,
+  term-mark,
+  term-rank,
+  term-unknown,
+}
 use Rattle.term_scanner.proofs.ranges.Laws.{inside}
 use Rattle.scanning.specs.Scanning.{scanMore, scanTerm}
 use borrow.Author.Needs.{needs}
@@ -7,9 +18,9 @@ use borrow.Fn.Kinds.{In}
 use borrow.Fn.PlainCycle.{Measures, and, falls, is}
 use mathlib.Core.Path.{_∙_, _≡_, sym}
 use native.Mathlib.Omega.{arith}
-use Rattle.term_scanner.proofs.scan_term.Reads as scan-term
-use Rattle.term_scanner.proofs.scan_term.Kinds as scan-term-kinds
-use Rattle.term_scanner.proofs.+scan_term.Lts-scan_term as scan-term-lts
+use Rattle.term_scanner.proofs.scan_term.Reads as own
+use Rattle.term_scanner.proofs.scan_term.Kinds as kinds
+use Rattle.term_scanner.proofs.+scan_term.Lts-scan_term as lts
 use Rattle.memory.proofs.byte.Reads as byte-reads
 use Rattle.term_scanner.proofs.higher_of.Reads as higher-of-reads
 use Rattle.term_scanner.proofs.is_applied.Reads as is-applied-reads
@@ -22,23 +33,17 @@ use Rattle.node_table.proofs.arity.Reads as arity-reads
 use Rattle.term_scanner.proofs.+scan_term.{statement}
 use Rattle.term_scanner.proofs.+scan_term.Tie.{close}
 
-abbrev μ-scan-term : Measures 3 scan-term-kinds.ps ℕ
-μ-scan-term κs a = a .0
+abbrev μ : Measures 3 kinds.ps ℕ
+μ κs a = a .0
 
-abbrev scan-term-at : ℕ → In 3 scan-term-kinds.ps
-scan-term-at t = and 3 scan-term-kinds.ps (is 3 scan-term-kinds.ps μ-scan-term t) scan-term.Pre
+abbrev at : ℕ → In 3 kinds.ps
+at t = and 3 kinds.ps (is 3 kinds.ps μ t) own.Pre
 
-abbrev scan-term-below : ℕ → In 3 scan-term-kinds.ps
-scan-term-below t =
-    and 3 scan-term-kinds.ps (falls 3 scan-term-kinds.ps _<_ μ-scan-term t) scan-term.Pre
+abbrev below : ℕ → In 3 kinds.ps
+below t = and 3 kinds.ps (falls 3 kinds.ps _<_ μ t) own.Pre
 
-abbrev scan-term-Inv-loop : scan-term-lts.InvT-loop
-scan-term-Inv-loop rank sheet t symbols text i at₀ k left₀ mark₀ level₀ at left mark level = (0 < mark) × (scanMore (scanTerm (rank - 1) sheet t symbols text) left₀ text mark₀ at₀ level₀ ≡ scanMore (scanTerm (rank - 1) sheet t symbols text) left text mark at level)
-
-abbrev scan-term-μ-loop : scan-term-lts.MeasureT-loop
-scan-term-μ-loop rank sheet t symbols text i at₀ k left₀ mark₀ level₀ at left mark level = left
-
-scan-term-returns : (t : ℕ) → scan-term-lts.Need-returns (
+abbrev claims : ℕ → lts.Claims
+claims t = (
   byte-reads.Asked,
   byte-reads.Learnt,
   is-mark-reads.Asked,
@@ -53,257 +58,116 @@ scan-term-returns : (t : ℕ) → scan-term-lts.Need-returns (
   is-applied-reads.Learnt,
   arity-reads.Asked,
   arity-reads.Learnt,
-  scan-term-below t,
-  scan-term.Post,
-  higher-of-reads.Asked,
-  higher-of-reads.Learnt,
-  scan-close-reads.Asked,
-  scan-close-reads.Learnt,
-) (scan-term-at t) scan-term.Post scan-term-Inv-loop scan-term-μ-loop
-scan-term-returns t c = sym (term-rank _ _ _ _ _ _ (c .if1 .taken))
-
-scan-term-add-scan-symbol : (t : ℕ) → scan-term-lts.Need-add-scan-symbol (
-  byte-reads.Asked,
-  byte-reads.Learnt,
-  is-mark-reads.Asked,
-  is-mark-reads.Learnt,
-  scan-symbol-reads.Asked,
-  scan-symbol-reads.Learnt,
-  name-end-reads.Asked,
-  name-end-reads.Learnt,
-  symbol-from-reads.Asked,
-  symbol-from-reads.Learnt,
-  is-applied-reads.Asked,
-  is-applied-reads.Learnt,
-  arity-reads.Asked,
-  arity-reads.Learnt,
-  scan-term-below t,
-  scan-term.Post,
-  higher-of-reads.Asked,
-  higher-of-reads.Learnt,
-  scan-close-reads.Asked,
-  scan-close-reads.Learnt,
-) (scan-term-at t) scan-term.Post scan-term-Inv-loop scan-term-μ-loop
-scan-term-add-scan-symbol t c = omega (arith, mark-inside (c .before .before .before .before .before .before .before .args .text .now) _ _ _ (c .before .before .byte .ensures) (c .before .is-mark .ensures) (c .if2 .taken))
-
-scan-term-returns-2 : (t : ℕ) → scan-term-lts.Need-returns-2 (
-  byte-reads.Asked,
-  byte-reads.Learnt,
-  is-mark-reads.Asked,
-  is-mark-reads.Learnt,
-  scan-symbol-reads.Asked,
-  scan-symbol-reads.Learnt,
-  name-end-reads.Asked,
-  name-end-reads.Learnt,
-  symbol-from-reads.Asked,
-  symbol-from-reads.Learnt,
-  is-applied-reads.Asked,
-  is-applied-reads.Learnt,
-  arity-reads.Asked,
-  arity-reads.Learnt,
-  scan-term-below t,
-  scan-term.Post,
-  higher-of-reads.Asked,
-  higher-of-reads.Learnt,
-  scan-close-reads.Asked,
-  scan-close-reads.Learnt,
-) (scan-term-at t) scan-term.Post scan-term-Inv-loop scan-term-μ-loop
-scan-term-returns-2 t c = term-mark _ _ _ _ _ _ _ _ _ (c .before .before .before .before .if1 .left) (c .before .before .before .byte .ensures) (c .before .before .is-mark .ensures) (c .before .if2 .taken) (c .scan-symbol .ensures)
-
-scan-term-returns-3 : (t : ℕ) → scan-term-lts.Need-returns-3 (
-  byte-reads.Asked,
-  byte-reads.Learnt,
-  is-mark-reads.Asked,
-  is-mark-reads.Learnt,
-  scan-symbol-reads.Asked,
-  scan-symbol-reads.Learnt,
-  name-end-reads.Asked,
-  name-end-reads.Learnt,
-  symbol-from-reads.Asked,
-  symbol-from-reads.Learnt,
-  is-applied-reads.Asked,
-  is-applied-reads.Learnt,
-  arity-reads.Asked,
-  arity-reads.Learnt,
-  scan-term-below t,
-  scan-term.Post,
-  higher-of-reads.Asked,
-  higher-of-reads.Learnt,
-  scan-close-reads.Asked,
-  scan-close-reads.Learnt,
-) (scan-term-at t) scan-term.Post scan-term-Inv-loop scan-term-μ-loop
-scan-term-returns-3 t c = term-constant _ _ _ _ _ _ _ _ _ _ _ _ (c .before .before .before .before .before .before .before .before .before .if1 .left) (c .before .before .before .before .before .before .before .before .byte .ensures) (c .before .before .before .before .before .before .before .is-mark .ensures) (c .before .before .before .before .before .before .if2 .left) (c .before .before .before .before .before .name-end .ensures) (c .before .before .before .before .symbol-from .ensures) (c .before .before .before .is-applied .ensures) (c .before .before .if3 .taken) (c .before .arity .ensures) (c .if4 .taken)
-
-scan-term-add-scan-term : (t : ℕ) → scan-term-lts.Need-add-scan-term (
-  byte-reads.Asked,
-  byte-reads.Learnt,
-  is-mark-reads.Asked,
-  is-mark-reads.Learnt,
-  scan-symbol-reads.Asked,
-  scan-symbol-reads.Learnt,
-  name-end-reads.Asked,
-  name-end-reads.Learnt,
-  symbol-from-reads.Asked,
-  symbol-from-reads.Learnt,
-  is-applied-reads.Asked,
-  is-applied-reads.Learnt,
-  arity-reads.Asked,
-  arity-reads.Learnt,
-  scan-term-below t,
-  scan-term.Post,
-  higher-of-reads.Asked,
-  higher-of-reads.Learnt,
-  scan-close-reads.Asked,
-  scan-close-reads.Learnt,
-) (scan-term-at t) scan-term.Post scan-term-Inv-loop scan-term-μ-loop
-scan-term-add-scan-term t c = omega (arith, inside (c .before .before .before .before .before .before .before .before .before .before .before .before .before .before .before .before .before .args .text .now) _ _ _ (c .before .byte2 .ensures) (c .if5 .taken) (c .before .before .before .loop .inv .0))
-
-scan-term-returns-4 : (t : ℕ) → scan-term-lts.Need-returns-4 (
-  byte-reads.Asked,
-  byte-reads.Learnt,
-  is-mark-reads.Asked,
-  is-mark-reads.Learnt,
-  scan-symbol-reads.Asked,
-  scan-symbol-reads.Learnt,
-  name-end-reads.Asked,
-  name-end-reads.Learnt,
-  symbol-from-reads.Asked,
-  symbol-from-reads.Learnt,
-  is-applied-reads.Asked,
-  is-applied-reads.Learnt,
-  arity-reads.Asked,
-  arity-reads.Learnt,
-  scan-term-below t,
-  scan-term.Post,
-  higher-of-reads.Asked,
-  higher-of-reads.Learnt,
-  scan-close-reads.Asked,
-  scan-close-reads.Learnt,
-) (scan-term-at t) scan-term.Post scan-term-Inv-loop scan-term-μ-loop
-scan-term-returns-4 t c = sym (term-applied _ _ _ _ _ _ _ _ _ _ _ _ (c .before .before .before .before .before .before .before .before .before .before .before .before .before .before .before .before .if1 .left) (c .before .before .before .before .before .before .before .before .before .before .before .before .before .before .before .byte .ensures) (c .before .before .before .before .before .before .before .before .before .before .before .before .before .before .is-mark .ensures) (c .before .before .before .before .before .before .before .before .before .before .before .before .before .if2 .left) (c .before .before .before .before .before .before .before .before .before .before .before .before .name-end .ensures) (c .before .before .before .before .before .before .before .before .before .before .before .symbol-from .ensures) (c .before .before .before .before .before .before .before .before .before .before .is-applied .ensures) (c .before .before .before .before .before .before .before .before .before .if3 .taken) (c .before .before .before .before .before .before .before .before .arity .ensures) (c .before .before .before .before .before .before .before .if4 .left) ∙ (c .before .before .before .before .before .before .loop .inv .1) ∙ more-none _ _ _ _ _ _ _ _ (c .before .before .before .before .before .loop-test .taken) (c .before .before .before .before .byte2 .ensures) (c .before .before .before .if5 .taken) (c .before .before .scan-term .ensures) (c .enum-told .given .1))
-
-scan-term-loop-again : (t : ℕ) → scan-term-lts.Need-loop-again (
-  byte-reads.Asked,
-  byte-reads.Learnt,
-  is-mark-reads.Asked,
-  is-mark-reads.Learnt,
-  scan-symbol-reads.Asked,
-  scan-symbol-reads.Learnt,
-  name-end-reads.Asked,
-  name-end-reads.Learnt,
-  symbol-from-reads.Asked,
-  symbol-from-reads.Learnt,
-  is-applied-reads.Asked,
-  is-applied-reads.Learnt,
-  arity-reads.Asked,
-  arity-reads.Learnt,
-  scan-term-below t,
-  scan-term.Post,
-  higher-of-reads.Asked,
-  higher-of-reads.Learnt,
-  scan-close-reads.Asked,
-  scan-close-reads.Learnt,
-) (scan-term-at t) scan-term.Post scan-term-Inv-loop scan-term-μ-loop
-scan-term-loop-again t c = (search needs, (c .before .before .before .before .before .before .before .before .loop .inv .1) ∙ more-on _ _ _ _ _ _ _ _ _ _ _ (c .before .before .before .before .before .before .before .loop-test .taken) (c .before .before .before .before .before .before .byte2 .ensures) (c .before .before .before .before .before .if5 .taken) (c .before .before .before .before .scan-term .ensures) (c .before .before .e .given .1) (c .higher-of .ensures))
-
-scan-term-returns-5 : (t : ℕ) → scan-term-lts.Need-returns-5 (
-  byte-reads.Asked,
-  byte-reads.Learnt,
-  is-mark-reads.Asked,
-  is-mark-reads.Learnt,
-  scan-symbol-reads.Asked,
-  scan-symbol-reads.Learnt,
-  name-end-reads.Asked,
-  name-end-reads.Learnt,
-  symbol-from-reads.Asked,
-  symbol-from-reads.Learnt,
-  is-applied-reads.Asked,
-  is-applied-reads.Learnt,
-  arity-reads.Asked,
-  arity-reads.Learnt,
-  scan-term-below t,
-  scan-term.Post,
-  higher-of-reads.Asked,
-  higher-of-reads.Learnt,
-  scan-close-reads.Asked,
-  scan-close-reads.Learnt,
-) (scan-term-at t) scan-term.Post scan-term-Inv-loop scan-term-μ-loop
-scan-term-returns-5 t c = sym (term-applied _ _ _ _ _ _ _ _ _ _ _ _ (c .before .before .before .before .before .before .before .before .before .before .before .before .before .if1 .left) (c .before .before .before .before .before .before .before .before .before .before .before .before .byte .ensures) (c .before .before .before .before .before .before .before .before .before .before .before .is-mark .ensures) (c .before .before .before .before .before .before .before .before .before .before .if2 .left) (c .before .before .before .before .before .before .before .before .before .name-end .ensures) (c .before .before .before .before .before .before .before .before .symbol-from .ensures) (c .before .before .before .before .before .before .before .is-applied .ensures) (c .before .before .before .before .before .before .if3 .taken) (c .before .before .before .before .before .arity .ensures) (c .before .before .before .before .if4 .left) ∙ (c .before .before .before .loop .inv .1) ∙ more-other _ _ _ _ _ _ _ (c .before .before .loop-test .taken) (c .before .byte2 .ensures) (c .if5 .left))
-
-scan-term-returns-6 : (t : ℕ) → scan-term-lts.Need-returns-6 (
-  byte-reads.Asked,
-  byte-reads.Learnt,
-  is-mark-reads.Asked,
-  is-mark-reads.Learnt,
-  scan-symbol-reads.Asked,
-  scan-symbol-reads.Learnt,
-  name-end-reads.Asked,
-  name-end-reads.Learnt,
-  symbol-from-reads.Asked,
-  symbol-from-reads.Learnt,
-  is-applied-reads.Asked,
-  is-applied-reads.Learnt,
-  arity-reads.Asked,
-  arity-reads.Learnt,
-  scan-term-below t,
-  scan-term.Post,
-  higher-of-reads.Asked,
-  higher-of-reads.Learnt,
-  scan-close-reads.Asked,
-  scan-close-reads.Learnt,
-) (scan-term-at t) scan-term.Post scan-term-Inv-loop scan-term-μ-loop
-scan-term-returns-6 t c = more-closed _ _ _ _ _ _ _ (c .before .loop-test .left) (c .scan-close .ensures) ∙ sym (term-applied _ _ _ _ _ _ _ _ _ _ _ _ (c .before .before .before .before .before .before .before .before .before .before .before .before .if1 .left) (c .before .before .before .before .before .before .before .before .before .before .before .byte .ensures) (c .before .before .before .before .before .before .before .before .before .before .is-mark .ensures) (c .before .before .before .before .before .before .before .before .before .if2 .left) (c .before .before .before .before .before .before .before .before .name-end .ensures) (c .before .before .before .before .before .before .before .symbol-from .ensures) (c .before .before .before .before .before .before .is-applied .ensures) (c .before .before .before .before .before .if3 .taken) (c .before .before .before .before .arity .ensures) (c .before .before .before .if4 .left) ∙ (c .before .before .loop .inv .1))
-
-scan-term-returns-7 : (t : ℕ) → scan-term-lts.Need-returns-7 (
-  byte-reads.Asked,
-  byte-reads.Learnt,
-  is-mark-reads.Asked,
-  is-mark-reads.Learnt,
-  scan-symbol-reads.Asked,
-  scan-symbol-reads.Learnt,
-  name-end-reads.Asked,
-  name-end-reads.Learnt,
-  symbol-from-reads.Asked,
-  symbol-from-reads.Learnt,
-  is-applied-reads.Asked,
-  is-applied-reads.Learnt,
-  arity-reads.Asked,
-  arity-reads.Learnt,
-  scan-term-below t,
-  scan-term.Post,
-  higher-of-reads.Asked,
-  higher-of-reads.Learnt,
-  scan-close-reads.Asked,
-  scan-close-reads.Learnt,
-) (scan-term-at t) scan-term.Post scan-term-Inv-loop scan-term-μ-loop
-scan-term-returns-7 t c = term-unknown _ _ _ _ _ _ _ _ _ _ _ (c .before .before .before .before .before .before .before .if1 .left) (c .before .before .before .before .before .before .byte .ensures) (c .before .before .before .before .before .is-mark .ensures) (c .before .before .before .before .if2 .left) (c .before .before .before .name-end .ensures) (c .before .before .symbol-from .ensures) (c .before .is-applied .ensures) (c .if3 .left)
-
-pub +scan-term-spec : {M : Type 1} → statement M
-+scan-term-spec = close μ-scan-term λ t. scan-term-lts.spec (
-  byte-reads.Asked,
-  byte-reads.Learnt,
-  is-mark-reads.Asked,
-  is-mark-reads.Learnt,
-  scan-symbol-reads.Asked,
-  scan-symbol-reads.Learnt,
-  name-end-reads.Asked,
-  name-end-reads.Learnt,
-  symbol-from-reads.Asked,
-  symbol-from-reads.Learnt,
-  is-applied-reads.Asked,
-  is-applied-reads.Learnt,
-  arity-reads.Asked,
-  arity-reads.Learnt,
-  scan-term-below t,
-  scan-term.Post,
+  below t,
+  own.Post,
   higher-of-reads.Asked,
   higher-of-reads.Learnt,
   scan-close-reads.Asked,
   scan-close-reads.Learnt,
 )
-    (scan-term-at t) scan-term.Post scan-term-Inv-loop scan-term-μ-loop (scan-term-returns t) (λ c κs. search needs)
-    (λ c κs. search needs) (scan-term-add-scan-symbol t) (λ c κs. search needs) (scan-term-returns-2 t) (λ c κs. search needs)
-    (λ c κs. search needs) (λ c κs. search needs) (λ c κs. search needs) (scan-term-returns-3 t) (λ c. search needs)
-    (λ c κs. search needs) (λ c. search needs) (scan-term-add-scan-term t) (λ c κs. search needs) (λ c. search needs)
-    (λ c. search needs) (scan-term-returns-4 t) (λ c κs. search needs) (λ c. search needs) (λ c. search needs)
-    (scan-term-loop-again t) (scan-term-returns-5 t) (λ c κs. search needs) (scan-term-returns-6 t) (scan-term-returns-7 t)
+
+abbrev Inv-loop : lts.InvT-loop
+Inv-loop rank sheet t symbols text i at₀ k left₀ mark₀ level₀ at left mark level =
+    (0 < mark) × (scanMore (scanTerm (rank - 1) sheet t symbols text) left₀ text mark₀ at₀ level₀
+    ≡ scanMore (scanTerm (rank - 1) sheet t symbols text) left text mark at level)
+
+abbrev μ-loop : lts.MeasureT-loop
+μ-loop rank sheet t symbols text i at₀ k left₀ mark₀ level₀ at left mark level = left
+
+returns : (t : ℕ) → lts.Need-returns (claims t) (at t) own.Post Inv-loop μ-loop
+returns t c = sym (term-rank _ _ _ _ _ _ (c .if1 .taken))
+
+add-scan-symbol : (t : ℕ) → lts.Need-add-scan-symbol (claims t) (at t) own.Post Inv-loop μ-loop
+add-scan-symbol t c =
+    let start = c .before .before .before .before .before .before .before in
+    omega (
+      arith,
+      mark-inside (start .args .text .now) _ _ _ (c .before .before .byte .ensures) (c .before .is-mark .ensures)
+          (c .if2 .taken),
+    )
+
+returns-2 : (t : ℕ) → lts.Need-returns-2 (claims t) (at t) own.Post Inv-loop μ-loop
+returns-2 t c =
+    term-mark _ _ _ _ _ _ _ _ _ (c .before .before .before .before .if1 .left) (c .before .before .before .byte .ensures)
+    (c .before .before .is-mark .ensures)
+    (c .before .if2 .taken) (c .scan-symbol .ensures)
+
+returns-3 : (t : ℕ) → lts.Need-returns-3 (claims t) (at t) own.Post Inv-loop μ-loop
+returns-3 t c =
+    let at-symbol-from = c .before .before .before .before in
+    let at-byte = at-symbol-from .before .before .before .before in
+    term-constant _ _ _ _ _ _ _ _ _ _ _ _ (at-byte .before .if1 .left) (at-byte .byte .ensures)
+    (at-symbol-from .before .before .before .is-mark .ensures) (at-symbol-from .before .before .if2 .left)
+    (at-symbol-from .before .name-end .ensures) (at-symbol-from .symbol-from .ensures) (c .before .before .before .is-applied .ensures)
+    (c .before .before .if3 .taken) (c .before .arity .ensures) (c .if4 .taken)
+
+add-scan-term : (t : ℕ) → lts.Need-add-scan-term (claims t) (at t) own.Post Inv-loop μ-loop
+add-scan-term t c =
+    let start = c .before .before .before .before .before .before .before .before .before .before .before .before .before .before
+    .before .before .before in
+    omega (
+      arith,
+      inside (start .args .text .now) _ _ _ (c .before .byte2 .ensures) (c .if5 .taken)
+          (c .before .before .before .loop .inv .0),
+    )
+
+returns-4 : (t : ℕ) → lts.Need-returns-4 (claims t) (at t) own.Post Inv-loop μ-loop
+returns-4 t c =
+    let at-byte2 = c .before .before .before .before in
+    let at-arity = at-byte2 .before .before .before .before in
+    let at-name-end = at-arity .before .before .before .before in
+    sym (term-applied _ _ _ _ _ _ _ _ _ _ _ _ (at-name-end .before .before .before .before .if1 .left)
+    (at-name-end .before .before .before .byte .ensures)
+    (at-name-end .before .before .is-mark .ensures) (at-name-end .before .if2 .left) (at-name-end .name-end .ensures)
+    (at-arity .before .before .before .symbol-from .ensures) (at-arity .before .before .is-applied .ensures) (at-arity .before .if3 .taken)
+    (at-arity .arity .ensures) (at-byte2 .before .before .before .if4 .left) ∙ (at-byte2 .before .before .loop .inv .1)
+    ∙ more-none _ _ _ _ _ _ _ _ (at-byte2 .before .loop-test .taken) (at-byte2 .byte2 .ensures) (c .before .before .before .if5 .taken)
+    (c .before .before .scan-term .ensures) (c .enum-told .given .1))
+
+loop-again : (t : ℕ) → lts.Need-loop-again (claims t) (at t) own.Post Inv-loop μ-loop
+loop-again t c =
+    let at-scan-term = c .before .before .before .before in (
+      search needs,
+      (at-scan-term .before .before .before .before .loop .inv .1)
+          ∙ more-on _ _ _ _ _ _ _ _ _ _ _ (at-scan-term .before .before .before .loop-test .taken)
+          (at-scan-term .before .before .byte2 .ensures) (at-scan-term .before .if5 .taken) (at-scan-term .scan-term .ensures)
+          (c .before .before .e .given .1) (c .higher-of .ensures),
+    )
+
+returns-5 : (t : ℕ) → lts.Need-returns-5 (claims t) (at t) own.Post Inv-loop μ-loop
+returns-5 t c =
+    let at-if4 = c .before .before .before .before in
+    let at-symbol-from = at-if4 .before .before .before .before in
+    let at-byte = at-symbol-from .before .before .before .before in
+    sym (term-applied _ _ _ _ _ _ _ _ _ _ _ _ (at-byte .before .if1 .left) (at-byte .byte .ensures)
+    (at-symbol-from .before .before .before .is-mark .ensures) (at-symbol-from .before .before .if2 .left)
+    (at-symbol-from .before .name-end .ensures) (at-symbol-from .symbol-from .ensures) (at-if4 .before .before .before .is-applied .ensures)
+    (at-if4 .before .before .if3 .taken) (at-if4 .before .arity .ensures) (at-if4 .if4 .left) ∙ (c .before .before .before .loop .inv .1)
+    ∙ more-other _ _ _ _ _ _ _ (c .before .before .loop-test .taken) (c .before .byte2 .ensures) (c .if5 .left))
+
+returns-6 : (t : ℕ) → lts.Need-returns-6 (claims t) (at t) own.Post Inv-loop μ-loop
+returns-6 t c =
+    let at-arity = c .before .before .before .before in
+    let at-name-end = at-arity .before .before .before .before in
+    more-closed _ _ _ _ _ _ _ (c .before .loop-test .left) (c .scan-close .ensures)
+    ∙ sym (term-applied _ _ _ _ _ _ _ _ _ _ _ _ (at-name-end .before .before .before .before .if1 .left)
+    (at-name-end .before .before .before .byte .ensures)
+    (at-name-end .before .before .is-mark .ensures) (at-name-end .before .if2 .left) (at-name-end .name-end .ensures)
+    (at-arity .before .before .before .symbol-from .ensures) (at-arity .before .before .is-applied .ensures) (at-arity .before .if3 .taken)
+    (at-arity .arity .ensures) (c .before .before .before .if4 .left) ∙ (c .before .before .loop .inv .1))
+
+returns-7 : (t : ℕ) → lts.Need-returns-7 (claims t) (at t) own.Post Inv-loop μ-loop
+returns-7 t c =
+    let at-if2 = c .before .before .before .before in
+    term-unknown _ _ _ _ _ _ _ _ _ _ _ (at-if2 .before .before .before .if1 .left) (at-if2 .before .before .byte .ensures)
+    (at-if2 .before .is-mark .ensures) (at-if2 .if2 .left) (c .before .before .before .name-end .ensures)
+    (c .before .before .symbol-from .ensures) (c .before .is-applied .ensures) (c .if3 .left)
+
+pub +scan-term-spec : {M : Type 1} → statement M
++scan-term-spec = close μ λ t. lts.spec (claims t)
+    (at t) own.Post Inv-loop μ-loop (returns t) (λ c κs. search needs)
+    (λ c κs. search needs) (add-scan-symbol t) (λ c κs. search needs) (returns-2 t) (λ c κs. search needs)
+    (λ c κs. search needs) (λ c κs. search needs) (λ c κs. search needs) (returns-3 t) (λ c. search needs)
+    (λ c κs. search needs) (λ c. search needs) (add-scan-term t) (λ c κs. search needs) (λ c. search needs)
+    (λ c. search needs) (returns-4 t) (λ c κs. search needs) (λ c. search needs) (λ c. search needs)
+    (loop-again t) (returns-5 t) (λ c κs. search needs) (returns-6 t) (returns-7 t)

@@ -5,88 +5,62 @@ use borrow.Author.Needs.{needs}
 use Prim.Native.Nat.{ℕ, _<_}
 use borrow.Fn.Kinds.{In}
 use borrow.Fn.PlainCycle.{Measures, is, falls, and}
-use Rattle.line_parser.proofs.lines.read_nodes.Reads as read-nodes
-use Rattle.line_parser.proofs.lines.read_nodes.Kinds as read-nodes-kinds
-use Rattle.line_parser.proofs.lines.+read_nodes.Lts-read_nodes as read-nodes-lts
+use Rattle.line_parser.proofs.lines.read_nodes.Reads as own
+use Rattle.line_parser.proofs.lines.read_nodes.Kinds as kinds
+use Rattle.line_parser.proofs.lines.+read_nodes.Lts-read_nodes as lts
 use Rattle.line_parser.proofs.fields.read_number.Reads as read-number-reads
 use Rattle.line_parser.proofs.lines.add_node.Reads as add-node-reads
 use Rattle.line_parser.proofs.lines.+read_nodes.{statement}
 use Rattle.line_parser.proofs.lines.+read_nodes.Tie.{close}
 
-abbrev μ-read-nodes : Measures 1 read-nodes-kinds.ps ℕ
-μ-read-nodes κs a = length (a .0 .now)
+abbrev μ : Measures 1 kinds.ps ℕ
+μ κs a = length (a .0 .now)
 
-abbrev read-nodes-at : ℕ → In 1 read-nodes-kinds.ps
-read-nodes-at t =
-    and 1 read-nodes-kinds.ps (is 1 read-nodes-kinds.ps μ-read-nodes t) read-nodes.Pre
+abbrev at : ℕ → In 1 kinds.ps
+at t = and 1 kinds.ps (is 1 kinds.ps μ t) own.Pre
 
-abbrev read-nodes-below : ℕ → In 1 read-nodes-kinds.ps
-read-nodes-below t =
-    and 1 read-nodes-kinds.ps (falls 1 read-nodes-kinds.ps _<_ μ-read-nodes t) read-nodes.Pre
+abbrev below : ℕ → In 1 kinds.ps
+below t = and 1 kinds.ps (falls 1 kinds.ps _<_ μ t) own.Pre
 
-read-nodes-returns : (t : ℕ) → read-nodes-lts.Need-returns (
+abbrev claims : ℕ → lts.Claims
+claims t = (
   read-number-reads.Asked,
   read-number-reads.Learnt,
   add-node-reads.Asked,
   add-node-reads.Learnt,
-  read-nodes-below t,
-  read-nodes.Post,
-) (read-nodes-at t) read-nodes.Post
-read-nodes-returns t c = nodes-bad _ _ _ (sym (c .before .before .read-number .ensures) ∙ c .enum-told .given .1)
+  below t,
+  own.Post,
+)
 
-read-nodes-returns-2 : (t : ℕ) → read-nodes-lts.Need-returns-2 (
-  read-number-reads.Asked,
-  read-number-reads.Learnt,
-  add-node-reads.Asked,
-  add-node-reads.Learnt,
-  read-nodes-below t,
-  read-nodes.Post,
-) (read-nodes-at t) read-nodes.Post
-read-nodes-returns-2 t c = nodes-full _ _ _ _ _ (sym (c .before .before .before .before .before .read-number .ensures) ∙ c .before .before .before .n .given .1) (c .if1 .taken)
+returns : (t : ℕ) → lts.Need-returns (claims t) (at t) own.Post
+returns t c = nodes-bad _ _ _ (sym (c .before .before .read-number .ensures) ∙ c .enum-told .given .1)
 
-read-nodes-returns-3 : (t : ℕ) → read-nodes-lts.Need-returns-3 (
-  read-number-reads.Asked,
-  read-number-reads.Learnt,
-  add-node-reads.Asked,
-  add-node-reads.Learnt,
-  read-nodes-below t,
-  read-nodes.Post,
-) (read-nodes-at t) read-nodes.Post
-read-nodes-returns-3 t c = nodes-last _ _ _ _ _ _ (sym (c .before .before .before .before .before .before .before .read-number .ensures) ∙ c .before .before .before .before .before .n .given .1) (c .before .before .if1 .left) (c .before .add-node .ensures) (c .if2 .taken)
+returns-2 : (t : ℕ) → lts.Need-returns-2 (claims t) (at t) own.Post
+returns-2 t c =
+    nodes-full _ _ _ _ _ (sym (c .before .before .before .before .before .read-number .ensures) ∙ c .before .before .before .n .given .1)
+    (c .if1 .taken)
 
-read-nodes-read-nodes-requires : (t : ℕ) → read-nodes-lts.Need-read-nodes-requires (
-  read-number-reads.Asked,
-  read-number-reads.Learnt,
-  add-node-reads.Asked,
-  add-node-reads.Learnt,
-  read-nodes-below t,
-  read-nodes.Post,
-) (read-nodes-at t) read-nodes.Post
-read-nodes-read-nodes-requires t c κs =
+returns-3 : (t : ℕ) → lts.Need-returns-3 (claims t) (at t) own.Post
+returns-3 t c =
+    let at-n = c .before .before .before .before .before in
+    nodes-last _ _ _ _ _ _ (sym (at-n .before .before .read-number .ensures) ∙ at-n .n .given .1) (c .before .before .if1 .left)
+    (c .before .add-node .ensures) (c .if2 .taken)
+
+read-nodes-requires : (t : ℕ) → lts.Need-read-nodes-requires (claims t) (at t) own.Post
+read-nodes-requires t c κs =
     let start = c .before .before .before .before .before .before .before .before .before .before in
     (rest-less (start .args .s .now) _ _ (start .pre .0) (c .before .if2 .left), search needs)
 
-read-nodes-returns-4 : (t : ℕ) → read-nodes-lts.Need-returns-4 (
-  read-number-reads.Asked,
-  read-number-reads.Learnt,
-  add-node-reads.Asked,
-  add-node-reads.Learnt,
-  read-nodes-below t,
-  read-nodes.Post,
-) (read-nodes-at t) read-nodes.Post
-read-nodes-returns-4 t c =
-    let at-test = c .before .before in
-    c .read-nodes .ensures ∙ nodes-more _ _ _ _ _ _ (sym (at-test .before .before .before .before .before .before .before .read-number .ensures) ∙ at-test .before .before .before .before .before .n .given .1) (at-test .before .before .if1 .left) (at-test .before .add-node .ensures) (at-test .if2 .left)
+returns-4 : (t : ℕ) → lts.Need-returns-4 (claims t) (at t) own.Post
+returns-4 t c =
+    let at-if1 = c .before .before .before .before in
+    c .read-nodes .ensures ∙ nodes-more _ _ _ _ _ _
+    (sym (at-if1 .before .before .before .before .before .read-number .ensures) ∙ at-if1 .before .before .before .n .given .1)
+    (at-if1 .if1 .left)
+    (c .before .before .before .add-node .ensures) (c .before .before .if2 .left)
 
 pub +read-nodes-spec : {M : Type 1} → statement M
-+read-nodes-spec = close μ-read-nodes λ t. read-nodes-lts.spec (
-  read-number-reads.Asked,
-  read-number-reads.Learnt,
-  add-node-reads.Asked,
-  add-node-reads.Learnt,
-  read-nodes-below t,
-  read-nodes.Post,
-)
-    (read-nodes-at t) read-nodes.Post (λ c κs. search needs) (λ c. search needs) (λ c. search needs) (read-nodes-returns t)
-    (read-nodes-returns-2 t) (λ c κs. search needs) (read-nodes-returns-3 t) (λ c. search needs) (λ c. search needs)
-    (λ c. search needs) (λ c. search needs) (read-nodes-read-nodes-requires t) (read-nodes-returns-4 t)
++read-nodes-spec = close μ λ t. lts.spec (claims t)
+    (at t) own.Post (λ c κs. search needs) (λ c. search needs) (λ c. search needs) (returns t)
+    (returns-2 t) (λ c κs. search needs) (returns-3 t) (λ c. search needs) (λ c. search needs)
+    (λ c. search needs) (λ c. search needs) (read-nodes-requires t) (returns-4 t)

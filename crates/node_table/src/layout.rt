@@ -1,0 +1,41 @@
+// Where the table keeps what (specs/Layout.antt).
+
+// The numbers of a symbol and of a node, and where the nodes and the clauses begin.
+pub const SYMBOL_NUMBERS: usize = 3;
+
+pub const NODE_NUMBERS: usize = 7;
+
+pub const FIRST_NODE: usize = 768;
+
+pub const FIRST_CLAUSE: usize = 7936;
+
+// Fields of a symbol: where its name starts, how long it is, its arity with its sort.
+pub const NAME_START: usize = 0;
+
+pub const NAME_LENGTH: usize = 1;
+
+pub const ARITY: usize = 2;
+
+// Fields of a node: its kind with its number of children, its label, its children, what it is.
+pub const HEAD: usize = 0;
+
+pub const LABEL: usize = 1;
+
+pub const FIRST_CHILD: usize = 2;
+
+pub const SECOND_CHILD: usize = 3;
+
+pub const THIRD_CHILD: usize = 4;
+
+pub const FOURTH_CHILD: usize = 5;
+
+pub const INFO: usize = 6;
+
+// What a child adds to the head of a node; what a goal, a member and a symbol of a term add to its info.
+pub const CHILD_UNIT: u32 = 16;
+
+pub const GOAL_UNIT: u32 = 256;
+
+pub const MEMBER_UNIT: u32 = 512;
+
+pub const SIZE_UNIT: u32 = 65536;

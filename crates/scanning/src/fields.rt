@@ -1,0 +1,19 @@
+// Fields of a record of the work buffer (specs/Fields.antt): a frame of so many numbers, a sequent left, a hypothesis.
+
+pub const FRAME_NUMBERS: u32 = 16;
+
+pub const SEQUENT_NODE: u32 = 16;
+
+pub const SEQUENT_FRAME: u32 = 17;
+
+pub const SEQUENT_HYPOTHESES: u32 = 18;
+
+pub const SEQUENT_LEVEL: u32 = 19;
+
+pub const SEQUENT_NEXT: u32 = 20;
+
+pub const HYPOTHESIS_NODE: u32 = 21;
+
+pub const HYPOTHESIS_FRAME: u32 = 22;
+
+pub const HYPOTHESIS_NEXT: u32 = 23;
