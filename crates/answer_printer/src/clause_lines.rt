@@ -3,7 +3,6 @@
 use super::line_parts::bytes_to;
 use super::line_parts::number_to;
 use machine::fields;
-use machine_memory::cells::field;
 use machine_memory::words::TAGS;
 use machine_memory::words::VARIABLE_TAG;
 use machine_memory::words::narrow;
@@ -15,6 +14,7 @@ ghost use mathlib.Core.Path.{_≡_};
 ghost use Prim.Native.Nat.{_+_, _<_, _≤_};
 ghost use Rattle.printing.specs.Marks.{page};
 ghost use Rattle.printing.specs.WriteLines.{prefixTo, clauseTo};
+use memory::field;
 
 // The terms of a prefix: n variables from x on.
 pub fn prefix_to(

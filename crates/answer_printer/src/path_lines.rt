@@ -5,7 +5,6 @@ use super::line_parts::bytes_to;
 use super::line_parts::term_line;
 use machine::fields;
 use machine::lines;
-use machine_memory::cells::field;
 use machine_memory::cells::record_of;
 use machine_memory::words::constant_word;
 use machine_memory::words::variable_word;
@@ -15,6 +14,7 @@ ghost use mathlib.Core.List.{List};
 ghost use Prim.Native.Nat.{ℕ, _%_, _<_, _≤_};
 ghost use Rattle.printing.specs.Marks.{page};
 ghost use Rattle.printing.specs.WriteLines.{bytesTo, plainBytes, lineTo, linesTo};
+use memory::field;
 
 // The five lines that have no term.
 pub fn plain_to(limit: u32, out: &mut [u8], p: Pen, k: u32) -> Pen

@@ -114,7 +114,3 @@ unfolding numbered
 numbered-shows xs =
     let r = renamed-shows (shown xs) in
     (r .0, ap (λ (l : List Symbol). showSymbols l unseen) (shown-rename xs (numberingOf (shown xs))) ∙ r .1)
-
--- so numbering again changes nothing
-pub numbered-again : (xs : List TextLine) → numbered (numbered xs) ≡ numbered xs
-numbered-again xs = let r = numbered-shows xs in shows-numbered (numbered xs) (r .0) (r .1)

@@ -16,7 +16,7 @@ use Rattle.sheet_format.specs.Limits.{maxNumber}
 use Rattle.sheet_format.specs.Bytes.{isDigit, isLetter, isNameByte, isName, decimal}
 use Rattle.sheet_format.specs.Nodes.{Declaration}
 use Rattle.sheet_format.proofs.Options.{OnSome, some-weaken}
-use Rattle.sheet_format.proofs.Bytes.{Graphic, letter-bounds, name-nonempty, name-letter, name-kinds, name-is-graphic}
+use Rattle.sheet_format.proofs.Bytes.{Graphic, letter-bounds, name-nonempty, name-length, name-letter, name-kinds, name-is-graphic}
 use Rattle.sheet_format.proofs.Numbers.{decimal-graphic}
 use Rattle.sheet_format.proofs.Names.{Names}
 use Rattle.sheet_format.proofs.Formed.{Declares}
@@ -74,11 +74,6 @@ stops-more : (ts : Terms Symbol) (ds : List Declaration) (r : List ℕ) → Stop
 unfolding spellMore isNameByte isLetter isDigit
 stops-more nil ds r = refl
 stops-more (cons t ts) ds r = refl
-
--- a name is not empty
-name-length : (b : List ℕ) → isName b ≡ true → 1 ≤ length b
-name-length [] h = absurd (name-nonempty h)
-name-length (c ∷ cs) h = omega arith
 
 -- The fuel may be the length of what is spelled, for that is longer than each part.
 mutual

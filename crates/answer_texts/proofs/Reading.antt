@@ -2,9 +2,8 @@
 use Prim.Native.Nat.{ℕ, _≤_}
 use mathlib.Core.Path.{_≡_, refl, sym, _∙_, ap, ap₂, subst}
 use mathlib.Core.Bool.{true, cond}
-use mathlib.Core.List.{List, [], _∷_, _++_, map, append-assoc, append-cancel-right, cons≢nil}
+use mathlib.Core.List.{List, [], _∷_, _++_, map, append-assoc, cons≢nil}
 use mathlib.Core.Option.{Option, none, some, Option·map}
-use mathlib.Core.Logic.{_↔_}
 use native.Mathlib.Omega.{arith}
 use Rattle.terms.specs.Lists.{All}
 use Rattle.terms.proofs.Lists.{all-weaken, all-map}
@@ -14,14 +13,14 @@ use Rattle.sheet_format.specs.Limits.{maxNumber}
 use Rattle.sheet_format.specs.Bytes.{ascii, tab, lf, linesOf, fields, number, decimal, sameBytes}
 use Rattle.sheet_format.specs.Nodes.{Declaration}
 use Rattle.sheet_format.proofs.Options.{OnSome, cond-some, map-some, some-is}
-use Rattle.sheet_format.proofs.Bytes.{same-equal, Without, Graphic, graphic-without}
+use Rattle.sheet_format.proofs.Bytes.{same-equal, Without, Graphic, graphic-without, lines}
 use Rattle.sheet_format.proofs.Numbers.{number-decimal, number-some, decimal-graphic}
 use Rattle.sheet_format.proofs.Names.{Names}
 use Rattle.answer_texts.specs.TextLines.{TextLine, resultLine, bindingLine, derivationLine}
 use Rattle.answer_texts.specs.Spelling.{spellTerm, join, textLine, spellWord, spellTerms, lineFields, textFields, spell}
 use Rattle.answer_texts.specs.Spelled.{WritableTerm, WritableLine, Writable, unlines}
 use Rattle.answer_texts.specs.Reading.{termField, consField, termFields, plainLine, termLine, useLine, clauseFields, byWord, derivationFields, resultFields, withVariable, bindingFields, readLine}
-use Rattle.answer_texts.proofs.Splitting.{lines, linesOf-whole, unlines-injective, join-fields, fields-join, join-without}
+use Rattle.answer_texts.proofs.Splitting.{linesOf-whole, unlines-injective, fields-join, join-without}
 use Rattle.answer_texts.proofs.ReadTerms.{read-field, termField-some, term-graphic}
 
 -- fields of a line that is written
@@ -205,22 +204,6 @@ lineBytes-without ds x ns w = join-without (textFields ds x) (textFields-without
 -- They are split into the fields again.
 pub fields-spell : (ds : List Declaration) (x : TextLine) → Names ds → Writable ds x → fields (lineBytes ds x) ≡ textFields ds x
 fields-spell ds x ns w = fields-join (textFields ds x) (textFields-nonempty ds x) (textFields-without ds x tab (omega arith) ns w)
-
--- A whole line is read as x exactly if, with its LF, it is the line x, which can be written.
-pub line-read : (ds : List Declaration) (l : List ℕ) (x : TextLine) → Names ds
-    → (readLine ds (fields l) ≡ some x) ↔ ((l ++ (lf ∷ []) ≡ textLine (textFields ds x)) × Writable ds x)
-unfolding textLine
-line-read ds l x ns = (forth, back)
-  where
-    forth : readLine ds (fields l) ≡ some x → (l ++ (lf ∷ []) ≡ lineBytes ds x ++ (lf ∷ [])) × Writable ds x
-    forth e =
-        let r = spell-read ds (fields l) x e in
-        (ap (_++ (lf ∷ [])) (sym (ap join (r .0) ∙ join-fields l)), r .1)
-
-    back : (l ++ (lf ∷ []) ≡ lineBytes ds x ++ (lf ∷ [])) × Writable ds x → readLine ds (fields l) ≡ some x
-    back h =
-        let e = append-cancel-right l (lineBytes ds x) (lf ∷ []) (h .0) in
-        ap (λ (b : List ℕ). readLine ds (fields b)) e ∙ ap (readLine ds) (fields-spell ds x ns (h .1)) ∙ read-spell ds x ns (h .1)
 
 -- texts
 

@@ -8,25 +8,16 @@ use borrow.Author.Tests.{eqb-true}
 use Rattle.terms.specs.Lists.{All}
 use Rattle.terms.proofs.Lists.{all-append}
 use Rattle.sheet_format.specs.Bytes.{tab, lf, Lines, onLine, linesOf, onField, fields}
-use Rattle.sheet_format.proofs.Bytes.{Without}
+use Rattle.sheet_format.proofs.Bytes.{Without, lines, linesOf-other}
 use Rattle.answer_texts.specs.Spelling.{join}
 use Rattle.answer_texts.specs.Spelled.{unlines}
 
 -- lines
 
--- Whole lines and a rest.
-abbrev pub lines : List (List ℕ) → List ℕ → Lines
-lines ls r = record { whole = ls; rest = r }
-
 -- an LF ends a line
 pub linesOf-lf : (cs : List ℕ) → linesOf (lf ∷ cs) ≡ lines ([] ∷ linesOf cs .whole) (linesOf cs .rest)
 unfolding linesOf
 linesOf-lf cs = refl
-
--- another byte goes in front of the first line, or of the rest
-pub linesOf-other : (c : ℕ) (cs : List ℕ) → eqb c lf ≡ false → linesOf (c ∷ cs) ≡ onLine c (linesOf cs .whole) (linesOf cs .rest)
-unfolding linesOf
-linesOf-other c cs h = rw (h, linesOf)
 
 -- Each whole line with its LF, then the rest, are the bytes; no line has an LF in it.
 pub record Split (b : List ℕ) (l : Lines) : Type 0 where
@@ -129,22 +120,6 @@ join-fields (c ∷ cs) = go (eqb c tab) refl (join-fields cs)
         let e = eqb-true c tab q in
         ap (λ (d : ℕ). join (fields (d ∷ cs))) e ∙ join-tab (fields cs) (fields-nonempty cs) ∙ ap₂ _∷_ (sym e) ih
     go false q ih = ap join (fields-other c cs q) ∙ join-onField c (fields cs) ∙ ap (c ∷_) ih
-
--- a byte that is no tab in front
-onField-without : (c : ℕ) (fs : List (List ℕ)) → eqb c tab ≡ false → All (Without tab) fs → All (Without tab) (onField c fs)
-unfolding onField
-onField-without c [] q h = ((q, tt), tt)
-onField-without c (f ∷ fs) q h = ((q, h .0), h .1)
-
--- No field has a tab in it.
-pub fields-without : (b : List ℕ) → All (Without tab) (fields b)
-unfolding fields
-fields-without [] = (tt, tt)
-fields-without (c ∷ cs) = go (eqb c tab) refl (fields-without cs)
-  where
-    go : (b : Bool) → eqb c tab ≡ b → All (Without tab) (fields cs) → All (Without tab) (fields (c ∷ cs))
-    go true q h = rw (eqb-true c tab q) (tt, h)
-    go false q h = rw (fields-other c cs q) (onField-without c (fields cs) q h)
 
 -- one field alone
 fields-one : (f : List ℕ) → Without tab f → fields f ≡ f ∷ []

@@ -2,14 +2,14 @@
 // its contract says so.
 use super::registers::on_sequent;
 use super::registers::on_stage;
-use instances::frames::field;
-use instances::frames::put_field;
 use line_checking::Registers;
 use line_checking::text_stages;
 use scanning::fields;
 ghost use mathlib.Core.Path.{_≡_};
 ghost use Prim.Native.Nat.{_-_};
 ghost use Rattle.line_checking.specs.Sequents.{putSequent, dueSequent, proceed, putHypothesis};
+use memory::field;
+use memory::put_field;
 
 // A sequent left, in record q.
 pub fn put_sequent(

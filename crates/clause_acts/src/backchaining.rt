@@ -1,13 +1,10 @@
 // Trying a member. Each function is a definition of the crate machine, and its contract says so.
 use super::effects::put_try;
 use super::effects::tried;
-use super::lookup::find_member;
-use super::lookup::head_of;
 use super::next_member::clause_of;
 use super::next_member::next_member;
 use super::next_member::put_prefix;
 use goal_acts::goals::try_from;
-use machine::Found;
 use machine::Registers;
 use machine_memory::records::put_pairs;
 use machine_memory::words::up;
@@ -20,6 +17,9 @@ ghost use Rattle.machine.specs.Records.{made};
 ghost use Rattle.machine.specs.Words.{up};
 ghost use Rattle.machine.specs.Trying.{tried, tryMember, tryFound, tryNext};
 ghost use Rattle.machine.specs.Machine.{act};
+use clause_members::Found;
+use clause_members::head_of;
+use clause_members::member;
 
 // The predicates agree: the argument pairs are due.
 pub fn try_member(t: &[u32], c: u32, w: &mut [u32], r: Registers, m: Found) -> Registers
@@ -48,6 +48,6 @@ pub fn try_found(t: &[u32], c: u32, w: &mut [u32], r: Registers, m: Found) -> Re
 pub fn try_next(t: &[u32], c: u32, w: &mut [u32], r: Registers) -> Registers
     ensures { λ s. ⌜ made (now (w .exit)) s ≡ tryNext (now (t .entry)) c (now (w .entry)) r ⌝ }
 {
-    let m = find_member(limits::MAX_NODES, t, clause_of(t, w, r), r.member);
+    let m = member(t, clause_of(t, w, r), r.member);
     try_found(t, c, w, r, m)
 }

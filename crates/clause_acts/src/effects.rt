@@ -1,7 +1,6 @@
 // What a try writes: the members left as the alternative, the body as the next goal. Each function is a definition of the crate
 // machine, and its contract says so.
 use goal_acts::goals::members_left;
-use machine::Found;
 use machine::Registers;
 use machine::lines;
 use machine_memory::records::put_goal;
@@ -25,6 +24,7 @@ ghost use Rattle.node_table.specs.Layout.{kindOf};
 ghost use Rattle.machine.specs.Words.{up};
 ghost use Rattle.machine.specs.Goals.{membersLeft};
 ghost use Rattle.machine.specs.Trying.{leaveOthers, putBody, putTry, tried};
+use clause_members::Found;
 
 // The members left, from s on, are the alternative.
 pub fn leave_others(c: u32, w: &mut [u32], u: u32, s: Registers)

@@ -1,5 +1,4 @@
 // The machine's acts on the members of a clause: trying them in turn.
 pub mod backchaining;
 mod effects;
-mod lookup;
 mod next_member;

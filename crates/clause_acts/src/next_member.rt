@@ -1,9 +1,7 @@
 // The member that is due for an atom, the one after it, and its prefix. Each function is a definition of the crate machine, and its
 // contract says so.
-use machine::Found;
 use machine::Registers;
 use machine::fields;
-use machine_memory::cells::field;
 use machine_memory::frames::copy_frame;
 use machine_memory::frames::put_fresh;
 use machine_memory::registers::on_member;
@@ -14,6 +12,8 @@ use sheet_format::limits;
 ghost use mathlib.Core.Path.{_≡_};
 ghost use Rattle.machine.specs.Words.{up};
 ghost use Rattle.machine.specs.Trying.{clauseOf, clauseFrame, nextClause, nextMember, putPrefix};
+use clause_members::Found;
+use memory::field;
 
 // The clause whose member is due: its node and its frame.
 pub fn clause_of(t: &[u32], w: &[u32], r: Registers) -> u32

@@ -14,7 +14,7 @@ use Rattle.engine_spec.proofs.Answered.{answered-answers}
 use Rattle.engine_spec.proofs.Buffers.{take-front}
 
 -- the outcomes by their numbers
-proved-number : (t : Told) → outcomeNumber t ≡ 0 → t ≡ toldProved
+pub proved-number : (t : Told) → outcomeNumber t ≡ 0 → t ≡ toldProved
 unfolding outcomeNumber
 proved-number toldProved e = refl
 proved-number toldNo e = absurd (omega arith)

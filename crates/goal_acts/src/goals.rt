@@ -4,7 +4,6 @@ use machine::Registers;
 use machine::fields;
 use machine::lines;
 use machine::modes;
-use machine_memory::cells::field;
 use machine_memory::choice_points::failed;
 use machine_memory::records::put_path;
 use machine_memory::registers::on_goal;
@@ -16,6 +15,7 @@ use machine_memory::words::up;
 ghost use mathlib.Core.Path.{_≡_};
 ghost use Rattle.machine.specs.Records.{made};
 ghost use Rattle.machine.specs.Goals.{dueGoal, proceed, membersLeft, tryFrom, takeAtom, takeTrue};
+use memory::field;
 
 // The goal that waits in record q is due.
 pub fn due_goal(w: &[u32], r: Registers, q: u32) -> Registers

@@ -3,7 +3,6 @@
 use machine::Registers;
 use machine::fields;
 use machine::lines;
-use machine_memory::cells::put_field;
 use machine_memory::cells::put_slot;
 use machine_memory::frames::copy_frame;
 use machine_memory::frames::put_fresh;
@@ -19,6 +18,7 @@ use sheet_format::limits;
 ghost use mathlib.Core.Path.{_≡_};
 ghost use Rattle.machine.specs.Records.{made};
 ghost use Rattle.machine.specs.Goals.{takeExists, putConstant, takeForall};
+use memory::put_field;
 
 // E: a fresh variable of the goal's level.
 pub fn take_exists(t: &[u32], w: &mut [u32], r: Registers) -> Registers

@@ -1,24 +1,15 @@
-// Records of the checker's work buffer, and the frames in them.
+// The frames in the records of the checker's work buffer.
 use memory::get;
 use memory::wide;
 use scanning::fields;
 use sheet_format::limits::NUMBERS_PER_UNIT;
 ghost use mathlib.Core.Path.{_≡_};
 ghost use Prim.Native.Nat.{_+_, _*_, _<_};
-ghost use Rattle.scanning.specs.Frames.{field, put, slotStart, slotEnd, putSlot, copyFrame, bindFrame};
-
-// Field f of record r.
-pub fn field(w: &[u32], r: u32, f: u32) -> u32
-    ensures { λ a. ⌜ a ≡ field (now (w .entry)) r f ⌝ }
-{
-    get(w, NUMBERS_PER_UNIT * wide(r) + wide(f))
-}
-
-pub fn put_field(w: &mut [u32], r: u32, f: u32, a: u32)
-    ensures { λ _. ⌜ now (w .exit) ≡ put (now (w .entry)) r f a ⌝ }
-{
-    memory::put(w, NUMBERS_PER_UNIT * wide(r) + wide(f), a);
-}
+ghost use Rattle.scanning.specs.Frames.{slotStart, slotEnd, putSlot, copyFrame, bindFrame};
+use memory::field;
+use memory::put;
+use memory::put_field;
+ghost use Rattle.memory.specs.Records.{field, putField};
 
 // Where the term of name v in frame r starts and ends.
 pub fn slot_start(w: &[u32], r: u32, v: u32) -> u32
@@ -34,15 +25,15 @@ pub fn slot_end(w: &[u32], r: u32, v: u32) -> u32
 }
 
 fn put_start(w: &mut [u32], r: u32, v: u32, s: u32)
-    ensures { λ _. ⌜ now (w .exit) ≡ put (now (w .entry)) r (2 * v) s ⌝ }
+    ensures { λ _. ⌜ now (w .exit) ≡ putField (now (w .entry)) r (2 * v) s ⌝ }
 {
-    memory::put(w, NUMBERS_PER_UNIT * wide(r) + 2 * wide(v), s);
+    put(w, NUMBERS_PER_UNIT * wide(r) + 2 * wide(v), s);
 }
 
 fn put_end(w: &mut [u32], r: u32, v: u32, e: u32)
-    ensures { λ _. ⌜ now (w .exit) ≡ put (now (w .entry)) r (2 * v + 1) e ⌝ }
+    ensures { λ _. ⌜ now (w .exit) ≡ putField (now (w .entry)) r (2 * v + 1) e ⌝ }
 {
-    memory::put(w, NUMBERS_PER_UNIT * wide(r) + (2 * wide(v) + 1), e);
+    put(w, NUMBERS_PER_UNIT * wide(r) + (2 * wide(v) + 1), e);
 }
 
 // The term of name v in frame r is the one from s to e.

@@ -7,12 +7,12 @@ use mathlib.Core.List.{List, _∷_, _++_, append-assoc, append-cancel-left}
 use mathlib.Core.Option.{Option, none, some, Option·map}
 use mathlib.Core.Logic.{_⊎_, inl, inr}
 use lib.Dec.{eqb}
-use lib.ListN.{length, getElem?, drop, length-append}
+use lib.ListN.{length, drop, length-append}
 use borrow.Author.Tests.{eqb-true, eqb-false, eq-eqb}
 use Rattle.terms.specs.Lists.{All, elem}
 use Rattle.terms.specs.Terms.{Terms, substitutes}
 use Rattle.formulas.specs.Formulas.{Goal, atom, Clause, freeTs, freeG, freeC, freeB}
-use Rattle.formulas.specs.Members.{Member, members, standsFree}
+use Rattle.formulas.specs.Members.{members, standsFree}
 use Rattle.formulas.proofs.Free.{or-left, or-right, and-parts, Within, members-within}
 use Rattle.sequents.specs.Symbols.{Symbol, Ground}
 use Rattle.sequents.specs.Sequents.{Environment, Entry, entry, entries, Sequent, assign, bodySequent, Line, plain, Dsome, Dall, Dclause}
@@ -21,7 +21,7 @@ use Rattle.sheet_format.specs.Bytes.{ascii, decimal, lf}
 use Rattle.sheet_format.specs.Nodes.{Declaration}
 use Rattle.sheet_format.proofs.Names.{Names}
 use Rattle.sheet_format.proofs.Places.{at-all}
-use Rattle.sheet_format.proofs.Formed.{FormedGoal, FormedClause}
+use Rattle.sheet_format.proofs.Formed.{FormedGoal, FormedClause, FormedTerms}
 use Rattle.node_table.specs.Layout.{kindOf, labelOf, childOf, impliesKind, atomKind}
 use Rattle.node_table.specs.Decoding.{goalAt, clauseAtNode, argumentsAt}
 use Rattle.node_table.proofs.Decoding.{Nodes, nodes-of, goal-atom, clause-fact, clause-rule}
@@ -46,9 +46,8 @@ use Rattle.scanning.proofs.Frames.{frame-kept, frame-copy}
 use Rattle.line_checking.specs.declared.Registers.{Registers}
 use Rattle.line_checking.specs.declared.Place.{Place}
 use Rattle.line_checking.specs.declared.Place.the-variants.{At, Nowhere}
-use Rattle.line_checking.specs.declared.Found.{Found}
 use Rattle.line_checking.specs.Sequents.{Made, made, broken, onSequent, brokenStage}
-use Rattle.line_checking.specs.Members.{hypothesisFrom, member, headOf}
+use Rattle.line_checking.specs.Members.{hypothesisFrom}
 use Rattle.line_checking.specs.Bindings.{beginsWith}
 use Rattle.line_checking.specs.Clauses.{Read, prefixFrom, onBody, useMember, useTerms, useFound, usePlace, usePlaceAt, clauseFields, clauseLine}
 use Rattle.line_checking.proofs.Lines.{tabbed, tabbed-stops, bytes-clause, isWord, wordByte}
@@ -56,15 +55,13 @@ use Rattle.line_checking.proofs.Holds.{Setting, declared, Filled, names
 use Rattle.line_checking.proofs.Keeps.{program-on, sequents-on}
 use Rattle.line_checking.proofs.Results.{Result, either-side, word-there, word-absent, number-there}
 use Rattle.line_checking.proofs.Derivations.{proceed-holds, proceed-stage, proceed-made, proceed-leftover, inferred, wrong-line, right-line}
-use Rattle.line_checking.proofs.Prefixes.{namesOf}
-use Rattle.line_checking.proofs.Members.{bodyOf, memberOf, Leaf, Finds, member-finds}
 use Rattle.line_checking.proofs.Programs.{EntryIs, PlaceIs, place-is}
 use Rattle.line_checking.proofs.PrefixTerms.{prefix-kept, Fits, PrefixCase, all-read, not-read, prefix-case, tabbed-injective}
-
--- a test that cannot pass
-never : (b : Bool) → (b ≡ true → ⊥) → b ≡ false
-never true h = absurd (h refl)
-never false h = refl
+use Rattle.clause_members.specs.declared.Found.{Found}
+use Rattle.clause_members.specs.Members.{member, headOf}
+use Rattle.clause_members.proofs.Members.{bodyOf, memberOf, LeafNode, FoundAt, leaf-head, member-found}
+use Rattle.clause_members.proofs.Prefixes.{namesOf}
+use Rattle.terms.proofs.Tests.{refuted}
 
 module _ (c : Setting) (filled : Filled c) (q : ℕ) (w : List ℕ) (room : Room q w) (r : Registers) (g : Sequent Symbol) (gs : List (Sequent Symbol))
     (at : SequentAt c q w (r .node) (r .frame) (r .hypotheses) (r .level) g) (others : SequentsAt c q w (r .rest) gs) (l rest : List ℕ) (i e : ℕ)
@@ -80,6 +77,10 @@ module _ (c : Setting) (filled : Filled c) (q : ℕ) (w : List ℕ) (room : Room
   -- the declared symbols
   abbrev ds : List Declaration
   ds = declared c
+
+  -- The symbols of a clause are declared.
+  abbrev Sound : Clause → Type 0
+  Sound d = FormedClause d ds
 
   -- what comes of a line
   abbrev R : Made → Type 0
@@ -171,17 +172,17 @@ module _ (c : Setting) (filled : Filled c) (q : ℕ) (w : List ℕ) (room : Room
       vs = namesOf (F .count) (F .names)
 
       -- it is the member with that number
-      found : (x : Member) × (getElem? (members (clauseAtNode t h)) o ≡ some x) × Finds t (c .nodes) table ds F x
-      unfolding member
-      found = let a = E .node in let b = filled .wellMade .fewNodes in member-finds t (c .nodes) table ds 1024 h o (omega arith) (E .node) (E .is) (E .formed) (E .inside)
+      found : FoundAt t (c .nodes) Sound h o F
+      unfolding FormedClause
+      found = member-found t (c .nodes) table Sound (λ x y z. z) (λ v x z. z .1) h o (filled .wellMade .fewNodes) (E .node) (E .is) (E .formed) (E .inside)
 
       -- its node
-      leaf : Leaf t (c .nodes) table ds (F .leaf)
-      leaf = found .2 .leaf
+      leaf : LeafNode t (c .nodes) Sound (F .leaf)
+      leaf = found .leaf
 
       -- the entry
       abbrev x : Entry Symbol
-      x = entry (E .environment) (memberOf t (F .leaf) vs)
+      x = entry (E .environment) (memberOf t F)
 
       -- it stands at the place
       is-entry : entryAt k (entries (g .program)) ≡ some x
@@ -189,8 +190,7 @@ module _ (c : Setting) (filled : Filled c) (q : ℕ) (w : List ℕ) (room : Room
       is-entry =
           let d = eqb-false k 0 nonzero in
           let y : k ≡ suc (k - 1) = omega arith in
-          ap (λ (v : ℕ). entryAt v (entries (g .program))) y ∙ E .entry-is ∙ ap (Option·map (entry (E .environment))) (found .1)
-          ∙ ap (λ (u : Member). some (entry (E .environment) u)) (found .2 .is)
+          ap (λ (v : ℕ). entryAt v (entries (g .program))) y ∙ E .entry-is ∙ ap (Option·map (entry (E .environment))) (found .is)
 
       -- the clause's frame copied
       abbrev w₁ : List ℕ
@@ -212,31 +212,18 @@ module _ (c : Setting) (filled : Filled c) (q : ℕ) (w : List ℕ) (room : Room
       within-clause : (z : ℕ) → (freeTs (argumentsAt t (headOf t (F .leaf))) z || freeB (bodyOf t (F .leaf)) z) ≡ true → elem z vs ≡ false → freeC (clauseAtNode t h) z ≡ true
       unfolding standsFree
       within-clause z a b =
-          at-all (Within (clauseAtNode t h)) (members (clauseAtNode t h)) o (memberOf t (F .leaf) vs) (members-within (clauseAtNode t h)) (found .1 ∙ ap some (found .2 .is)) z
+          at-all (Within (clauseAtNode t h)) (members (clauseAtNode t h)) o (memberOf t F) (members-within (clauseAtNode t h)) (found .is) z
           (and-both (not (elem z vs)) (freeTs (argumentsAt t (headOf t (F .leaf))) z || freeB (bodyOf t (F .leaf)) z) (ap not b) a)
 
       -- the head
       head-in : (ts : List Ground) → Frame ds (c .text) w₂ q (assign vs ts (E .environment)) (freeTs (argumentsAt t (headOf t (F .leaf))))
           → AtomIn (c .bytes) t (c .symbols) names (c .text) (c .nodes) table (filled .wellMade .fewNodes) w₂ (headOf t (F .leaf)) q (assign vs ts (E .environment))
       unfolding headOf FormedClause
-      head-in ts frame = go (leaf .kind) frame
+      head-in ts frame = let h = leaf-head t (c .nodes) table Sound (F .leaf) leaf in record { below = h .0; arguments = h .1; formed = go (leaf .kind); frame = frame }
         where
-          A : ℕ → Type 0
-          A m = AtomIn (c .bytes) t (c .symbols) names (c .text) (c .nodes) table (filled .wellMade .fewNodes) w₂ m q (assign vs ts (E .environment))
-
-          go : (kindOf t (F .leaf) ≡ atomKind) ⊎ (kindOf t (F .leaf) ≡ impliesKind) → Frame ds (c .text) w₂ q (assign vs ts (E .environment)) (freeTs (argumentsAt t (headOf t (F .leaf)))) → A (headOf t (F .leaf))
-          go (inl y) = rw y (λ f₀. record {
-            below = leaf .below;
-            arguments = table .clause (F .leaf) (leaf .below) (leaf .is) .atom y;
-            formed = subst (λ (d : Clause). FormedClause d ds) (clause-fact t (c .nodes) table (F .leaf) (leaf .below) y) (leaf .formed) .1;
-            frame = f₀;
-          })
-          go (inr y) = rw y (λ f₀. let d = table .clause (F .leaf) (leaf .below) (leaf .is) .implies y in record {
-            below = let u = leaf .below in omega (arith, d .2);
-            arguments = d .4;
-            formed = subst (λ (d : Clause). FormedClause d ds) (clause-rule t (c .nodes) table (F .leaf) (leaf .below) (leaf .is) y) (leaf .formed) .1 .1;
-            frame = f₀;
-          })
+          go : (kindOf t (F .leaf) ≡ atomKind) ⊎ (kindOf t (F .leaf) ≡ impliesKind) → FormedTerms (argumentsAt t (headOf t (F .leaf))) ds
+          go (inl y) = rw y (subst Sound (clause-fact t (c .nodes) table (F .leaf) (leaf .below) y) (leaf .formed) .1)
+          go (inr y) = rw y (subst Sound (clause-rule t (c .nodes) table (F .leaf) (leaf .below) (leaf .is) y) (leaf .formed) .1 .1)
 
       -- the atom
       atom-in : AtomIn (c .bytes) t (c .symbols) names (c .text) (c .nodes) table (filled .wellMade .fewNodes) w₂ n (r .frame) (g .environment)
@@ -282,7 +269,7 @@ module _ (c : Setting) (filled : Filled c) (q : ℕ) (w : List ℕ) (room : Room
                   node = omega (arith, d .0);
                   is = d .1;
                   goal = refl;
-                  formed = subst (λ (z : Clause). FormedClause z ds) (clause-rule t (c .nodes) table (F .leaf) (leaf .below) (leaf .is) y) (leaf .formed) .0;
+                  formed = subst Sound (clause-rule t (c .nodes) table (F .leaf) (leaf .below) (leaf .is) y) (leaf .formed) .0;
                   older = omega arith;
                   frame = frames (E .environment) (freeC (clauseAtNode t h)) (freeG (goalAt t (childOf t (F .leaf) 0))) (λ z a b. within-clause z (body-free z a) b) frame-first;
                   program = program-on c q w w₂ kept (r .hypotheses) (g .program) (at .program);
@@ -361,7 +348,7 @@ module _ (c : Setting) (filled : Filled c) (q : ℕ) (w : List ℕ) (room : Room
           go : PrefixCase c names q (r .level) e rest w₁ m vs read-all → R (useTerms (c .bytes) t (c .text) r q (F .leaf) read-all e)
           go (all-read ts p fits a s frames) = rw (useTerms, s) (rw (eq-eqb e e refl) (used ts p fits frames))
           go (not-read none-fits s) =
-              scan (read-all .scan) s (only-terms w₂ (λ ts p y. uses-none x is-entry ts (never (Test x is-entry ts) (λ z. none-fits ts p (fits ts y z)))))
+              scan (read-all .scan) s (only-terms w₂ (λ ts p y. uses-none x is-entry ts (refuted (Test x is-entry ts) (λ z. none-fits ts p (fits ts y z)))))
             where
               fits : (ts : List Ground) → All (λ u. WritableTerm u ds) ts → Test x is-entry ts ≡ true → Fits c names q (r .level) e rest vs ts
               fits ts y z =

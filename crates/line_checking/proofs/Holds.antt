@@ -17,10 +17,10 @@ use Rattle.node_table.specs.Decoding.{goalAt, clauseAtNode, declarationsFrom, c
 use Rattle.node_table.specs.WellMade.{IsGoal, IsClause, WellMade}
 use Rattle.answer_texts.specs.Spelled.{Stage, opening, bindings, sequents}
 use Rattle.scanning.specs.Fields as fields
-use Rattle.scanning.specs.Frames.{field}
 use Rattle.scanning.proofs.Along.{Frame}
 use Rattle.line_checking.specs.declared.Registers.{Registers}
 use Rattle.line_checking.specs.Sequents.{sequentStage, doneStage, openingStage, bindingStage}
+use Rattle.memory.specs.Records.{field}
 
 -- What is judged: the sheet's bytes, the table, and the text.
 pub record Setting : Type 0 where

@@ -12,11 +12,11 @@ use Rattle.sheet_format.specs.Limits.{numbersPerUnit}
 use Rattle.node_table.specs.Decoding.{clauseAtNode}
 use Rattle.node_table.specs.WellMade.{IsClause}
 use Rattle.scanning.specs.Fields as fields
-use Rattle.scanning.specs.Frames.{field}
 use Rattle.scanning.proofs.Along.{Frame}
 use Rattle.scanning.proofs.Records.{Kept}
 use Rattle.scanning.proofs.Frames.{frame-kept}
 use Rattle.line_checking.proofs.Holds.{Setting, declared, HypothesisAt, HypothesesAt, ProgramAt, SequentAt, SequentsAt}
+use Rattle.memory.specs.Records.{field}
 
 module _ (c : Setting) (q : ℕ) (w w′ : List ℕ) (kept : Kept q w w′) where
   -- a field of a record below

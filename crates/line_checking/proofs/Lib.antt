@@ -7,8 +7,6 @@ pub mod Terms
 pub mod Bindings
 pub mod Derivations
 pub mod Rules
-pub mod Prefixes
-pub mod Members
 pub mod Programs
 pub mod PrefixTerms
 pub mod Clauses

@@ -37,7 +37,7 @@ use Rattle.line_checking.specs.Clauses.{Read, read, prefixTerm, prefixAt
 use Rattle.line_checking.proofs.Lines.{tabbed, tabbed-stops}
 use Rattle.line_checking.proofs.Holds.{Setting, declared}
 use Rattle.line_checking.proofs.Terms.{scanAt, placed, scan-there}
-use Rattle.line_checking.proofs.Prefixes.{namesOf}
+use Rattle.clause_members.proofs.Prefixes.{namesOf}
 
 -- only record q is written
 

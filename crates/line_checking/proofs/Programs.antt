@@ -22,14 +22,14 @@ use Rattle.node_table.specs.Layout.{membersOf, clauseNode}
 use Rattle.node_table.specs.Decoding.{clauseAtNode, clausesFrom, decodeSheet}
 use Rattle.node_table.specs.WellMade.{IsClause}
 use Rattle.scanning.specs.Fields as fields
-use Rattle.scanning.specs.Frames.{field}
 use Rattle.scanning.proofs.Along.{Frame}
 use Rattle.line_checking.specs.declared.Place.{Place}
 use Rattle.line_checking.specs.declared.Place.the-variants.{At, Nowhere}
 use Rattle.line_checking.specs.Members.{clauseFrom, hypothesisFrom}
 use Rattle.line_checking.proofs.Holds.{Setting, declared, sheetOf, programOf, Filled, HypothesesAt, ProgramAt}
 use Rattle.line_checking.proofs.Keeps.{hypotheses-short}
-use Rattle.line_checking.proofs.Members.{at-left, at-right, at-map}
+use Rattle.memory.specs.Records.{field}
+use Rattle.sheet_format.proofs.Places.{at-left, at-right, at-map}
 
 module _ (c : Setting) (q : ℕ) (w : List ℕ) where
   -- Member j of the clause at node n, in frame f, is entry k of the program.

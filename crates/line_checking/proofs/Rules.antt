@@ -35,10 +35,10 @@ use Rattle.scanning.proofs.Places.{byte-is, drop-past, within}
 use Rattle.scanning.specs.declared.Scan.{Scan}
 use Rattle.scanning.specs.declared.Scan.the-variants.{Term as Scanned, Malformed}
 use Rattle.scanning.specs.Scanning.{scanSymbol, scanTerm}
-use Rattle.scanning.specs.Frames.{field, bindFrame}
+use Rattle.scanning.specs.Frames.{bindFrame}
 use Rattle.scanning.proofs.Placed.{Placed, spelling-injective}
 use Rattle.scanning.proofs.Along.{Frame, frame-fewer}
-use Rattle.scanning.proofs.Records.{Room, Kept, kept-self, puts, puts-kept, puts-at, bind-kept}
+use Rattle.scanning.proofs.Records.{Room, Kept, kept-self, puts-kept, bind-kept}
 use Rattle.scanning.proofs.Frames.{frame-kept, frame-bind}
 use Rattle.line_checking.specs.declared.Registers.{Registers}
 use Rattle.line_checking.specs.Sequents.{Made, made as left, broken, onSequent, putSequent, proceed, putHypothesis}
@@ -50,6 +50,8 @@ use Rattle.line_checking.proofs.Keeps.{program-on, hypotheses-keep, seq
 use Rattle.line_checking.proofs.Results.{Result, either-side, word-there, word-absent, line-there, line-absent}
 use Rattle.line_checking.proofs.Terms.{scanAt, TermCase, is-term, no-term, term-case}
 use Rattle.line_checking.proofs.Derivations.{proceed-holds, proceed-stage, proceed-made, proceed-leftover, inferred, wrong-line, right-line}
+use Rattle.memory.proofs.Records.{puts, puts-at}
+use Rattle.memory.specs.Records.{field}
 
 module _ (c : Setting) (filled : Filled c) (q : ℕ) (w : List ℕ) (room : Room q w) (r : Registers) (g : Sequent Symbol) (gs : List (Sequent Symbol))
     (at : SequentAt c q w (r .node) (r .frame) (r .hypotheses) (r .level) g) (others : SequentsAt c q w (r .rest) gs) (l rest : List ℕ) (i e : ℕ)
@@ -167,11 +169,11 @@ module _ (c : Setting) (filled : Filled c) (q : ℕ) (w : List ℕ) (room : Room
 
       holds : Holds c (suc q) w′ regs (sequents ((sequent A (g .environment) (g .program) (g .level) ∷ sequent B (g .environment) (g .program) (g .level) ∷ []) ++ gs))
       holds =
-          let a : field w′ q fields.sequentNode ≡ childOf t n 1 = puts-at values w q fields.sequentNode 0 room (omega arith) (omega arith) in
-          let b : field w′ q fields.sequentFrame ≡ r .frame = puts-at values w q fields.sequentNode 1 room (omega arith) (omega arith) in
-          let h : field w′ q fields.sequentHypotheses ≡ r .hypotheses = puts-at values w q fields.sequentNode 2 room (omega arith) (omega arith) in
-          let y : field w′ q fields.sequentLevel ≡ r .level = puts-at values w q fields.sequentNode 3 room (omega arith) (omega arith) in
-          let z : field w′ q fields.sequentNext ≡ r .rest = puts-at values w q fields.sequentNode 4 room (omega arith) (omega arith) in
+          let a : field w′ q fields.sequentNode ≡ childOf t n 1 = puts-at values w q fields.sequentNode 0 (omega arith) (omega arith) (omega arith) in
+          let b : field w′ q fields.sequentFrame ≡ r .frame = puts-at values w q fields.sequentNode 1 (omega arith) (omega arith) (omega arith) in
+          let h : field w′ q fields.sequentHypotheses ≡ r .hypotheses = puts-at values w q fields.sequentNode 2 (omega arith) (omega arith) (omega arith) in
+          let y : field w′ q fields.sequentLevel ≡ r .level = puts-at values w q fields.sequentNode 3 (omega arith) (omega arith) (omega arith) in
+          let z : field w′ q fields.sequentNext ≡ r .rest = puts-at values w q fields.sequentNode 4 (omega arith) (omega arith) (omega arith) in
           (refl, one, (q, add-one q, omega arith, rw (a, b, h, y) two, subst (λ (p : ℕ). SequentsAt c (suc q) w′ p gs) (sym z) (sequents-on c q w w′ kept (r .rest) gs others)))
 
       unfit : isLine (ascii "D\tand") (c .text) i e ≡ false → (d : Line Symbol) → l ≡ lineBytes ds (derivationLine d) → WritableLine ds d → inferred c q l g gs G goal d ≡ none
@@ -288,8 +290,8 @@ module _ (c : Setting) (filled : Filled c) (q : ℕ) (w : List ℕ) (room : Room
           let m = node .implies k in
           let u = at .node in
           let o = at .older in
-          let a : field w′ q fields.hypothesisNode ≡ childOf t n 0 = puts-at values w q fields.hypothesisNode 0 room (omega arith) (omega arith) in
-          let b : field w′ q fields.hypothesisFrame ≡ r .frame = puts-at values w q fields.hypothesisNode 1 room (omega arith) (omega arith) in
+          let a : field w′ q fields.hypothesisNode ≡ childOf t n 0 = puts-at values w q fields.hypothesisNode 0 (omega arith) (omega arith) (omega arith) in
+          let b : field w′ q fields.hypothesisFrame ≡ r .frame = puts-at values w q fields.hypothesisNode 1 (omega arith) (omega arith) (omega arith) in
           record {
             below = omega arith;
             node = rw a (omega (arith, m .0));
@@ -303,7 +305,7 @@ module _ (c : Setting) (filled : Filled c) (q : ℕ) (w : List ℕ) (room : Room
       program : ProgramAt c (suc q) w′ (q + 1) (hypothesis C (g .environment) ∷ g .program)
       program =
           let p = at .program in
-          let z : field w′ q fields.hypothesisNext ≡ r .hypotheses = puts-at values w q fields.hypothesisNode 2 room (omega arith) (omega arith) in
+          let z : field w′ q fields.hypothesisNext ≡ r .hypotheses = puts-at values w q fields.hypothesisNode 2 (omega arith) (omega arith) (omega arith) in
           record {
             hypotheses = hypothesis C (g .environment) ∷ p .hypotheses;
             environment = p .environment;

@@ -17,16 +17,18 @@ use Rattle.scanning.specs.Ranges.{readNumber}
 use Rattle.scanning.specs.Scanning.{scanSymbol, scanTerm}
 use Rattle.scanning.specs.Frames.{copyFrame}
 use Rattle.scanning.specs.Instances.{sameAtoms}
-use Rattle.scanning.proofs.Records.{Kept, kept-self, kept-then, puts, puts-kept, copy-kept, bind-kept}
+use Rattle.scanning.proofs.Records.{Kept, kept-self, kept-then, puts-kept, copy-kept, bind-kept}
 use Rattle.line_checking.specs.declared.Registers.{Registers}
 use Rattle.line_checking.specs.declared.Place.{Place}
 use Rattle.line_checking.specs.declared.Place.the-variants.{At, Nowhere}
 use Rattle.line_checking.specs.Sequents.{Made, broken, putSequent, putHypothesis}
-use Rattle.line_checking.specs.Members.{hypothesisFrom, member, headOf}
+use Rattle.line_checking.specs.Members.{hypothesisFrom}
 use Rattle.line_checking.specs.Bindings.{beginsWith, isLine, openWith, openUnits, openLine, bindWith, bindTerm, bindsVariable, bindLine}
 use Rattle.line_checking.specs.Rules.{trueLine, andLine, orLine, assumeLine, bindGoal, someWith, someTerm, someLine, allWith, allConstant, allLine}
 use Rattle.line_checking.specs.Clauses.{Read, prefixFrom, useMember, useTerms, useFound, usePlace, usePlaceAt, clauseFields, clauseLine}
 use Rattle.line_checking.proofs.PrefixTerms.{prefix-kept}
+use Rattle.memory.proofs.Records.{puts}
+use Rattle.clause_members.specs.Members.{member, headOf}
 
 module _ (q : ℕ) (w : List ℕ) where
   -- of a test's two sides

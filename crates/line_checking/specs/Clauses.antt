@@ -18,10 +18,11 @@ use Rattle.scanning.specs.Instances.{sameAtoms}
 use Rattle.line_checking.specs.declared.Registers.{Registers}
 use Rattle.line_checking.specs.declared.Place.{Place}
 use Rattle.line_checking.specs.declared.Place.the-variants.{At, Nowhere}
-use Rattle.line_checking.specs.declared.Found.{Found}
 use Rattle.line_checking.specs.Sequents.{Made, made, broken, onSequent, proceed}
-use Rattle.line_checking.specs.Members.{hypothesisFrom, member, headOf}
+use Rattle.line_checking.specs.Members.{hypothesisFrom}
 use Rattle.line_checking.specs.Bindings.{beginsWith}
+use Rattle.clause_members.specs.declared.Found.{Found}
+use Rattle.clause_members.specs.Members.{member, headOf}
 
 -- Reading the terms of a prefix into the frame of record q.
 pub record Read : Type 0 where

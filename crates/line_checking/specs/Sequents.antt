@@ -6,8 +6,8 @@ use lib.Dec.{eqb, ltb}
 use Rattle.formulas.specs.Formulas.{variableNames}
 use Rattle.node_table.specs.Layout.{maskOf, bitOf}
 use Rattle.scanning.specs.Fields as fields
-use Rattle.scanning.specs.Frames.{field, put}
 use Rattle.line_checking.specs.declared.Registers.{Registers}
+use Rattle.memory.specs.Records.{field, putField}
 
 -- Stages: what is due. The R line;
 abbrev pub openingStage : ℕ
@@ -78,7 +78,7 @@ bound t goal r v f = boundFrom goal r (freeFrom (variableNames - v) (maskOf t go
 
 -- A sequent left, in record q.
 unfoldable pub putSequent : List ℕ → ℕ → ℕ → ℕ → ℕ → ℕ → ℕ → List ℕ
-putSequent w q node frame hypotheses level next = put (put (put (put (put w q fields.sequentNode node) q fields.sequentFrame frame) q fields.sequentHypotheses hypotheses) q fields.sequentLevel level) q fields.sequentNext next
+putSequent w q node frame hypotheses level next = putField (putField (putField (putField (putField w q fields.sequentNode node) q fields.sequentFrame frame) q fields.sequentHypotheses hypotheses) q fields.sequentLevel level) q fields.sequentNext next
 
 -- It is due.
 unfoldable pub dueSequent : List ℕ → Registers → ℕ → Registers
@@ -90,4 +90,4 @@ proceed w r = cond (eqb (r .rest) 0) (onStage r doneStage) (dueSequent w r (r .r
 
 -- A hypothesis, in record q.
 unfoldable pub putHypothesis : List ℕ → ℕ → ℕ → ℕ → ℕ → List ℕ
-putHypothesis w q node frame next = put (put (put w q fields.hypothesisNode node) q fields.hypothesisFrame frame) q fields.hypothesisNext next
+putHypothesis w q node frame next = putField (putField (putField w q fields.hypothesisNode node) q fields.hypothesisFrame frame) q fields.hypothesisNext next

@@ -23,10 +23,3 @@ pub enum Place {
     At(u32, u32, u32),
     Nowhere,
 }
-
-// A member of a clause: its node in the table, and the names of its prefix, outermost first, as digits to base 8, lowest first.
-pub struct Found {
-    pub leaf: u32,
-    pub names: u32,
-    pub count: u32,
-}

@@ -1,7 +1,5 @@
 // D lines for atoms: a member of the program at a place. Each function is a definition of the crate line_checking, and its
 // contract says so.
-use super::members::head_of;
-use super::members::member;
 use super::prefixes::prefix_from;
 use super::result_lines::begins_with;
 use checker_state::open_sequents::proceed;
@@ -10,7 +8,6 @@ use checker_state::registers::broken;
 use checker_state::registers::on_sequent;
 use instances::frames::copy_frame;
 use instances::same_atoms;
-use line_checking::Found;
 use line_checking::Place;
 use line_checking::Registers;
 use node_table::child;
@@ -25,6 +22,9 @@ ghost use Prim.Native.Nat.{_+_, _<_};
 ghost use lib.ListN.{length};
 ghost use Rattle.line_checking.specs.Sequents.{made};
 ghost use Rattle.line_checking.specs.Clauses.{read, onBody, useMember, useTerms, useFound, usePlace, usePlaceAt, clauseFields, clauseLine};
+use clause_members::Found;
+use clause_members::head_of;
+use clause_members::member;
 
 // The body of the member at node n, if any, is the new goal; its names stand for terms in frame q.
 pub fn on_body(t: &[u32], w: &[u32], r: Registers, q: u32, n: u32) -> Registers

@@ -2,7 +2,6 @@
 pub mod binding_lines;
 pub mod clause_rules;
 pub mod connective_rules;
-mod members;
 mod prefixes;
 pub mod quantifier_rules;
 pub mod result_lines;

@@ -14,7 +14,7 @@ use Rattle.unification.specs.Store.{Store}
 use Rattle.search.specs.Configurations.{Configuration}
 use Rattle.machine.specs.declared.Registers.{Registers}
 use Rattle.machine.specs.Fields as fields
-use Rattle.machine.specs.Records.{field, Made, made, noMode}
+use Rattle.machine.specs.Records.{Made, made, noMode}
 use Rattle.machine.specs.Changes.{onMode, onNext, onTrail, onChoice, onGoals, onPath, onGoal, onMember}
 use Rattle.machine.specs.Trail.{undoEntry}
 use Rattle.machine.specs.Choices.{resumeGoal, resumeMember, resumeBranch, resume, takeUp, failed}
@@ -23,6 +23,7 @@ use Rattle.machine.proofs.Trail.{undoAll, heap-undoAll, grow-undoAll, C
 use Rattle.machine.proofs.Tables.{Table}
 use Rattle.machine.proofs.Stores.{StoreAt, store-grow, store-up}
 use Rattle.machine.proofs.Configurations.{storeOf, ConfigurationAt, configuration-heap, configuration-up}
+use Rattle.memory.specs.Records.{field}
 
 -- What n acts can have made: each binds at most one variable; the first makes at most one, every other at most eight; eight were there.
 pub record Bounded (n : ℕ) (s : Store) : Type 0 where

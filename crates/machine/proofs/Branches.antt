@@ -16,13 +16,15 @@ use Rattle.search.specs.Search.{startEnvironment}
 use Rattle.node_table.specs.Decoding.{goalAt, clauseAtNode, clausesFrom}
 use Rattle.node_table.specs.WellMade.{IsGoal, IsClause}
 use Rattle.machine.specs.Fields as fields
-use Rattle.machine.specs.Records.{field}
 use Rattle.machine.specs.Words.{slotOf, leafOf, environmentAt, variableWord}
 use Rattle.machine.specs.Reading.{lineAt, pathFrom}
 use Rattle.machine.proofs.Words.{variable-small}
 use Rattle.machine.proofs.Heap.{Heap}
 use Rattle.machine.proofs.Tables.{Table}
 use Rattle.machine.proofs.Terms.{FrameAt, frame-up, frame-heap, environment-heap, variable-leaf}
+use Rattle.memory.specs.Records.{field}
+use Rattle.clause_members.specs.declared.Found.{Found}
+use Rattle.clause_members.proofs.Members.{LeafNode, FoundAt}
 
 -- Frame 0 is the first environment.
 pub first-environment : (w : List ℕ) → environmentAt w 0 ≡ startEnvironment
@@ -109,6 +111,10 @@ path-read (suc f) n x (y ∷ ls) w (suc r) k h c =
     let l = c .0 in
     rw (pathFrom, ne-eqb (suc r) 0 (λ q. omega arith), e) (ap₂ _∷_ (c .1) (path-read f r x ls w (field w r fields.pathBefore) (field w r fields.pathLine) (omega arith) (c .3)))
 
+-- Nothing more is known of a clause.
+abbrev pub Anything : Clause → Type 0
+Anything c = Unit {0}
+
 module _ (T : Table) where
   -- A node of a goal, and of a clause.
   abbrev pub GoalOf : ℕ → Type 0
@@ -117,6 +123,13 @@ module _ (T : Table) where
   -- A node of a clause.
   abbrev pub ClauseOf : ℕ → Type 0
   ClauseOf n = (n < T .nodes) × IsClause (T .numbers) n
+
+  -- A leaf of a clause, and a member of it.
+  abbrev pub LeafOf : ℕ → Type 0
+  LeafOf n = LeafNode (T .numbers) (T .nodes) Anything n
+
+  abbrev pub FoundOf : ℕ → ℕ → Found → Type 0
+  FoundOf n k m = FoundAt (T .numbers) (T .nodes) Anything n k m
 
   -- The sheet's clauses from the i-th on, c of them, as a program.
   abbrev pub sheetFrom : ℕ → ℕ → Program Leaf

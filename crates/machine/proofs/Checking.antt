@@ -20,13 +20,13 @@ use Rattle.node_table.specs.Layout.{childCount}
 use Rattle.node_table.specs.Decoding.{argumentsAt}
 use Rattle.machine.specs.declared.Registers.{Registers}
 use Rattle.machine.specs.Fields as fields
-use Rattle.machine.specs.Records.{field, cellOf, levelOf, putCell, putLevel, made, putNodes, checkMode}
+use Rattle.machine.specs.Records.{cellOf, levelOf, putCell, putLevel, made, putNodes, checkMode}
 use Rattle.machine.specs.Changes.{onTrail, onNodes}
 use Rattle.machine.specs.Words.{up, nameOf, environmentAt, closureTag, constantTag, variableTag}
 use Rattle.machine.specs.Trail.{lowerTo, bindTo, oldLevel, effect}
 use Rattle.machine.specs.Choices.{failed}
 use Rattle.machine.specs.Matching.{nodesFrom, bindValue, passNode, visitVariable, visitConstant, visitClosure, visitWord}
-use Rattle.machine.proofs.Records.{There, there, puts, puts-at}
+use Rattle.machine.proofs.Records.{There, there}
 use Rattle.machine.proofs.Words.{up-small, name-is, tag-of, name-of, node-is, frame-is}
 use Rattle.machine.proofs.Heap.{Grow, heap-22, grow-refl, grow-puts}
 use Rattle.machine.proofs.Trail.{heap-lowerTo, grow-entry, heap-effect, heap-effect-22, effect-before, LowerAt, FreeAt, undo-effect}
@@ -40,6 +40,8 @@ use Rattle.machine.proofs.Configurations.{storeOf, ConfigurationAt}
 use Rattle.machine.proofs.Alternatives.{bounded-next, alternatives-noted, SharedAt, shared-same, ResultAt}
 use Rattle.machine.proofs.Onward.{pairs-result}
 use Rattle.machine.proofs.Comparing.{now-failed}
+use Rattle.memory.proofs.Records.{puts, puts-at}
+use Rattle.memory.specs.Records.{field}
 
 -- The writes at a variable's word, and at none.
 lower-variable : (w : List ℕ) (x k : ℕ) → lowerTo w (4 * x + 1) k ≡ putLevel w x k

@@ -9,15 +9,16 @@ use lib.ListN.{length, getD}
 use Rattle.search.specs.Configurations.{Configuration}
 use Rattle.machine.specs.declared.Registers.{Registers}
 use Rattle.machine.specs.Fields as fields
-use Rattle.machine.specs.Records.{field, putChoice, putChosen, putPosition}
+use Rattle.machine.specs.Records.{putChoice, putChosen, putPosition}
 use Rattle.machine.specs.Changes.{onMode, onNext, onTrail, onChoice, onGoals, onPath, onGoal, onMember}
 use Rattle.machine.specs.Choices.{saveChoice, resumeGoal, resumeMember, resumeBranch, resume}
-use Rattle.machine.proofs.Records.{puts}
 use Rattle.machine.proofs.Tables.{Table}
 use Rattle.machine.proofs.Trail.{Chain, undoAll}
 use Rattle.machine.proofs.Stores.{StoreAt}
 use Rattle.machine.proofs.Configurations.{storeOf, ConfigurationAt}
 use Rattle.machine.proofs.Alternatives.{Bounded, AlternativesAt, alternatives-more}
+use Rattle.memory.proofs.Records.{puts}
+use Rattle.memory.specs.Records.{field}
 
 -- The fields of a choice point, from 43 on.
 unfoldable pub saved : Registers → List ℕ

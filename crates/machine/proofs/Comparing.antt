@@ -19,12 +19,11 @@ use Rattle.node_table.specs.Layout.{childCount, labelOf}
 use Rattle.node_table.specs.Decoding.{argumentsAt}
 use Rattle.machine.specs.declared.Registers.{Registers}
 use Rattle.machine.specs.Fields as fields
-use Rattle.machine.specs.Records.{field, made, putPairs}
+use Rattle.machine.specs.Records.{made, putPairs}
 use Rattle.machine.specs.Changes.{onCheck}
 use Rattle.machine.specs.Words.{up, environmentAt, closureTag, constantTag, variableTag}
 use Rattle.machine.specs.Choices.{failed}
 use Rattle.machine.specs.Matching.{pairsFrom, duePairs, compareClosures, compareLeaves, compareWords}
-use Rattle.machine.proofs.Records.{puts, puts-at}
 use Rattle.machine.proofs.Words.{up-small, tag-of, node-is, frame-is}
 use Rattle.machine.proofs.Heap.{Grow, heap-22, grow-refl, grow-puts}
 use Rattle.machine.proofs.Tables.{Table, Applied, applied, node-small, same-count}
@@ -34,6 +33,8 @@ use Rattle.machine.proofs.Branches.{BranchAt, branch-heap, branch-up}
 use Rattle.machine.proofs.Configurations.{storeOf, ConfigurationAt}
 use Rattle.machine.proofs.Alternatives.{alternatives-up, SharedAt, shared-grow, ResultAt, failed-result}
 use Rattle.machine.proofs.Onward.{pairs-result, pushed-result}
+use Rattle.memory.proofs.Records.{puts, puts-at}
+use Rattle.memory.specs.Records.{field}
 
 -- The record of pairs.
 pairs-are : (w : List ℕ) (u a f b g e : ℕ) → putPairs w u a f b g e ≡ puts (a ∷ f ∷ b ∷ g ∷ e ∷ []) w u fields.goalSideNode

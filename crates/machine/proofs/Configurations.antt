@@ -19,7 +19,7 @@ use Rattle.node_table.specs.Layout.{labelOf, clauseNode}
 use Rattle.node_table.specs.Decoding.{argumentsAt, clauseAtNode}
 use Rattle.machine.specs.declared.Registers.{Registers}
 use Rattle.machine.specs.Fields as fields
-use Rattle.machine.specs.Records.{field, provedMode, takeMode, compareMode, checkMode, tryMode}
+use Rattle.machine.specs.Records.{provedMode, takeMode, compareMode, checkMode, tryMode}
 use Rattle.machine.specs.Words.{environmentAt}
 use Rattle.machine.specs.Trying.{clauseOf, clauseFrame}
 use Rattle.machine.proofs.Heap.{Heap}
@@ -27,6 +27,7 @@ use Rattle.machine.proofs.Tables.{Table, Applied}
 use Rattle.machine.proofs.Terms.{FrameAt, frame-up, frame-heap, environment-heap, FrameIn, framed-heap, framed-up, WordAt, word-heap, word-up}
 use Rattle.machine.proofs.Places.{PairsAt, NodesAt, pairs-heap, pairs-up, nodes-heap, nodes-up}
 use Rattle.machine.proofs.Branches.{PathAt, path-heap, path-up, ClauseOf, sheetFrom, ProgramAt, program-heap, program-up, SequentAt, sequent-heap, sequent-up, BranchAt, branch-heap, branch-up}
+use Rattle.memory.specs.Records.{field}
 
 -- The store of a configuration.
 unfoldable pub storeOf : Configuration → Store

@@ -17,16 +17,19 @@ use Rattle.unification.proofs.Look.{unbound-beyond}
 use Rattle.unification.proofs.Stores.{fresh-formed}
 use Rattle.sheet_format.specs.Limits.{maxBudget, numbersPerUnit, variableNames}
 use Rattle.machine.specs.Fields as fields
-use Rattle.machine.specs.Records.{field, put, putCell, putLevel}
+use Rattle.machine.specs.Records.{putCell, putLevel}
 use Rattle.machine.specs.Words.{variableWord, slotOf, leafOf, environmentAt, nameOf}
 use Rattle.machine.specs.Frames.{copyFrame, putVariable, putFresh}
-use Rattle.machine.proofs.Records.{length-put, field-same, field-other, there, field-cell, field-level, puts, puts-out}
+use Rattle.machine.proofs.Records.{there, field-cell, field-level}
 use Rattle.machine.proofs.Words.{up-small, variable-small}
 use Rattle.machine.proofs.Heap.{Heap, Grow, heap-22, heap-put, grow-refl, grow-trans, grow-less, grow-put, grow-cell, grow-level}
 use Rattle.machine.proofs.Tables.{Table}
 use Rattle.machine.proofs.Terms.{LeafAt, variable-at, leaf-up, FrameAt, frame-heap, slot-leaf, slot-heap, leaf-heap, variable-leaf}
 use Rattle.machine.proofs.Bindings.{unbound-cell}
 use Rattle.machine.proofs.Stores.{StoreAt, store-grow, store-fresh}
+use Rattle.memory.proofs.Records.{length-put, field-same, field-other, puts, puts-out}
+use Rattle.memory.specs.Records.{field, putField}
+use Rattle.clause_members.proofs.Prefixes.{namesOf}
 
 -- Frames and levels of constants stay, in every record.
 abbrev pub SameFrames : List ℕ → List ℕ → Type 0
@@ -73,15 +76,15 @@ module _ (u f : ℕ) where
   unfolding copyFrame
   copy-grow zero w v k h = grow-refl u k w
   copy-grow (suc n) w v k h =
-      let w₁ = put w u (fields.frame + v) (slotOf w f v) in
+      let w₁ = putField w u (fields.frame + v) (slotOf w f v) in
       grow-trans u k w w₁ (copyFrame n w₁ u f (suc v)) (grow-put u k w u (fields.frame + v) (slotOf w f v) (omega arith) (omega arith) (omega arith)) (copy-grow n w₁ (suc v) k (omega arith))
 
   -- Fields beside the slots stay.
   copy-out : (n : ℕ) (w : List ℕ) (v q g : ℕ) → v + n ≤ 8 → g < numbersPerUnit → (g < 23 + v ⊎ 31 ≤ g) → field (copyFrame n w u f v) q g ≡ field w q g
   unfolding copyFrame
   copy-out zero w v q g h k o = refl
-  copy-out (suc n) w v q g h k (inl o) = copy-out n (put w u (fields.frame + v) (slotOf w f v)) (suc v) q g (omega arith) k (inl (omega arith)) ∙ field-other w u (fields.frame + v) q g (slotOf w f v) (omega arith) k (λ e. omega arith)
-  copy-out (suc n) w v q g h k (inr o) = copy-out n (put w u (fields.frame + v) (slotOf w f v)) (suc v) q g (omega arith) k (inr o) ∙ field-other w u (fields.frame + v) q g (slotOf w f v) (omega arith) k (λ e. omega arith)
+  copy-out (suc n) w v q g h k (inl o) = copy-out n (putField w u (fields.frame + v) (slotOf w f v)) (suc v) q g (omega arith) k (inl (omega arith)) ∙ field-other w u (fields.frame + v) q g (slotOf w f v) (omega arith) k (λ e. omega arith)
+  copy-out (suc n) w v q g h k (inr o) = copy-out n (putField w u (fields.frame + v) (slotOf w f v)) (suc v) q g (omega arith) k (inr o) ∙ field-other w u (fields.frame + v) q g (slotOf w f v) (omega arith) k (λ e. omega arith)
 
   -- The slots are the frame's.
   pub copy-at : (n : ℕ) (w : List ℕ) (v i : ℕ) → numbersPerUnit * suc u ≤ length w → FrameAt u w f → v + n ≤ 8 → v ≤ i → i < v + n → field (copyFrame n w u f v) u (fields.frame + i) ≡ slotOf w f i
@@ -90,7 +93,7 @@ module _ (u f : ℕ) where
   copy-at (suc n) w v i b h l m k = go (eqb i v) refl (λ q. copy-at n w₁ (suc v) i (let z = length-put w u (fields.frame + v) (slotOf w f v) in omega arith) (frame-heap u w w₁ f e h) (omega arith) q (omega arith))
     where
       w₁ : List ℕ
-      w₁ = put w u (fields.frame + v) (slotOf w f v)
+      w₁ = putField w u (fields.frame + v) (slotOf w f v)
 
       e : Heap fields.constantLevel u w w₁
       e = heap-put fields.constantLevel u w u (fields.frame + v) (slotOf w f v) (omega arith) (omega arith)
@@ -124,13 +127,13 @@ copy-made w u f b h =
     made-held w (copyFrame variableNames w u f 0) u f (heap-22 u w (copyFrame variableNames w u f 0) (copy-grow u f 8 w 0 0 (omega arith) .heap)) h (λ v l. copy-at u f 8 w 0 v b h (omega arith) (omega arith) (omega arith))
 
 -- what a word stands for needs only field 22
-leaf-put : (w : List ℕ) (u f a x : ℕ) → 23 ≤ f → f < numbersPerUnit → leafOf (put w u f a) x ≡ leafOf w x
+leaf-put : (w : List ℕ) (u f a x : ℕ) → 23 ≤ f → f < numbersPerUnit → leafOf (putField w u f a) x ≡ leafOf w x
 unfolding leafOf
 leaf-put w u f a x h k = rw (field-other w u f (nameOf x) fields.constantLevel a k (omega arith) (λ q. omega arith))
 
 -- One name changed.
 pub slot-made : (w : List ℕ) (u v a : ℕ) (e : Environment Leaf) (l : Leaf) → numbersPerUnit * suc u ≤ length w → v < variableNames → LeafAt (suc u) a → leafOf w a ≡ l → FrameMade w u e
-    → FrameMade (put w u (fields.frame + v) a) u (update e v (leaf l))
+    → FrameMade (putField w u (fields.frame + v) a) u (update e v (leaf l))
 unfolding FrameAt environmentAt update
 slot-made w u v a e l b h la ea m = record {
   frame = (omega arith, λ i k. slot i k (eqb i v) refl);
@@ -138,7 +141,7 @@ slot-made w u v a e l b h la ea m = record {
 }
   where
     w′ : List ℕ
-    w′ = put w u (fields.frame + v) a
+    w′ = putField w u (fields.frame + v) a
 
     same : field w′ u (fields.frame + v) ≡ a
     same = field-same w u (fields.frame + v) a (omega arith)
@@ -168,11 +171,6 @@ made-same w w′ u e h m = record { frame = frame-same (suc u) w w′ (suc u) h 
 
 -- Fresh variables
 
--- The names that a number stands for.
-unfoldable pub digits : ℕ → ℕ → List ℕ
-digits zero vs = []
-digits (suc n) vs = vs % 8 ∷ digits n (vs / 8)
-
 -- Making a variable leaves frames,
 same-variable : (w : List ℕ) (x i : ℕ) → SameFrames w (putVariable w x i)
 unfolding putVariable
@@ -190,15 +188,15 @@ pub record FreshMade (T : Table) (w w′ : List ℕ) (u : ℕ) (s s′ : Store) 
 
 -- Fresh variables for the names: level 1's `fresh` and `assign`.
 pub fresh-made : (n : ℕ) (T : Table) (w : List ℕ) (u vs i : ℕ) (s : Store) (e : Environment Leaf) → Formed s → numbersPerUnit * suc u ≤ length w → u < maxBudget → s .next + n ≤ 9 * suc u → StoreAt T u w s → FrameMade w u e
-    → FreshMade T w (putFresh n w u vs (s .next) i) u s (fresh (digits n vs) i s) (assign (digits n vs) (freshVariables (digits n vs) (s .next)) e)
-unfolding putFresh digits fresh freshLevels past assign freshVariables
+    → FreshMade T w (putFresh n w u vs (s .next) i) u s (fresh (namesOf n vs) i s) (assign (namesOf n vs) (freshVariables (namesOf n vs) (s .next)) e)
+unfolding putFresh namesOf fresh freshLevels past assign freshVariables
 fresh-made zero T w u vs i s e fm room small b st m = record { store = st; frame = m; grow = grow-refl u (s .next) w }
 fresh-made (suc n) T w u vs i s e fm room small b st m =
     let x = s .next in
     let v = vs % 8 in
     let s₁ = fresh (v ∷ []) i s in
     let w₁ = putVariable w x i in
-    let w₂ = put w₁ u (fields.frame + v) (variableWord x) in
+    let w₂ = putField w₁ u (fields.frame + v) (variableWord x) in
     let g₁ = grow-variable u x w x i (omega arith) in
     let l₁ = g₁ .heap .len in
     let z : variableWord x ≡ 4 * x + 1 = variable-small x (omega arith) in

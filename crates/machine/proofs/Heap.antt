@@ -6,8 +6,10 @@ use mathlib.Core.List.{List, [], _∷_}
 use lib.ListN.{length}
 use Rattle.sheet_format.specs.Limits.{numbersPerUnit}
 use Rattle.machine.specs.Fields as fields
-use Rattle.machine.specs.Records.{field, put, cellOf, levelOf, putCell, putLevel}
-use Rattle.machine.proofs.Records.{length-put, length-cell, length-level, record-other, field-other, cell-put, level-put, field-cell, level-cell, cell-other, field-level, cell-level, level-other, puts}
+use Rattle.machine.specs.Records.{cellOf, levelOf, putCell, putLevel}
+use Rattle.machine.proofs.Records.{length-cell, length-level, cell-put, level-put, field-cell, level-cell, cell-other, field-level, cell-level, level-other}
+use Rattle.memory.proofs.Records.{length-put, record-other, field-other, puts}
+use Rattle.memory.specs.Records.{field, putField}
 
 -- In records below n the fields from lo on stay. From 22 on: all that is read back as data; from 18 on: the trail too.
 pub record Heap (lo n : ℕ) (w w′ : List ℕ) : Type 0 where
@@ -33,11 +35,11 @@ pub heap-22 : (n : ℕ) (a b : List ℕ) → Heap fields.entryLowered n a b → 
 heap-22 n a b h = record { len = h .len; old = λ u f x y z. h .old u f x (omega arith) z }
 
 -- A field of this act's record.
-pub heap-put : (lo n : ℕ) (w : List ℕ) (u f a : ℕ) → n ≤ u → f < numbersPerUnit → Heap lo n w (put w u f a)
+pub heap-put : (lo n : ℕ) (w : List ℕ) (u f a : ℕ) → n ≤ u → f < numbersPerUnit → Heap lo n w (putField w u f a)
 heap-put lo n w u f a h k = record { len = length-put w u f a; old = λ v g x y z. record-other w u f v g a k z (λ e. omega arith) }
 
 -- a field below lo, of any record
-pub heap-low : (lo n : ℕ) (w : List ℕ) (u f a : ℕ) → f < lo → f < numbersPerUnit → Heap lo n w (put w u f a)
+pub heap-low : (lo n : ℕ) (w : List ℕ) (u f a : ℕ) → f < lo → f < numbersPerUnit → Heap lo n w (putField w u f a)
 heap-low lo n w u f a h k = record { len = length-put w u f a; old = λ v g x y z. field-other w u f v g a k z (λ e. omega arith) }
 
 -- A cell,
@@ -65,14 +67,14 @@ pub grow-less : (n j k : ℕ) (w w′ : List ℕ) → j ≤ k → Grow n k w w�
 grow-less n j k w w′ l g = record { heap = g .heap; cells = λ x h. g .cells x (omega arith); levels = λ x h. g .levels x (omega arith) }
 
 -- a field of this act's record, and a group of them
-pub grow-put : (n k : ℕ) (w : List ℕ) (u f a : ℕ) → n ≤ u → fields.entryLowered ≤ f → f < numbersPerUnit → Grow n k w (put w u f a)
+pub grow-put : (n k : ℕ) (w : List ℕ) (u f a : ℕ) → n ≤ u → fields.entryLowered ≤ f → f < numbersPerUnit → Grow n k w (putField w u f a)
 grow-put n k w u f a h l m = record { heap = heap-put fields.entryLowered n w u f a h m; cells = λ x b. cell-put w x u f a l m; levels = λ x b. level-put w x u f a l m }
 
 -- Several fields.
 pub grow-puts : (l w : List ℕ) (n k u f : ℕ) → n ≤ u → fields.entryLowered ≤ f → f + length l ≤ numbersPerUnit → Grow n k w (puts l w u f)
 unfolding puts
 grow-puts [] w n k u f h a b = grow-refl n k w
-grow-puts (x ∷ l) w n k u f h a b = grow-trans n k w (put w u f x) (puts l (put w u f x) u (suc f)) (grow-put n k w u f x h a (omega arith)) (grow-puts l (put w u f x) n k u (suc f) h (omega arith) (omega arith))
+grow-puts (x ∷ l) w n k u f h a b = grow-trans n k w (putField w u f x) (puts l (putField w u f x) u (suc f)) (grow-put n k w u f x h a (omega arith)) (grow-puts l (putField w u f x) n k u (suc f) h (omega arith) (omega arith))
 
 -- a variable from k on
 pub grow-cell : (n k : ℕ) (w : List ℕ) (x a : ℕ) → k ≤ x → Grow n k w (putCell w x a)

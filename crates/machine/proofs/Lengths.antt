@@ -8,21 +8,23 @@ use lib.ListN.{length}
 use Rattle.sheet_format.specs.Limits.{variableNames}
 use Rattle.node_table.specs.Layout.{kindOf, labelOf, impliesKind}
 use Rattle.machine.specs.declared.Registers.{Registers}
-use Rattle.machine.specs.declared.Found.{Found}
 use Rattle.machine.specs.Fields as fields
-use Rattle.machine.specs.Records.{field, put, levelOf, putCell, putLevel, Made, made, putEntry, putGoal, putAssumption, putPath, putUse, putPairs, putNodes, provedMode, compareMode, tryMode, takeMode}
+use Rattle.machine.specs.Records.{levelOf, putCell, putLevel, Made, made, putEntry, putGoal, putAssumption, putPath, putUse, putPairs, putNodes, provedMode, compareMode, tryMode, takeMode}
 use Rattle.machine.specs.Words.{up, tagOf, nameOf, nodeOf, frameOf, slotOf, variableWord, constantWord, constantTag, variableTag}
 use Rattle.machine.specs.Trail.{lowerTo, bindTo, oldLevel, effect, undoEntry, undo}
 use Rattle.machine.specs.Frames.{copyFrame, putVariable, putFresh, putVariables}
-use Rattle.machine.specs.Members.{headOf}
 use Rattle.machine.specs.Choices.{saveChoice, takeUp, failed}
 use Rattle.machine.specs.Goals.{membersLeft, tryFrom, takeAtom, takeTrue, takeAnd, takeOr, takeImplies, takeExists, putConstant, takeForall, takeGoal}
 use Rattle.machine.specs.Matching.{compareClosures, compareLeaves, compareWords, comparePair, bindValue, passNode, visitVariable, visitConstant, visitClosure, visitWord, checkNode}
 use Rattle.machine.specs.Trying.{nextMember, putPrefix, leaveOthers, putBody, putTry, tryMember, tryFound, tryNext}
 use Rattle.machine.specs.Machine.{dueAct, act, run}
 use Rattle.machine.specs.Simulation.{KeepsLength}
-use Rattle.machine.proofs.Records.{length-put, length-cell, length-level, puts, length-puts}
+use Rattle.machine.proofs.Records.{length-cell, length-level}
 use Rattle.machine.proofs.Choosing.{saved, save-is}
+use Rattle.memory.proofs.Records.{length-put, puts, length-puts}
+use Rattle.memory.specs.Records.{field, putField}
+use Rattle.clause_members.specs.declared.Found.{Found}
+use Rattle.clause_members.specs.Members.{headOf}
 
 -- By cases of a test: of memories, of what an act leaves.
 either : (b : Bool) (x y w : List ℕ) → length x ≡ length w → length y ≡ length w → length (cond b x y) ≡ length w
@@ -119,7 +121,7 @@ length-failed w r = made-either (eqb (r .choice) 0) _ (takeUp w r (r .choice - 1
 length-copy : (n : ℕ) (w : List ℕ) (u f v : ℕ) → length (copyFrame n w u f v) ≡ length w
 unfolding copyFrame
 length-copy zero w u f v = refl
-length-copy (suc n) w u f v = length-copy n (put w u (fields.frame + v) (slotOf w f v)) u f (suc v) ∙ length-put w u (fields.frame + v) (slotOf w f v)
+length-copy (suc n) w u f v = length-copy n (putField w u (fields.frame + v) (slotOf w f v)) u f (suc v) ∙ length-put w u (fields.frame + v) (slotOf w f v)
 
 -- making a variable,
 length-variable : (w : List ℕ) (x i : ℕ) → length (putVariable w x i) ≡ length w
@@ -131,7 +133,7 @@ length-fresh : (n : ℕ) (w : List ℕ) (u vs x i : ℕ) → length (putFresh n 
 unfolding putFresh
 length-fresh zero w u vs x i = refl
 length-fresh (suc n) w u vs x i =
-    length-fresh n (put (putVariable w x i) u (fields.frame + vs % 8) (variableWord x)) u (vs / 8) (up x) i ∙ length-put (putVariable w x i) u (fields.frame + vs % 8) (variableWord x) ∙ length-variable w x i
+    length-fresh n (putField (putVariable w x i) u (fields.frame + vs % 8) (variableWord x)) u (vs / 8) (up x) i ∙ length-put (putVariable w x i) u (fields.frame + vs % 8) (variableWord x) ∙ length-variable w x i
 
 -- those of the goal.
 pub length-variables : (n : ℕ) (w : List ℕ) (x : ℕ) → length (putVariables n w x) ≡ length w
@@ -155,7 +157,7 @@ length-take t c w r =
     (made-either (eqb k 5) (takeOr t w r) _ w (length-choice path u _ ∙ path-kept)
     (made-either (eqb k 6) (takeImplies t w r) _ w (length-assumption path u _ _ _ ∙ path-kept)
     (made-either (eqb k 7) (takeExists t w r) _ w (length-put (putPath x u (r .path) (r .line)) u fields.variables (r .next) ∙ length-path x u (r .path) (r .line) ∙ length-fresh 1 copy u (labelOf t (r .node)) (r .next) (r .level) ∙ copied)
-    (made-either (eqb k 8) (takeForall t w r) (takeTrue w r) w (length-path y u (r .path) (r .line) ∙ length-put (put copy u fields.constantLevel (up (r .level))) u (fields.frame + labelOf t (r .node)) (constantWord u) ∙ length-put copy u fields.constantLevel (up (r .level)) ∙ copied) path-kept)))))
+    (made-either (eqb k 8) (takeForall t w r) (takeTrue w r) w (length-path y u (r .path) (r .line) ∙ length-put (putField copy u fields.constantLevel (up (r .level))) u (fields.frame + labelOf t (r .node)) (constantWord u) ∙ length-put copy u fields.constantLevel (up (r .level)) ∙ copied) path-kept)))))
   where
     k : ℕ
     k = kindOf t (r .node)
@@ -179,7 +181,7 @@ length-take t c w r =
     x = putFresh 1 copy u (labelOf t (r .node)) (r .next) (r .level)
 
     y : List ℕ
-    y = put (put copy u fields.constantLevel (up (r .level))) u (fields.frame + labelOf t (r .node)) (constantWord u)
+    y = putField (putField copy u fields.constantLevel (up (r .level))) u (fields.frame + labelOf t (r .node)) (constantWord u)
 
 -- comparing a pair,
 length-compareWords : (t w : List ℕ) (r : Registers) (e x y : ℕ) → length (compareWords t w r e x y .memory) ≡ length w

@@ -6,6 +6,7 @@ pub mod Heap
 pub mod Terms
 pub mod Trail
 pub mod Bindings
+pub mod Deref
 pub mod Stores
 pub mod Places
 pub mod Branches
@@ -18,8 +19,6 @@ pub mod MatchActs
 pub mod Frames
 pub mod Choosing
 pub mod Taking
-pub mod Names
-pub mod Members
 pub mod Positions
 pub mod Trying
 pub mod TryActs

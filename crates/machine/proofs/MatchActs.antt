@@ -17,19 +17,19 @@ use Rattle.search.proofs.Invariant.{Invariant}
 use Rattle.sheet_format.specs.Limits.{maxBudget, numbersPerUnit}
 use Rattle.machine.specs.declared.Registers.{Registers}
 use Rattle.machine.specs.Fields as fields
-use Rattle.machine.specs.Records.{field}
-use Rattle.machine.specs.Words.{lookWord}
+use Rattle.machine.specs.Words.{deref}
 use Rattle.machine.specs.Matching.{pairsFrom, argumentWord, comparePair, dueWord, nodesAfter, checkNode}
 use Rattle.machine.proofs.Words.{place-record, place-argument}
 use Rattle.machine.proofs.Tables.{Table, few-arguments}
 use Rattle.machine.proofs.Terms.{WordAt}
 use Rattle.machine.proofs.Bindings.{hops-le, unbound-cell}
-use Rattle.machine.proofs.Stores.{look-word}
+use Rattle.machine.proofs.Stores.{deref-word}
 use Rattle.machine.proofs.Places.{PairsAt, NodesAt, place-word}
 use Rattle.machine.proofs.Configurations.{storeOf, DueAt, CompareAt, ConfigurationAt}
 use Rattle.machine.proofs.Alternatives.{StateAt, ResultAt}
 use Rattle.machine.proofs.Comparing.{compare-result}
 use Rattle.machine.proofs.Checking.{visit-result}
+use Rattle.memory.specs.Records.{field}
 
 module _ (T : Table) (w : List ℕ) (r : Registers) (b : Branch) (ds : List Configuration) (room : numbersPerUnit * suc (r .acts) ≤ length w) (small : r .acts < maxBudget) where
   -- Comparing the pair that is due.
@@ -50,13 +50,13 @@ module _ (T : Table) (w : List ℕ) (r : Registers) (b : Branch) (ds : List Conf
       let a₂ : WordAt T u (s .next) w (argumentWord (T .numbers) w (r .pairs) fields.clauseSideNode) (p .clause) = place-word T u (s .next) w (r .pairs) q j fields.clauseSideNode (p .clause) (omega arith) e (P .5) in
       let bs = s .bindings in
       let m = st .shared .bounded .bindings in
-      let x₁ = look-word T u w s (st .shared .store) (good .bound) (good .below) u a₁ (below .0) (let h = hops-le bs (p .goal) in omega arith) in
-      let x₂ = look-word T u w s (st .shared .store) (good .bound) (good .below) u a₂ (below .1) (let h = hops-le bs (p .clause) in omega arith) in
+      let x₁ = deref-word T u w s (st .shared .store) (good .bound) (good .below) u a₁ (below .0) (let h = hops-le bs (p .goal) in omega arith) in
+      let x₂ = deref-word T u w s (st .shared .store) (good .bound) (good .below) u a₂ (below .1) (let h = hops-le bs (p .clause) in omega arith) in
       let e₀ : r .pairs / 4 ≡ suc q = ap (λ (z : ℕ). z / 4) e ∙ place-record (suc q) j k in
       let e₁ : r .pairs % 4 + 1 ≡ suc j = ap (λ (z : ℕ). z % 4 + 1) e ∙ ap (λ (z : ℕ). z + 1) (place-argument (suc q) j k) ∙ (omega arith) in
       rw (e₀, e₁)
-      (compare-result T w r s b ds room small (f .2) (st .shared) (pairsFrom (T .numbers) w (suc q) (suc j)) (lookWord u w (argumentWord (T .numbers) w (r .pairs) fields.goalSideNode))
-      (lookWord u w (argumentWord (T .numbers) w (r .pairs) fields.clauseSideNode)) (look bs (p .goal)) (look bs (p .clause)) ps x₁ x₂ (P .6))
+      (compare-result T w r s b ds room small (f .2) (st .shared) (pairsFrom (T .numbers) w (suc q) (suc j)) (deref u w (argumentWord (T .numbers) w (r .pairs) fields.goalSideNode))
+      (deref u w (argumentWord (T .numbers) w (r .pairs) fields.clauseSideNode)) (look bs (p .goal)) (look bs (p .clause)) ps x₁ x₂ (P .6))
 
   -- the node that is due
   due-word : (v : ℕ) (t x : Term Leaf) (ns : List (Term Leaf)) → WordAt T (r .acts) v w (r .value) t → DueAt T (r .acts) v w (r .nodes) t x ns
@@ -85,6 +85,6 @@ module _ (T : Table) (w : List ℕ) (r : Registers) (b : Branch) (ds : List Conf
       let d = due-word (s .next) t x ns (f .value) (f .nodes) in
       let m = st .shared .bounded .bindings in
       let bs = s .bindings in
-      let v = look-word T u w s (st .shared .store) (good .bound) (good .below) u (d .0) (c .nodes .0) (let h = hops-le bs x in omega arith) in
+      let v = deref-word T u w s (st .shared .store) (good .bound) (good .below) u (d .0) (c .nodes .0) (let h = hops-le bs x in omega arith) in
       visit-result T w r s b ds room small (f .branch) (st .shared) (f .mode) y (nodesAfter (T .numbers) w (r .nodes)) t ns ps (f .variable) (f .value) (f .pairs) (c .low)
-      (unbound-cell bs y (good .bound) (c .unbound)) (lookWord u w (dueWord (T .numbers) w r)) (look bs x) v (look-below bs x (s .next) (good .below) (c .nodes .0)) (d .1)
+      (unbound-cell bs y (good .bound) (c .unbound)) (deref u w (dueWord (T .numbers) w r)) (look bs x) v (look-below bs x (s .next) (good .below) (c .nodes .0)) (d .1)

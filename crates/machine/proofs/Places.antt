@@ -14,13 +14,13 @@ use Rattle.sheet_format.specs.Limits.{maxBudget}
 use Rattle.node_table.specs.Layout.{childCount, childOf}
 use Rattle.node_table.specs.Decoding.{childrenBy, termAt}
 use Rattle.machine.specs.Fields as fields
-use Rattle.machine.specs.Records.{field}
 use Rattle.machine.specs.Words.{wordOf, environmentAt}
 use Rattle.machine.specs.Matching.{placeWord, pairsFrom, nodesFrom, argumentWord}
 use Rattle.machine.proofs.Words.{place-small, place-record, place-argument}
 use Rattle.machine.proofs.Heap.{Heap}
 use Rattle.machine.proofs.Tables.{Table, Applied, argument-term, few-arguments}
 use Rattle.machine.proofs.Terms.{FrameIn, framed-heap, framed-up, environment-heap, WordAt, node-word}
+use Rattle.memory.specs.Records.{field}
 
 -- Reading by pointers.
 pub pairs-from : (t w : List ℕ) (r i : ℕ) → pairsFrom t w (suc r) i ≡ cond (ltb i (childCount t (field w r fields.goalSideNode))) (placeWord (suc r) i) (field w r fields.pairsAfter)

@@ -18,18 +18,19 @@ use Rattle.node_table.specs.Layout.{clauseNode, membersOf}
 use Rattle.node_table.specs.Decoding.{clauseAtNode, clausesFrom}
 use Rattle.machine.specs.declared.Registers.{Registers}
 use Rattle.machine.specs.Fields as fields
-use Rattle.machine.specs.Records.{field}
 use Rattle.machine.specs.Changes.{onMember}
 use Rattle.machine.specs.Words.{up, environmentAt}
-use Rattle.machine.specs.Members.{findMember}
 use Rattle.machine.specs.Goals.{membersLeft}
 use Rattle.machine.specs.Trying.{clauseOf, clauseFrame, nextClause, nextMember}
 use Rattle.machine.proofs.Words.{up-small}
-use Rattle.machine.proofs.Tables.{Table, node-small}
+use Rattle.machine.proofs.Tables.{Table, nodes-are}
 use Rattle.machine.proofs.Terms.{FrameAt}
-use Rattle.machine.proofs.Branches.{first-environment, ClauseOf, sheetFrom, ProgramAt, program-sheet, program-more}
+use Rattle.machine.proofs.Branches.{first-environment, ClauseOf, sheetFrom, ProgramAt, program-sheet, program-more, Anything, FoundOf}
 use Rattle.machine.proofs.Configurations.{RestAt, PositionAt}
-use Rattle.machine.proofs.Members.{drop-nth, memberOf, FoundAt, member-found}
+use Rattle.memory.specs.Records.{field}
+use Rattle.sheet_format.proofs.Places.{at-drop}
+use Rattle.clause_members.specs.Members.{member}
+use Rattle.clause_members.proofs.Members.{memberOf, member-found}
 
 module _ (T : Table) where
   -- The table.
@@ -87,9 +88,9 @@ module _ (T : Table) where
 
   -- The member that the position names, and the members after it.
   pub record FirstAt (n : ℕ) (w : List ℕ) (r : Registers) (es : List (Entry Leaf)) : Type 0 where
-    pub found : FoundAt T (clauseOf (T .numbers) w r) (r .member) (findMember maxNodes (T .numbers) (clauseOf (T .numbers) w r) (r .member))
+    pub found : FoundOf T (clauseOf (T .numbers) w r) (r .member) (member (T .numbers) (clauseOf (T .numbers) w r) (r .member))
     pub others : List (Entry Leaf)
-    pub are : es ≡ entry (environmentAt w (clauseFrame w r)) (memberOf T (findMember maxNodes (T .numbers) (clauseOf (T .numbers) w r) (r .member))) ∷ others
+    pub are : es ≡ entry (environmentAt w (clauseFrame w r)) (memberOf (T .numbers) (member (T .numbers) (clauseOf (T .numbers) w r) (r .member))) ∷ others
     pub left : MembersAt n w (nextMember (T .numbers) w r) others
 
   -- the clause after this one
@@ -145,8 +146,11 @@ module _ (T : Table) where
       let c = clauseOf t w r in
       let k = r .member in
       let e = environmentAt w (clauseFrame w r) in
-      let F = member-found T maxNodes c k (node-small T c (p .clause .0)) (p .clause) (p .member) in
-      let d = drop-nth (members (clauseAtNode t c)) k (memberOf T (findMember maxNodes t c k)) (F .member) in
+      let b = p .member in
+      let m = clause-count c (p .clause) .0 in
+      let F =
+      member-found t (T .nodes) (nodes-are T) Anything (λ x y h. (tt, tt)) (λ v x h. tt) c k (T .made .fewNodes) (p .clause .0) (p .clause .1) tt (omega arith) in
+      let d = at-drop (members (clauseAtNode t c)) k (memberOf t (member t c k)) (F .is) in
       record {
         found = F;
         others = map (entry e) (drop (suc k) (members (clauseAtNode t c))) ++ p .rest;

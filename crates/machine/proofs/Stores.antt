@@ -1,8 +1,8 @@
 -- The store in memory: cells and levels of the variables that have been made; each operation of level 1's store.
-use Prim.Native.Nat.{ℕ, zero, suc, _+_, _-_, _*_, _≤_, _<_, min}
+use Prim.Native.Nat.{ℕ, suc, _+_, _-_, _*_, _≤_, _<_, min}
 use native.Mathlib.Omega.{arith}
 use mathlib.Core.Bool.{Bool, true, false, cond}
-use mathlib.Core.Path.{_≡_, refl, sym, ap, _∙_}
+use mathlib.Core.Path.{_≡_, refl, sym, ap, _∙_, subst}
 use mathlib.Core.List.{List, [], _∷_}
 use mathlib.Core.Option.{Option, none, some}
 use lib.Dec.{eqb}
@@ -14,32 +14,16 @@ use Rattle.unification.specs.Promises.{Below, BelowBinding, WellBound}
 use Rattle.sheet_format.specs.Limits.{maxNodes}
 use Rattle.machine.specs.Fields as fields
 use Rattle.machine.specs.Records.{cellOf, levelOf, putCell, putLevel}
-use Rattle.machine.specs.Words.{tagOf, nameOf, lookWord, termOf, variableTag}
+use Rattle.machine.specs.Words.{tagOf, nameOf, termOf, variableTag, deref}
 use Rattle.machine.specs.Frames.{putVariable}
 use Rattle.machine.specs.Reading.{variableOf}
 use Rattle.machine.proofs.Records.{There, cell-same, level-same, level-cell, cell-other, cell-level, level-other, length-cell}
-use Rattle.machine.proofs.Words.{tag-is, name-is}
+use Rattle.machine.proofs.Words.{zero-tag, tag-of, name-of}
 use Rattle.machine.proofs.Heap.{Heap, Grow, heap-22, heap-trans, heap-cell, heap-level}
 use Rattle.machine.proofs.Tables.{Table}
-use Rattle.machine.proofs.Terms.{WordAt, word-variable, word-constant, word-closure, word-heap, word-up, word-wider, word-term, word-nonzero}
+use Rattle.machine.proofs.Terms.{WordAt, word-variable, word-constant, word-closure, word-heap, word-up, word-wider, word-term, word-nonzero, word-tag}
 use Rattle.machine.proofs.Bindings.{cell, hops, hop, stop, look-app, look-con, cell-none, cell-some, cell-below}
-
--- One turn of looking through.
-look-unbound : (f : ℕ) (w : List ℕ) (x : ℕ) → cellOf w x ≡ 0 → lookWord (suc f) w (4 * x + 1) ≡ 4 * x + 1
-unfolding lookWord
-look-unbound f w x e = rw (lookWord, tag-is x 1 (omega arith), eq-eqb (cellOf w (nameOf (4 * x + 1))) 0 (ap (cellOf w) (name-is x 1 (omega arith)) ∙ e))
-
--- A bound variable,
-look-bound : (f : ℕ) (w : List ℕ) (x : ℕ) → (cellOf w x ≡ 0 → ⊥) → lookWord (suc f) w (4 * x + 1) ≡ lookWord f w (cellOf w x)
-unfolding lookWord
-look-bound f w x d =
-    let p = ap (cellOf w) (name-is x 1 (omega arith)) in
-    rw (lookWord, tag-is x 1 (omega arith), ne-eqb (cellOf w (nameOf (4 * x + 1))) 0 (λ q. d (sym p ∙ q))) (ap (lookWord f w) p)
-
--- no variable.
-look-other : (f : ℕ) (w : List ℕ) (a : ℕ) → (tagOf a ≡ variableTag → ⊥) → lookWord (suc f) w a ≡ a
-unfolding lookWord
-look-other f w a d = rw (lookWord, ne-eqb (tagOf a) variableTag d)
+use Rattle.machine.proofs.Deref.{deref-other, deref-free, Turn, stays, follows, deref-look}
 
 module _ (T : Table) where
   -- A cell: 0 for an unbound variable, else the word of what it is bound to.
@@ -134,33 +118,33 @@ module _ (T : Table) where
       levels x h true q = rw (eqb-true x y q) (level-same w₁ y i (let l = length-cell w y 0 in omega arith))
       levels x h false q = let d = eqb-false x y q in level-other w₁ y i x d ∙ level-cell w y 0 x ∙ r .levels x (omega arith)
 
-  -- Looking through: f turns suffice.
+  -- Following bindings: f turns suffice.
   module _ (n : ℕ) (w : List ℕ) (s : Store) (r : StoreAt n w s) (wb : WellBound (s .bindings)) (bl : All (BelowBinding (s .next)) (s .bindings)) where
-    -- The word that is come to is that of level 1's `look`.
-    pub look-word : (f : ℕ) {a : ℕ} {t : Term Leaf} → WordAt T n (s .next) w a t → Leaves t (Below (s .next)) → hops (s .bindings) t ≤ f → WordAt T n (s .next) w (lookWord f w a) (look (s .bindings) t)
-    unfolding lookWord Leaves Below CellAt
-    look-word zero (word-variable {a = a} {y = x} q) b h = go (cell (s .bindings) x) refl
-      where
-        go : (c : Option (Term Leaf)) → cell (s .bindings) x ≡ c → WordAt T n (s .next) w a (look (s .bindings) (leaf (var x)))
-        go none e = rw (stop (s .bindings) x e) (word-variable q)
-        go (some u) e = absurd (let z = hop (s .bindings) x u wb e .1 in omega arith)
-    look-word zero (word-constant {c = c} {k = k} q l e) b h = rw (look-con (s .bindings) c k .0) (word-constant q l e)
-    look-word zero (word-closure {g = g} {ts = ts} m f q l k e i) b h = rw (look-app (s .bindings) g ts .0) (word-closure m f q l k e i)
-    look-word (suc f) (word-variable {a = a} {y = x} q) b h = rw q (go (cell (s .bindings) x) refl (r .cells x b) (λ u g c l. look-word f g c l))
-      where
-        A : Type 0
-        A = (u : Term Leaf) → WordAt T n (s .next) w (cellOf w x) u → Leaves u (Below (s .next)) → hops (s .bindings) u ≤ f → WordAt T n (s .next) w (lookWord f w (cellOf w x)) (look (s .bindings) u)
+    -- The words of terms whose variables have been made.
+    abbrev Reads : ℕ → Term Leaf → Type 0
+    Reads a t = WordAt T n (s .next) w a t × Leaves t (Below (s .next))
 
-        go : (c : Option (Term Leaf)) → cell (s .bindings) x ≡ c → CellAt n (s .next) w (cellOf w x) c → A → WordAt T n (s .next) w (lookWord (suc f) w (4 * x + 1)) (look (s .bindings) (leaf (var x)))
-        go none e g ih = rw (look-unbound f w x g, stop (s .bindings) x e) (word-variable refl)
-        go (some u) e g ih =
-            let z = hop (s .bindings) x u wb e in
-            let l = z .1 in
-            rw (look-bound f w x (word-nonzero T g), z .0) (ih u g (cell-below (s .bindings) (s .next) x u bl e) (omega arith))
-    look-word (suc f) (word-constant {a = a} {c = c} {k = k} q l e) b h =
-        rw (look-other f w a (λ z. let y = ap tagOf q ∙ tag-is c 2 (omega arith) in omega arith), look-con (s .bindings) c k .0) (word-constant q l e)
-    look-word (suc f) (word-closure {a = a} {g = g} {ts = ts} m d q l k e i) b h =
-        rw (look-other f w a (λ z. let y = ap tagOf q ∙ tag-is (maxNodes * d + m) 3 (omega arith) in omega arith), look-app (s .bindings) g ts .0) (word-closure m d q l k e i)
+    -- one turn
+    turn : (a : ℕ) (t : Term Leaf) → Reads a t → Turn w (s .bindings) Reads a t
+    unfolding Leaves Below CellAt
+    turn a _ (word-variable {y = x} q, b) = go (cell (s .bindings) x) refl (r .cells x b)
+      where
+        name : nameOf a ≡ x
+        name = name-of a x 1 (omega arith) q
+
+        go : (c : Option (Term Leaf)) → cell (s .bindings) x ≡ c → CellAt n (s .next) w (cellOf w x) c → Turn w (s .bindings) Reads a (leaf (var x))
+        go none e g =
+            stays (λ f. deref-free f w a (tagOf a) x (cellOf w x) (tagOf (cellOf w x)) refl (tag-of a x 1 (omega arith) q) (sym name) refl refl (ap tagOf g ∙ zero-tag))
+            (stop (s .bindings) x e)
+        go (some u) e g =
+            let h = hop (s .bindings) x u wb e in
+            follows u (tag-of a x 1 (omega arith) q) (λ z. word-tag T g (ap (λ (y : ℕ). tagOf (cellOf w y)) (sym name) ∙ z)) (h .0) (h .1)
+            (subst (λ (y : ℕ). Reads (cellOf w y) u) (sym name) (g, cell-below (s .bindings) (s .next) x u bl e))
+    turn a _ (word-constant {c = c} {k = k} q l e, b) = stays (λ f. deref-other f w a (tagOf a) refl (λ z. let y = tag-of a c 2 (omega arith) q in omega arith)) (look-con (s .bindings) c k .0)
+    turn a _ (word-closure {g = g} {ts = ts} m d q l k e i, b) = stays (λ f. deref-other f w a (tagOf a) refl (λ z. let y = tag-of a (maxNodes * d + m) 3 (omega arith) q in omega arith)) (look-app (s .bindings) g ts .0)
+
+    pub deref-word : (f : ℕ) {a : ℕ} {t : Term Leaf} → WordAt T n (s .next) w a t → Leaves t (Below (s .next)) → hops (s .bindings) t ≤ f → WordAt T n (s .next) w (deref f w a) (look (s .bindings) t)
+    deref-word f {a} {t} g b h = deref-look w (s .bindings) Reads turn f a t (g, b) h .0
 
   -- The store is read back.
   pub store-bindings : (n : ℕ) (w : List ℕ) (s : Store) → StoreAt n w s → (x : ℕ) → x < s .next → variableOf (T .numbers) w x ≡ boundTo (s .bindings) x

@@ -20,14 +20,13 @@ use Rattle.node_table.specs.WellMade.{IsGoal, GoalNode}
 use Rattle.node_table.proofs.Decoding.{goal-true, goal-and, goal-or, goal-implies, goal-exists, goal-forall}
 use Rattle.machine.specs.declared.Registers.{Registers}
 use Rattle.machine.specs.Fields as fields
-use Rattle.machine.specs.Records.{field, put, made, putGoal, putAssumption, putPath, allLine, someLine, leftLine, rightLine, assumeLine, andLine, trueLine}
+use Rattle.machine.specs.Records.{made, putGoal, putAssumption, putPath, allLine, someLine, leftLine, rightLine, assumeLine, andLine, trueLine}
 use Rattle.machine.specs.Changes.{onMode, onNext, onTrail, onChoice, onGoals, onPath, onGoal, onMember}
 use Rattle.machine.specs.Words.{slotOf, environmentAt}
 use Rattle.machine.specs.Frames.{copyFrame, putFresh}
 use Rattle.machine.specs.Reading.{lineAt}
 use Rattle.machine.specs.Goals.{proceed, takeTrue, takeAnd, rightBranch, takeOr, takeImplies, takeExists, putConstant, takeForall}
 use Rattle.machine.specs.Choices.{saveChoice}
-use Rattle.machine.proofs.Records.{field-same, field-other, puts, puts-at, puts-out, length-puts}
 use Rattle.machine.proofs.Words.{up-small, constant-small}
 use Rattle.machine.proofs.Heap.{Heap, Grow, heap-22, grow-trans, grow-put, grow-puts}
 use Rattle.machine.proofs.Tables.{Table, nodes-are}
@@ -38,7 +37,10 @@ use Rattle.machine.proofs.Configurations.{storeOf, ConfigurationAt}
 use Rattle.machine.proofs.Alternatives.{bounded-next, alternatives-wider, SharedAt, shared-grow, ResultAt}
 use Rattle.machine.proofs.Onward.{proceed-result}
 use Rattle.machine.proofs.Choosing.{saved, save-is, saved-length, resumed, SavedAt, choice-opened}
-use Rattle.machine.proofs.Frames.{SameFrames, same-trans, same-puts, FrameMade, copy-grow, copy-at, copy-made, made-held, slot-made, made-same, digits, FreshMade, fresh-made}
+use Rattle.machine.proofs.Frames.{SameFrames, same-trans, same-puts, FrameMade, copy-grow, copy-at, copy-made, made-held, slot-made, made-same, FreshMade, fresh-made}
+use Rattle.memory.proofs.Records.{field-same, field-other, puts, puts-at, puts-out, length-puts}
+use Rattle.memory.specs.Records.{field, putField}
+use Rattle.clause_members.proofs.Prefixes.{namesOf}
 
 -- A line in front of the path.
 pub path-pushed : (u v : ℕ) (w w′ : List ℕ) (p l k : ℕ) (x : Line Leaf) (ls : List (Line Leaf)) → Heap fields.constantLevel u w w′ → field w′ u fields.pathBefore ≡ p → field w′ u fields.pathLine ≡ l → lineAt w′ u k ≡ x → LineBelow v w′ u k → PathAt u v ls w p l
@@ -257,7 +259,7 @@ module _ (T : Table) (w : List ℕ) (r : Registers) (s : Store) (g : Sequent Lea
       (take (fresh (labelOf (T .numbers) (r .node) ∷ []) (g .level) s)
       (sequent (goalAt (T .numbers) (childOf (T .numbers) (r .node) 0)) (update (g .environment) (labelOf (T .numbers) (r .node)) (leaf (var (s .next)))) (g .program) (g .level))
       (branch (b .goals) (Dsome (leaf (var (s .next))) ∷ b .path)) ∷ ds)
-  unfolding onPath onGoal onNext lineAt ResultAt ConfigurationAt storeOf fresh freshLevels past assign freshVariables digits
+  unfolding onPath onGoal onNext lineAt ResultAt ConfigurationAt storeOf fresh freshLevels past assign freshVariables namesOf
   exists-held w₁ w₂ w′ fm k z₁ z₂ z =
       let x = s .next in
       let v = labelOf t (r .node) in
@@ -315,7 +317,7 @@ module _ (T : Table) (w : List ℕ) (r : Registers) (s : Store) (g : Sequent Lea
       (exists-held _ _ _ fm k refl refl refl)
 
   -- U
-  forall-held : (w₁ w₂ w₃ w′ : List ℕ) → kindOf (T .numbers) (r .node) ≡ forallKind → w₁ ≡ copyFrame variableNames w (r .acts) (r .frame) 0 → w₂ ≡ put w₁ (r .acts) fields.constantLevel (suc (r .level)) → w₃ ≡ put w₂ (r .acts) (fields.frame + labelOf (T .numbers) (r .node)) (4 * r .acts + 2)
+  forall-held : (w₁ w₂ w₃ w′ : List ℕ) → kindOf (T .numbers) (r .node) ≡ forallKind → w₁ ≡ copyFrame variableNames w (r .acts) (r .frame) 0 → w₂ ≡ putField w₁ (r .acts) fields.constantLevel (suc (r .level)) → w₃ ≡ putField w₂ (r .acts) (fields.frame + labelOf (T .numbers) (r .node)) (4 * r .acts + 2)
       → w′ ≡ puts (r .path ∷ r .line ∷ []) w₃ (r .acts) fields.pathBefore
       → ResultAt T (suc (r .acts)) (made w′ (onGoal (onPath r (suc (r .acts)) allLine) (childOf (T .numbers) (r .node) 0) (suc (r .acts)) (r .program) (suc (r .level))))
       (take s (sequent (goalAt (T .numbers) (childOf (T .numbers) (r .node) 0)) (update (g .environment) (labelOf (T .numbers) (r .node)) (leaf (con (r .acts) (suc (g .level))))) (g .program) (suc (g .level)))

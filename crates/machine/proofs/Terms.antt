@@ -14,11 +14,11 @@ use Rattle.sheet_format.specs.Limits.{maxBudget, maxNodes, variableNames}
 use Rattle.node_table.specs.Layout.{kindOf, labelOf, variableKind}
 use Rattle.node_table.specs.Decoding.{termAt, argumentsAt}
 use Rattle.machine.specs.Fields as fields
-use Rattle.machine.specs.Records.{field}
-use Rattle.machine.specs.Words.{closureWord, slotOf, wordOf, leafOf, environmentAt, termOf}
-use Rattle.machine.proofs.Words.{variable-small, closure-small, tag-is, name-is, node-is, frame-is}
+use Rattle.machine.specs.Words.{closureWord, slotOf, wordOf, leafOf, environmentAt, termOf, tagOf}
+use Rattle.machine.proofs.Words.{variable-small, closure-small, tag-is, name-is, node-is, frame-is, zero-tag}
 use Rattle.machine.proofs.Heap.{Heap}
 use Rattle.machine.proofs.Tables.{Table, TermOf, ApplicationOf, node-small, name-small, not-variable, variable-is, application-is}
+use Rattle.memory.specs.Records.{field}
 
 -- The word of a leaf, of constants made before act n.
 pub data LeafAt (n a : ℕ) : Type 0 where
@@ -178,8 +178,13 @@ module _ (T : Table) where
   word-term n x w (word-closure m f q b h l k) =
       rw (q, tag-is (maxNodes * f + m) 3 (omega arith), node-is m f (node-small T m (b .0)), frame-is m f (node-small T m (b .0)), application-is T m b) (ap₂ app l k)
 
-  -- No word is 0.
+  -- No word has tag 0,
+  pub word-tag : {n x : ℕ} {w : List ℕ} {a : ℕ} {t : Term Leaf} → WordAt n x w a t → tagOf a ≡ 0 → ⊥
+  unfolding tagOf
+  word-tag (word-variable q) e = omega arith
+  word-tag (word-constant q l k) e = omega arith
+  word-tag (word-closure m f q l k i j) e = omega arith
+
+  -- so none is 0.
   pub word-nonzero : {n x : ℕ} {w : List ℕ} {a : ℕ} {t : Term Leaf} → WordAt n x w a t → a ≡ 0 → ⊥
-  word-nonzero (word-variable q) e = omega arith
-  word-nonzero (word-constant q l k) e = omega arith
-  word-nonzero (word-closure m f q l k i j) e = omega arith
+  word-nonzero g e = word-tag g (ap tagOf e ∙ zero-tag)

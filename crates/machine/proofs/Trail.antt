@@ -10,11 +10,13 @@ use borrow.Author.Tests.{eqb-true, eqb-false, eq-eqb, ne-eqb}
 use Rattle.terms.specs.Lists.{All}
 use Rattle.sheet_format.specs.Limits.{numbersPerUnit}
 use Rattle.machine.specs.Fields as fields
-use Rattle.machine.specs.Records.{field, put, cellOf, levelOf, putCell, putLevel, putEntry}
+use Rattle.machine.specs.Records.{cellOf, levelOf, putCell, putLevel, putEntry}
 use Rattle.machine.specs.Words.{nameOf}
 use Rattle.machine.specs.Trail.{lowerTo, bindTo, oldLevel, effect, undoEntry, undo}
-use Rattle.machine.proofs.Records.{field-agree, There, cell-same, level-same, level-cell, cell-other, cell-level, level-other, puts, puts-at}
+use Rattle.machine.proofs.Records.{There, cell-same, level-same, level-cell, cell-other, cell-level, level-other}
 use Rattle.machine.proofs.Heap.{Heap, Grow, heap-refl, heap-trans, heap-low, heap-22, heap-cell, heap-level, heap-both, grow-puts}
+use Rattle.memory.proofs.Records.{field-agree, puts, puts-at}
+use Rattle.memory.specs.Records.{field, putField}
 
 -- The writes by a variable's word: what they leave as it was.
 pub heap-lowerTo : (n : ℕ) (w : List ℕ) (a k : ℕ) → Heap fields.entryLowered n w (lowerTo w a k)
@@ -134,10 +136,10 @@ entry-at w u z k y h i l b = rw (entry-is w u z k y h) (puts-at (z ∷ k ∷ y �
 heap-entry : (n : ℕ) (w : List ℕ) (u z k y h : ℕ) → Heap fields.constantLevel n w (putEntry w u z k y h)
 unfolding putEntry
 heap-entry n w u z k y h =
-    let a = put w u fields.entryLowered z in
-    let b = put a u fields.entryLevel k in
-    let c = put b u fields.entryBound y in
-    let d = put c u fields.entryBefore h in
+    let a = putField w u fields.entryLowered z in
+    let b = putField a u fields.entryLevel k in
+    let c = putField b u fields.entryBound y in
+    let d = putField c u fields.entryBefore h in
     heap-trans fields.constantLevel n w a d (heap-low fields.constantLevel n w u fields.entryLowered z (omega arith) (omega arith))
     (heap-trans fields.constantLevel n a b d (heap-low fields.constantLevel n a u fields.entryLevel k (omega arith) (omega arith)) (heap-trans fields.constantLevel n b c d (heap-low fields.constantLevel n b u fields.entryBound y (omega arith) (omega arith)) (heap-low fields.constantLevel n c u fields.entryBefore h (omega arith) (omega arith))))
 

@@ -19,23 +19,23 @@ use Rattle.node_table.specs.Layout.{kindOf, labelOf, atomKind}
 use Rattle.node_table.specs.Decoding.{argumentsAt}
 use Rattle.node_table.proofs.Decoding.{goal-atom}
 use Rattle.machine.specs.declared.Registers.{Registers}
-use Rattle.machine.specs.declared.Found.{Found}
 use Rattle.machine.specs.Records.{made}
 use Rattle.machine.specs.Changes.{onMember}
 use Rattle.machine.specs.Words.{environmentAt}
-use Rattle.machine.specs.Members.{findMember, headOf}
 use Rattle.machine.specs.Goals.{tryFrom, takeAtom}
 use Rattle.machine.specs.Trying.{clauseOf, clauseFrame, nextMember, tryMember, tryFound, tryNext}
 use Rattle.machine.proofs.Words.{up-small}
 use Rattle.machine.proofs.Tables.{Table, nodes-are}
 use Rattle.machine.proofs.Terms.{FrameIn}
-use Rattle.machine.proofs.Branches.{SequentAt, sequent-up, BranchAt, branch-up}
+use Rattle.machine.proofs.Branches.{SequentAt, sequent-up, BranchAt, branch-up, LeafOf}
 use Rattle.machine.proofs.Configurations.{storeOf, atom-up, position-up, ConfigurationAt}
 use Rattle.machine.proofs.Alternatives.{SharedAt, shared-up, StateAt, ResultAt}
-use Rattle.machine.proofs.Names.{Packed}
-use Rattle.machine.proofs.Members.{memberOf, LeafOf}
 use Rattle.machine.proofs.Positions.{MembersAt, some-left, none-left, program-members, position-first}
 use Rattle.machine.proofs.Trying.{try-from, next-is, try-member}
+use Rattle.clause_members.specs.declared.Found.{Found}
+use Rattle.clause_members.specs.Members.{member, headOf}
+use Rattle.clause_members.proofs.Prefixes.{Prefix}
+use Rattle.clause_members.proofs.Members.{memberOf}
 
 -- The first elements of equal lists,
 head-is : {A : Type 0} (a b : A) (x y : List A) → a ∷ x ≡ b ∷ y → a ≡ b
@@ -74,16 +74,16 @@ module _ (T : Table) (w : List ℕ) (r : Registers) (b : Branch) (ds : List Conf
 
   -- The member m that was found, with the position of the next.
   tried-found : (s : Store) (a : Atom) (x : Entry Leaf) (xs others : List (Entry Leaf)) (k h i j : ℕ) (m : Found) → Formed s → StateAt T (r .acts) w r (try s a x xs k b) ds → FrameIn (r .acts) (s .next) w (clauseFrame w r)
-      → LeafOf T (m .leaf) → Packed (m .count) (m .names) → nextMember (T .numbers) w r ≡ onMember r h i j (suc (r .place)) → MembersAt T (r .acts) w (onMember r h i j (suc (r .place))) others
+      → LeafOf T (m .leaf) → Prefix m → nextMember (T .numbers) w r ≡ onMember r h i j (suc (r .place)) → MembersAt T (r .acts) w (onMember r h i j (suc (r .place))) others
       → ResultAt T (suc (r .acts)) (tryFound (T .numbers) (T .clauses) w r m)
-      ((cond (eqb (a .predicate) (memberOf T m .predicate)) (level1.tryMember s a (entry (environmentAt w (clauseFrame w r)) (memberOf T m)) k b) [] ++ level1.tryFrom s a others (suc k) b) ++ ds)
-  unfolding tryFound ConfigurationAt storeOf memberOf
+      ((cond (eqb (a .predicate) (memberOf (T .numbers) m .predicate)) (level1.tryMember s a (entry (environmentAt w (clauseFrame w r)) (memberOf (T .numbers) m)) k b) [] ++ level1.tryFrom s a others (suc k) b) ++ ds)
+  unfolding tryFound ConfigurationAt storeOf
   tried-found s a x xs others k h i j m fm st fr lf pk Q left =
       subst (λ (c : Bool). ResultAt T (suc (r .acts)) (tryFound t (T .clauses) w r m) ((cond c A [] ++ B) ++ ds)) (ap (λ (p : ℕ). eqb p (labelOf t (headOf t (m .leaf)))) (st .front .atom .predicate))
       (go (eqb (labelOf t (r .node)) (labelOf t (headOf t (m .leaf)))) refl)
     where
       A : List Configuration
-      A = level1.tryMember s a (entry (environmentAt w (clauseFrame w r)) (memberOf T m)) k b
+      A = level1.tryMember s a (entry (environmentAt w (clauseFrame w r)) (memberOf (T .numbers) m)) k b
 
       B : List Configuration
       B = level1.tryFrom s a others (suc k) b
@@ -106,16 +106,16 @@ module _ (T : Table) (w : List ℕ) (r : Registers) (b : Branch) (ds : List Conf
       let N = next-is T w r in
       let p = f .place in
       let l = f .low in
-      let m = findMember maxNodes t (clauseOf t w r) (r .member) in
+      let m = member t (clauseOf t w r) (r .member) in
       let Q : nextMember t w r ≡ onMember r (N .0) (N .1) (N .2) (suc (r .place)) = N .3 ∙ ap (onMember r (N .0) (N .1) (N .2)) (up-small (r .place) (omega arith)) in
-      let X : x ≡ entry (environmentAt w (clauseFrame w r)) (memberOf T m) = head-is x (entry (environmentAt w (clauseFrame w r)) (memberOf T m)) xs (F .others) (F .are) in
-      let Y : xs ≡ F .others = tail-is x (entry (environmentAt w (clauseFrame w r)) (memberOf T m)) xs (F .others) (F .are) in
+      let X : x ≡ entry (environmentAt w (clauseFrame w r)) (memberOf (T .numbers) m) = head-is x (entry (environmentAt w (clauseFrame w r)) (memberOf (T .numbers) m)) xs (F .others) (F .are) in
+      let Y : xs ≡ F .others = tail-is x (entry (environmentAt w (clauseFrame w r)) (memberOf (T .numbers) m)) xs (F .others) (F .are) in
       let R : Entry Leaf → List (Entry Leaf) → Type 0 =
       λ (y : Entry Leaf) (ys : List (Entry Leaf)).
       ResultAt T (suc (r .acts)) (tryFound t (T .clauses) w r m) ((cond (eqb (a .predicate) (y .member .predicate)) (level1.tryMember s a y k b) [] ++ level1.tryFrom s a ys (suc k) b) ++ ds) in
-      let base : R (entry (environmentAt w (clauseFrame w r)) (memberOf T m)) (F .others) =
-      tried-found s a x xs (F .others) k (N .0) (N .1) (N .2) m fm st (record { frame = f .position .frame; below = subst (λ (y : Entry Leaf). EnvironmentBelow (s .next) (y .environment)) X bl }) (F .found .leaf) (F .found .packed) Q (subst (λ (z : Registers). MembersAt T (r .acts) w z (F .others)) Q (F .left)) in
-      subst (λ (y : Entry Leaf). R y xs) (sym X) (subst (λ (ys : List (Entry Leaf)). R (entry (environmentAt w (clauseFrame w r)) (memberOf T m)) ys) (sym Y) base)
+      let base : R (entry (environmentAt w (clauseFrame w r)) (memberOf (T .numbers) m)) (F .others) =
+      tried-found s a x xs (F .others) k (N .0) (N .1) (N .2) m fm st (record { frame = f .position .frame; below = subst (λ (y : Entry Leaf). EnvironmentBelow (s .next) (y .environment)) X bl }) (F .found .leaf) (F .found .prefix) Q (subst (λ (z : Registers). MembersAt T (r .acts) w z (F .others)) Q (F .left)) in
+      subst (λ (y : Entry Leaf). R y xs) (sym X) (subst (λ (ys : List (Entry Leaf)). R (entry (environmentAt w (clauseFrame w r)) (memberOf (T .numbers) m)) ys) (sym Y) base)
 
   -- Taking an atom.
   pub take-atom : (s : Store) (g : Sequent Leaf) → kindOf (T .numbers) (r .node) ≡ atomKind → SequentAt T (r .acts) w (r .node) (r .frame) (r .program) (r .level) g → EnvironmentBelow (s .next) (g .environment) → BranchAt T (r .acts) (s .next) w (r .goals) (r .path) (r .line) b

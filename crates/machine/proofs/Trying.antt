@@ -21,36 +21,37 @@ use Rattle.search.proofs.Invariant.{EnvironmentBelow, prefix-below}
 use Rattle.node_table.specs.Layout.{kindOf, labelOf, childOf, membersOf, impliesKind}
 use Rattle.node_table.specs.Decoding.{argumentsAt, goalAt}
 use Rattle.machine.specs.declared.Registers.{Registers}
-use Rattle.machine.specs.declared.Found.{Found}
 use Rattle.machine.specs.Fields as fields
-use Rattle.machine.specs.Records.{field, Made, made, putGoal, putPath, putUse, putChoice, putChosen, putPosition, putPairs, clauseLine, tryMode}
+use Rattle.machine.specs.Records.{Made, made, putGoal, putPath, putUse, putChoice, putChosen, putPosition, putPairs, clauseLine, tryMode}
 use Rattle.machine.specs.Changes.{onMode, onNext, onTrail, onChoice, onGoals, onPath, onGoal, onMember}
 use Rattle.machine.specs.Words.{narrow, up, environmentAt}
 use Rattle.machine.specs.Frames.{copyFrame, putFresh}
 use Rattle.machine.specs.Reading.{lineAt, variablesFrom}
-use Rattle.machine.specs.Members.{headOf}
 use Rattle.machine.specs.Choices.{saveChoice}
 use Rattle.machine.specs.Goals.{membersLeft, tryFrom}
 use Rattle.machine.specs.Matching.{pairsFrom, duePairs}
 use Rattle.machine.specs.Trying.{clauseOf, clauseFrame, nextClause, nextMember, putPrefix, leaveOthers, putBody, putTry, tried, tryMember}
-use Rattle.machine.proofs.Records.{puts, puts-at, puts-out, length-puts}
 use Rattle.machine.proofs.Words.{narrow-small, up-small}
 use Rattle.machine.proofs.Heap.{Heap, Grow, heap-22, grow-refl, grow-trans, grow-puts}
-use Rattle.machine.proofs.Tables.{Table}
+use Rattle.machine.proofs.Tables.{Table, nodes-are}
 use Rattle.machine.proofs.Terms.{FrameIn, framed-heap, framed-up, environment-heap}
 use Rattle.machine.proofs.Stores.{store-up, store-grow}
 use Rattle.machine.proofs.Places.{PairsAt, Pushed}
-use Rattle.machine.proofs.Branches.{path-wider, GoalsAt, goals-heap, goals-up, BranchAt, branch-heap, branch-up}
+use Rattle.machine.proofs.Branches.{path-wider, GoalsAt, goals-heap, goals-up, BranchAt, branch-heap, branch-up, Anything, LeafOf}
 use Rattle.machine.proofs.Configurations.{storeOf, AtomAt, atom-heap, atom-up, PositionAt, position-heap, position-up, position-same, ConfigurationAt}
 use Rattle.machine.proofs.Alternatives.{Bounded, AlternativesAt, alternatives-wider, SharedAt, shared-grow, ResultAt, failed-result}
 use Rattle.machine.proofs.Onward.{pushed-result}
 use Rattle.machine.proofs.Comparing.{push-held}
-use Rattle.machine.proofs.Frames.{SameFrames, same-trans, same-puts, FrameMade, copy-grow, copy-made, made-same, digits, FreshMade, fresh-made}
+use Rattle.machine.proofs.Frames.{SameFrames, same-trans, same-puts, FrameMade, copy-grow, copy-made, made-same, FreshMade, fresh-made}
 use Rattle.machine.proofs.Choosing.{saved, saved-length, resumed, SavedAt, choice-opened}
 use Rattle.machine.proofs.Taking.{path-pushed}
-use Rattle.machine.proofs.Names.{digits-length, Packed, packed-few}
-use Rattle.machine.proofs.Members.{bodyOf, memberOf, LeafOf, head-applied}
 use Rattle.machine.proofs.Positions.{MembersAt, some-left, none-left, position-first}
+use Rattle.memory.proofs.Records.{puts, puts-at, puts-out, length-puts}
+use Rattle.memory.specs.Records.{field}
+use Rattle.clause_members.specs.declared.Found.{Found}
+use Rattle.clause_members.specs.Members.{headOf}
+use Rattle.clause_members.proofs.Prefixes.{names-length, Prefix, prefix-few, namesOf}
+use Rattle.clause_members.proofs.Members.{bodyOf, memberOf, leaf-head}
 
 -- An empty list has no first element.
 not-empty : {A : Type 0} (a : A) (l : List A) → _≡_ {A = List A} [] (a ∷ l) → ⊥
@@ -209,7 +210,7 @@ module _ (w : List ℕ) (u p l k n x : ℕ) (c : Bool) (l₂ : List ℕ) (d : Bo
 module _ (T : Table) (w : List ℕ) (r : Registers) (s : Store) (a : Atom) (k : ℕ) (b : Branch) (ds : List Configuration) (room : 64 * suc (r .acts) ≤ length w) (small : r .acts < 50000)
     (atom : AtomAt T (r .acts) (s .next) w (r .node) (r .frame) (r .program) (r .level) a) (place : r .place ≡ k) (first : 1 ≤ k) (low : k ≤ r .acts)
     (branch₀ : BranchAt T (r .acts) (s .next) w (r .goals) (r .path) (r .line) b) (shared : SharedAt T (r .acts) w (r .next) (r .trail) (r .choice) s ds) (formed : Formed s)
-    (frame₀ : FrameIn (r .acts) (s .next) w (clauseFrame w r)) (m : Found) (leaf₀ : LeafOf T (m .leaf)) (packed : Packed (m .count) (m .names)) (same : labelOf (T .numbers) (r .node) ≡ labelOf (T .numbers) (headOf (T .numbers) (m .leaf)))
+    (frame₀ : FrameIn (r .acts) (s .next) w (clauseFrame w r)) (m : Found) (leaf₀ : LeafOf T (m .leaf)) (packed : Prefix m) (same : labelOf (T .numbers) (r .node) ≡ labelOf (T .numbers) (headOf (T .numbers) (m .leaf)))
     (h i j : ℕ) (others : List (Entry Leaf)) (left : MembersAt T (r .acts) w (onMember r h i j (suc (r .place))) others) where
   -- The act's number.
   abbrev u : ℕ
@@ -225,11 +226,11 @@ module _ (T : Table) (w : List ℕ) (r : Registers) (s : Store) (a : Atom) (k : 
 
   -- The member's prefix.
   abbrev prefix : List ℕ
-  prefix = digits (m .count) (m .names)
+  prefix = namesOf (m .count) (m .names)
 
   -- What its names stand for.
   abbrev env : Environment Leaf
-  env = assign (digits (m .count) (m .names)) (freshVariables (digits (m .count) (m .names)) (s .next)) (environmentAt w (clauseFrame w r))
+  env = assign (namesOf (m .count) (m .names)) (freshVariables (namesOf (m .count) (m .names)) (s .next)) (environmentAt w (clauseFrame w r))
 
   -- the alternatives: the members left, then those of before
   choice-open : (w′ : List ℕ) (x : Entry Leaf) (xs : List (Entry Leaf)) → Heap 22 (r .acts) w w′ → SavedAt w′ (r .acts) (onMember r h i j (suc (r .place))) → PositionAt T (r .acts) w (onMember r h i j (suc (r .place))) (x ∷ xs)
@@ -262,7 +263,7 @@ module _ (T : Table) (w : List ℕ) (r : Registers) (s : Store) (a : Atom) (k : 
   -- the goals: the body, then those of before
   body-waits : (w′ : List ℕ) → Heap 22 (r .acts) w w′ → FrameMade w′ (r .acts) env
       → (eqb (kindOf (T .numbers) (m .leaf)) impliesKind ≡ true → (i : ℕ) → i < 5 → field w′ (r .acts) (31 + i) ≡ getD (childOf (T .numbers) (m .leaf) 0 ∷ suc (r .acts) ∷ r .program ∷ r .level ∷ r .goals ∷ []) i 0)
-      → GoalsAt T (suc (r .acts)) (bodySequent (bodyOf T (m .leaf)) env (a .program) (a .level) ++ b .goals) w′ (cond (eqb (kindOf (T .numbers) (m .leaf)) impliesKind) (suc (r .acts)) (r .goals))
+      → GoalsAt T (suc (r .acts)) (bodySequent (bodyOf (T .numbers) (m .leaf)) env (a .program) (a .level) ++ b .goals) w′ (cond (eqb (kindOf (T .numbers) (m .leaf)) impliesKind) (suc (r .acts)) (r .goals))
   unfolding bodyOf bodySequent GoalsAt
   body-waits w′ e M f = go (eqb (kindOf t (m .leaf)) impliesKind) refl f
     where
@@ -273,9 +274,9 @@ module _ (T : Table) (w : List ℕ) (r : Registers) (s : Store) (a : Atom) (k : 
           → GoalsAt T (suc (r .acts)) (bodySequent (cond d (some (goalAt t (childOf t (m .leaf) 0))) none) env (a .program) (a .level) ++ b .goals) w′ (cond d (suc (r .acts)) (r .goals))
       go true z f =
           let k = eqb-true (kindOf t (m .leaf)) 6 z in
-          let x = T .made .clauseNodes (m .leaf) (leaf₀ .clause .0) (leaf₀ .clause .1) .implies k in
+          let x = T .made .clauseNodes (m .leaf) (leaf₀ .below) (leaf₀ .is) .implies k in
           let l = x .0 in
-          let n = leaf₀ .clause .0 in
+          let n = leaf₀ .below in
           let A = atom-up T u (s .next) w′ (r .node) (r .frame) (r .program) (r .level) a (atom-heap T u (s .next) w w′ (r .node) (r .frame) (r .program) (r .level) a e atom) in
           rw (f refl 0 (omega arith), f refl 1 (omega arith), f refl 2 (omega arith), f refl 3 (omega arith), f refl 4 (omega arith)) (
             omega arith,
@@ -285,12 +286,12 @@ module _ (T : Table) (w : List ℕ) (r : Registers) (s : Store) (a : Atom) (k : 
       go false z f = before
 
   -- the store: at most eight variables more
-  more-bounded : Bounded (suc (r .acts)) (fresh (digits (m .count) (m .names)) (a .level) s) × (s .next + m .count ≤ 9 * suc (r .acts)) × (past (digits (m .count) (m .names)) (s .next) ≡ s .next + m .count)
+  more-bounded : Bounded (suc (r .acts)) (fresh (namesOf (m .count) (m .names)) (a .level) s) × (s .next + m .count ≤ 9 * suc (r .acts)) × (past (namesOf (m .count) (m .names)) (s .next) ≡ s .next + m .count)
   unfolding fresh
   more-bounded =
       let p = past-is prefix (s .next) in
-      let l = digits-length (m .count) (m .names) in
-      let c = packed-few (m .count) (m .names) packed in
+      let l = names-length (m .count) (m .names) in
+      let c = prefix-few m packed in
       let n = shared .bounded .later (omega arith) in
       let x = shared .bounded .bindings in
       let e : past prefix (s .next) ≡ s .next + m .count = omega arith in
@@ -307,8 +308,8 @@ module _ (T : Table) (w : List ℕ) (r : Registers) (s : Store) (a : Atom) (k : 
       (putsIf (membersLeft (T .clauses) (onMember r h i j (suc (r .place)))) (saved (onMember r h i j (suc (r .place)))) (puts (r .path ∷ r .line ∷ r .place ∷ m .count ∷ s .next ∷ []) w₂ (r .acts) 39) (r .acts) 43) (r .acts) 31) (r .acts) 57
       → ResultAt T (suc (r .acts)) (made w′ (duePairs w′ (onGoals (onChoice (onNext (onPath r (suc (r .acts)) clauseLine) (s .next + m .count)) (cond (membersLeft (T .clauses) (onMember r h i j (suc (r .place)))) (suc (r .acts)) (r .choice)))
       (cond (eqb (kindOf (T .numbers) (m .leaf)) impliesKind) (suc (r .acts)) (r .goals))) (pairsFrom (T .numbers) w′ (suc (r .acts)) 0)))
-      (settle (comparing (fresh (digits (m .count) (m .names)) (a .level) s) (pushPairs (a .arguments) (substitutes (argumentsAt (T .numbers) (headOf (T .numbers) (m .leaf))) env) []))
-      (branch (bodySequent (bodyOf T (m .leaf)) env (a .program) (a .level) ++ b .goals) (Dclause k (freshVariables (digits (m .count) (m .names)) (s .next)) ∷ b .path))
+      (settle (comparing (fresh (namesOf (m .count) (m .names)) (a .level) s) (pushPairs (a .arguments) (substitutes (argumentsAt (T .numbers) (headOf (T .numbers) (m .leaf))) env) []))
+      (branch (bodySequent (bodyOf (T .numbers) (m .leaf)) env (a .program) (a .level) ++ b .goals) (Dclause k (freshVariables (namesOf (m .count) (m .names)) (s .next)) ∷ b .path))
       ++ (level1.tryFrom s a others (suc k) b ++ ds))
   unfolding onGoals onChoice onNext onPath lineAt PairsAt fresh
   try-held w₁ w₂ w′ z₁ z₂ z =
@@ -341,14 +342,14 @@ module _ (T : Table) (w : List ℕ) (r : Registers) (s : Store) (a : Atom) (k : 
       let qa : (n : ℕ) → n < 5 → field w′ u (57 + n) ≡ getD l₄ n 0 = λ n b. rw z (pairs-at w₂ u (r .path) (r .line) (r .place) (m .count) x c l₂ d l₃ l₄ room₂ n₂ h₂ refl refl n b) in
       let s₂ = fresh prefix (a .level) s in
       let wider : x ≤ s₂ .next = (let y = nb .2 in omega arith) in
-      let P = push-held T (suc u) (s₂ .next) w′ [] u (r .node) (r .frame) hd (suc u) 0 (environmentAt w (r .frame)) env (omega arith) (omega arith) (atom .node) (head-applied T (m .leaf) leaf₀)
+      let P = push-held T (suc u) (s₂ .next) w′ [] u (r .node) (r .frame) hd (suc u) 0 (environmentAt w (r .frame)) env (omega arith) (omega arith) (atom .node) (leaf-head (T .numbers) (T .nodes) (nodes-are T) Anything (m .leaf) leaf₀)
       (framed-up u x (s₂ .next) w′ (r .frame) wider (framed-heap u x w w′ (r .frame) e (atom .frame))) (record { frame = M .frame; below = subst (EnvironmentBelow (s₂ .next)) (sym (M .environment)) (prefix-below prefix x (environmentAt w (clauseFrame w r)) (frame₀ .below)) }) (environment-heap u w w′ (r .frame) e (atom .frame .frame)) (M .environment) same
       (qa 0 (omega arith)) (qa 1 (omega arith)) (qa 2 (omega arith)) (qa 3 (omega arith)) (qa 4 (omega arith)) refl in
       let sh = shared-grow T u w w′ (r .next) (r .trail) (r .choice) s ds gr shared in
       let ln : lineAt w′ u 7 ≡ Dclause k (freshVariables prefix x) =
-      ap₂ Dclause (pa 2 (omega arith) ∙ place) (ap₂ variablesFrom (pa 3 (omega arith) ∙ sym (digits-length (m .count) (m .names))) na ∙ variables-are prefix x) in
+      ap₂ Dclause (pa 2 (omega arith) ∙ place) (ap₂ variablesFrom (pa 3 (omega arith) ∙ sym (names-length (m .count) (m .names))) na ∙ variables-are prefix x) in
       pushed-result T (suc u) w′ (onGoals (onChoice (onNext (onPath r (suc u) clauseLine) (x + m .count)) (cond c (suc u) (r .choice))) (cond d (suc u) (r .goals))) s₂
-      (branch (bodySequent (bodyOf T (m .leaf)) env (a .program) (a .level) ++ b .goals) (Dclause k (freshVariables prefix x) ∷ b .path)) (level1.tryFrom s a others (suc k) b ++ ds) _
+      (branch (bodySequent (bodyOf (T .numbers) (m .leaf)) env (a .program) (a .level) ++ b .goals) (Dclause k (freshVariables prefix x) ∷ b .path)) (level1.tryFrom s a others (suc k) b ++ ds) _
       (pairsFrom t w′ (suc u) 0)
       (subst (λ (ts : Terms Leaf). Pushed T (suc u) (s₂ .next) w′ (pushPairs ts (substitutes (argumentsAt t hd) env) []) (pairsFrom t w′ (suc u) 0)) (atom .arguments) P)
       (record {
@@ -379,12 +380,12 @@ module _ (T : Table) (w : List ℕ) (r : Registers) (s : Store) (a : Atom) (k : 
 
   -- The whole try.
   pub try-member : nextMember (T .numbers) w r ≡ onMember r h i j (suc (r .place))
-      → ResultAt T (suc (r .acts)) (tryMember (T .numbers) (T .clauses) w r m) (level1.tryMember s a (entry (environmentAt w (clauseFrame w r)) (memberOf T m)) k b ++ (level1.tryFrom s a others (suc k) b ++ ds))
-  unfolding tryOutcome level1.tryMember memberOf putPrefix
+      → ResultAt T (suc (r .acts)) (tryMember (T .numbers) (T .clauses) w r m) (level1.tryMember s a (entry (environmentAt w (clauseFrame w r)) (memberOf (T .numbers) m)) k b ++ (level1.tryFrom s a others (suc k) b ++ ds))
+  unfolding tryOutcome level1.tryMember putPrefix
   try-member e =
       let w₁ = copyFrame 8 w u (clauseFrame w r) 0 in
       let w₂ = putFresh (m .count) w₁ u (m .names) (s .next) (a .level) in
-      let L = level1.tryMember s a (entry (environmentAt w (clauseFrame w r)) (memberOf T m)) k b ++ (level1.tryFrom s a others (suc k) b ++ ds) in
+      let L = level1.tryMember s a (entry (environmentAt w (clauseFrame w r)) (memberOf (T .numbers) m)) k b ++ (level1.tryFrom s a others (suc k) b ++ ds) in
       let nb = more-bounded .1 in
       let p₂ : putPrefix w r m ≡ w₂ = ap₂ (λ (x y : ℕ). putFresh (m .count) w₁ u (m .names) x y) (shared .next) (atom .level) in
       let pn : narrow (r .next + m .count) ≡ s .next + m .count = ap (λ (x : ℕ). narrow (x + m .count)) (shared .next) ∙ narrow-small (s .next + m .count) (omega arith) in

@@ -1,7 +1,7 @@
 -- Numbers of 32 bits, and the parts of words. Nothing after this file looks at `/`, `%` or the width.
 use Prim.Native.Nat.{ℕ, suc, _+_, _-_, _*_, _/_, _%_, _≤_, _<_}
 use native.Mathlib.Omega.{arith}
-use mathlib.Core.Path.{_≡_, ap, _∙_}
+use mathlib.Core.Path.{_≡_, ap, _∙_, refl}
 use Rattle.sheet_format.specs.Limits.{maxBudget, maxNodes}
 use Rattle.machine.specs.Words.{narrow, up, variableWord, constantWord, closureWord, tagOf, nameOf, nodeOf, frameOf}
 use Rattle.machine.specs.Matching.{placeWord}
@@ -51,6 +51,11 @@ mod1024 p t h = omega arith
 -- the frame above them.
 div1024 : (p t : ℕ) → t < 1024 → (maxNodes * p + t) / 1024 ≡ p
 div1024 p t h = omega arith
+
+-- The tag of no word.
+pub zero-tag : tagOf 0 ≡ 0
+unfolding tagOf
+zero-tag = refl
 
 -- The tag,
 pub tag-is : (p t : ℕ) → t < 4 → tagOf (4 * p + t) ≡ t

@@ -6,14 +6,15 @@ use mathlib.Core.List.{List}
 use lib.Dec.{eqb}
 use Rattle.machine.specs.declared.Registers.{Registers}
 use Rattle.machine.specs.Fields as fields
-use Rattle.machine.specs.Records.{field, put, Made, made, putChoice, putChosen, putPosition, noMode, takeMode, tryMode}
+use Rattle.machine.specs.Records.{Made, made, putChoice, putChosen, putPosition, noMode, takeMode, tryMode}
 use Rattle.machine.specs.Changes.{onMode, onNext, onTrail, onChoice, onGoals, onPath, onGoal, onMember}
 use Rattle.machine.specs.Trail.{undo}
+use Rattle.memory.specs.Records.{field, putField}
 
 -- A choice point in record u. Place 0 stands for a goal to take.
 unfoldable pub saveChoice : List ℕ → ℕ → Registers → List ℕ
 saveChoice w u r =
-    putPosition (putChosen (putChoice (put w u fields.variables (r .next)) u (r .trail) (r .choice) (r .goals) (r .path) (r .line)) u (r .node) (r .frame) (r .program) (r .level)) u
+    putPosition (putChosen (putChoice (putField w u fields.variables (r .next)) u (r .trail) (r .choice) (r .goals) (r .path) (r .line)) u (r .node) (r .frame) (r .program) (r .level)) u
     (r .hypothesis) (r .clause) (r .member) (r .place)
 
 -- The registers of the choice point in record q: what it goes on with,

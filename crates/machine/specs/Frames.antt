@@ -3,13 +3,14 @@ use Prim.Native.Nat.{ℕ, zero, suc, _+_, _/_, _%_}
 use mathlib.Core.List.{List}
 use Rattle.sheet_format.specs.Limits.{variableNames}
 use Rattle.machine.specs.Fields as fields
-use Rattle.machine.specs.Records.{put, putCell, putLevel}
+use Rattle.machine.specs.Records.{putCell, putLevel}
 use Rattle.machine.specs.Words.{up, variableWord, slotOf}
+use Rattle.memory.specs.Records.{putField}
 
 -- The frame f copied to record u: n names from v on.
 unfoldable pub copyFrame : ℕ → List ℕ → ℕ → ℕ → ℕ → List ℕ
 copyFrame zero w u f v = w
-copyFrame (suc n) w u f v = copyFrame n (put w u (fields.frame + v) (slotOf w f v)) u f (suc v)
+copyFrame (suc n) w u f v = copyFrame n (putField w u (fields.frame + v) (slotOf w f v)) u f (suc v)
 
 -- Variable x is made, unbound and of level i.
 unfoldable pub putVariable : List ℕ → ℕ → ℕ → List ℕ
@@ -18,7 +19,7 @@ putVariable w x i = putLevel (putCell w x 0) x i
 -- Fresh variables of level i, from x on, for n names, the digits of vs, in the frame in record u.
 unfoldable pub putFresh : ℕ → List ℕ → ℕ → ℕ → ℕ → ℕ → List ℕ
 putFresh zero w u vs x i = w
-putFresh (suc n) w u vs x i = putFresh n (put (putVariable w x i) u (fields.frame + vs % variableNames) (variableWord x)) u (vs / variableNames) (up x) i
+putFresh (suc n) w u vs x i = putFresh n (putField (putVariable w x i) u (fields.frame + vs % variableNames) (variableWord x)) u (vs / variableNames) (up x) i
 
 -- Variables from x on, n of them, without names: those of the goal.
 unfoldable pub putVariables : ℕ → List ℕ → ℕ → List ℕ

@@ -7,11 +7,12 @@ use Rattle.sheet_format.specs.Limits.{variableNames}
 use Rattle.node_table.specs.Layout.{kindOf, labelOf, childOf, existsKind, forallKind, impliesKind, orKind, andKind, atomKind}
 use Rattle.machine.specs.declared.Registers.{Registers}
 use Rattle.machine.specs.Fields as fields
-use Rattle.machine.specs.Records.{field, put, Made, made, putGoal, putAssumption, putPath, allLine, someLine, assumeLine, leftLine, rightLine, andLine, trueLine, tryMode, provedMode}
+use Rattle.machine.specs.Records.{Made, made, putGoal, putAssumption, putPath, allLine, someLine, assumeLine, leftLine, rightLine, andLine, trueLine, tryMode, provedMode}
 use Rattle.machine.specs.Changes.{onMode, onNext, onChoice, onGoals, onPath, onGoal, onMember}
 use Rattle.machine.specs.Words.{up, constantWord}
 use Rattle.machine.specs.Frames.{copyFrame, putFresh}
 use Rattle.machine.specs.Choices.{saveChoice, failed}
+use Rattle.memory.specs.Records.{field, putField}
 
 -- The goal that waits in record q is due.
 unfoldable pub dueGoal : List ℕ → Registers → ℕ → Registers
@@ -62,12 +63,12 @@ takeImplies t w r =
 -- "E: a fresh variable of level I."
 unfoldable pub takeExists : List ℕ → List ℕ → Registers → Made
 takeExists t w r =
-    made (put (putPath (putFresh 1 (copyFrame variableNames w (r .acts) (r .frame) 0) (r .acts) (labelOf t (r .node)) (r .next) (r .level)) (r .acts) (r .path) (r .line)) (r .acts) fields.variables (r .next))
+    made (putField (putPath (putFresh 1 (copyFrame variableNames w (r .acts) (r .frame) 0) (r .acts) (labelOf t (r .node)) (r .next) (r .level)) (r .acts) (r .path) (r .line)) (r .acts) fields.variables (r .next))
     (onGoal (onNext (onPath r (up (r .acts)) someLine) (up (r .next))) (childOf t (r .node) 0) (up (r .acts)) (r .program) (r .level))
 
 -- "U: a fresh made constant of level I + 1, and the goal's level rises to that." The constant is named by the act.
 unfoldable pub putConstant : List ℕ → ℕ → ℕ → ℕ → List ℕ
-putConstant w u v i = put (put w u fields.constantLevel i) u (fields.frame + v) (constantWord u)
+putConstant w u v i = putField (putField w u fields.constantLevel i) u (fields.frame + v) (constantWord u)
 
 unfoldable pub takeForall : List ℕ → List ℕ → Registers → Made
 takeForall t w r =

@@ -7,7 +7,6 @@ pub mod Changes
 pub mod Words
 pub mod Trail
 pub mod Frames
-pub mod Members
 pub mod Choices
 pub mod Goals
 pub mod Matching

@@ -9,12 +9,13 @@ use Rattle.sheet_format.specs.Limits.{maxArity}
 use Rattle.node_table.specs.Layout.{childCount, labelOf, childOf}
 use Rattle.machine.specs.declared.Registers.{Registers}
 use Rattle.machine.specs.Fields as fields
-use Rattle.machine.specs.Records.{field, levelOf, Made, made, putPairs, putNodes}
+use Rattle.machine.specs.Records.{levelOf, Made, made, putPairs, putNodes}
 use Rattle.machine.specs.Changes.{onTrail, onPairs, onCheck, onNodes}
-use Rattle.machine.specs.Words.{narrow, up, tagOf, nameOf, nodeOf, frameOf, wordOf, lookWord, variableTag, constantTag}
+use Rattle.machine.specs.Words.{narrow, up, tagOf, nameOf, nodeOf, frameOf, wordOf, variableTag, constantTag, deref}
 use Rattle.machine.specs.Trail.{effect}
 use Rattle.machine.specs.Choices.{failed}
 use Rattle.machine.specs.Goals.{proceed}
+use Rattle.memory.specs.Records.{field}
 
 unfoldable pub placeWord : ℕ → ℕ → ℕ
 placeWord p i = narrow (maxArity * p + i)
@@ -56,8 +57,8 @@ compareWords t w r e x y =
 -- One act. Each act binds at most once, so that as many turns as acts done suffice to look through.
 unfoldable pub comparePair : List ℕ → List ℕ → Registers → Made
 comparePair t w r =
-    compareWords t w r (pairsFrom t w (r .pairs / maxArity) (r .pairs % maxArity + 1)) (lookWord (r .acts) w (argumentWord t w (r .pairs) fields.goalSideNode))
-    (lookWord (r .acts) w (argumentWord t w (r .pairs) fields.clauseSideNode))
+    compareWords t w r (pairsFrom t w (r .pairs / maxArity) (r .pairs % maxArity + 1)) (deref (r .acts) w (argumentWord t w (r .pairs) fields.goalSideNode))
+    (deref (r .acts) w (argumentWord t w (r .pairs) fields.clauseSideNode))
 
 -- No node is left: lower z to k, bind, go on with the pairs.
 unfoldable pub bindValue : List ℕ → Registers → ℕ → ℕ → Made
@@ -92,4 +93,4 @@ unfoldable pub nodesAfter : List ℕ → List ℕ → ℕ → ℕ
 nodesAfter t w a = cond (eqb a 0) 0 (nodesFrom t w (a / maxArity) (a % maxArity + 1))
 
 unfoldable pub checkNode : List ℕ → List ℕ → Registers → Made
-checkNode t w r = visitWord t w r (nodesAfter t w (r .nodes)) (lookWord (r .acts) w (dueWord t w r))
+checkNode t w r = visitWord t w r (nodesAfter t w (r .nodes)) (deref (r .acts) w (dueWord t w r))

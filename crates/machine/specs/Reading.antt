@@ -9,8 +9,9 @@ use Rattle.sequents.specs.Sequents.{Dtrue, Dand, Dleft, Dright, Dassume, Line, 
 use Rattle.unification.specs.Store.{Leaf, var, con, Store, boundTo}
 use Rattle.machine.specs.declared.Registers.{Registers}
 use Rattle.machine.specs.Fields as fields
-use Rattle.machine.specs.Records.{field, cellOf, levelOf, trueLine, andLine, leftLine, rightLine, assumeLine, someLine, allLine}
+use Rattle.machine.specs.Records.{cellOf, levelOf, trueLine, andLine, leftLine, rightLine, assumeLine, someLine, allLine}
 use Rattle.machine.specs.Words.{termOf}
+use Rattle.memory.specs.Records.{field}
 
 -- What a variable is bound to; itself, if to nothing.
 unfoldable pub variableOf : List ℕ → List ℕ → ℕ → Term Leaf

@@ -1,10 +1,10 @@
--- The work buffer: records of 64 numbers, field f of record u at 64 * u + f, for the fields of Fields.
-use Prim.Native.Nat.{ℕ, _+_, _*_, _/_, _%_}
+-- The work buffer: records of 64 numbers (memory/specs/Records), with the fields of Fields.
+use Prim.Native.Nat.{ℕ, _+_, _/_, _%_}
 use mathlib.Core.List.{List}
-use lib.ListN.{getD, set}
 use Rattle.sheet_format.specs.Limits.{numbersPerUnit}
 use Rattle.machine.specs.declared.Registers.{Registers}
 use Rattle.machine.specs.Fields as fields
+use Rattle.memory.specs.Records.{field, putField}
 
 -- Modes: the act that is due, or the verdict.
 abbrev pub takeMode : ℕ
@@ -50,13 +50,6 @@ allLine = 6
 abbrev pub clauseLine : ℕ
 clauseLine = 7
 
--- Reading and writing a field.
-unfoldable pub field : List ℕ → ℕ → ℕ → ℕ
-field w u f = getD w (numbersPerUnit * u + f) 0
-
-unfoldable pub put : List ℕ → ℕ → ℕ → ℕ → List ℕ
-put w u f a = set w (numbersPerUnit * u + f) a
-
 -- The binding and the level of a variable.
 unfoldable pub cellOf : List ℕ → ℕ → ℕ
 cellOf w x = field w (x / fields.cells) (x % fields.cells)
@@ -65,10 +58,10 @@ unfoldable pub levelOf : List ℕ → ℕ → ℕ
 levelOf w x = field w (x / fields.cells) (fields.levels + x % fields.cells)
 
 unfoldable pub putCell : List ℕ → ℕ → ℕ → List ℕ
-putCell w x a = put w (x / fields.cells) (x % fields.cells) a
+putCell w x a = putField w (x / fields.cells) (x % fields.cells) a
 
 unfoldable pub putLevel : List ℕ → ℕ → ℕ → List ℕ
-putLevel w x a = put w (x / fields.cells) (fields.levels + x % fields.cells) a
+putLevel w x a = putField w (x / fields.cells) (fields.levels + x % fields.cells) a
 
 -- What an act leaves: the work buffer and the registers.
 pub record Made : Type 0 where
@@ -80,33 +73,33 @@ made w r = record { memory = w; registers = r }
 
 -- The records of an act, one group of fields each.
 unfoldable pub putEntry : List ℕ → ℕ → ℕ → ℕ → ℕ → ℕ → List ℕ
-putEntry w u lowered level bound before = put (put (put (put w u fields.entryLowered lowered) u fields.entryLevel level) u fields.entryBound bound) u fields.entryBefore before
+putEntry w u lowered level bound before = putField (putField (putField (putField w u fields.entryLowered lowered) u fields.entryLevel level) u fields.entryBound bound) u fields.entryBefore before
 
 unfoldable pub putGoal : List ℕ → ℕ → ℕ → ℕ → ℕ → ℕ → ℕ → List ℕ
-putGoal w u node frame program level next = put (put (put (put (put w u fields.goalNode node) u fields.goalFrame frame) u fields.goalProgram program) u fields.goalLevel level) u fields.goalNext next
+putGoal w u node frame program level next = putField (putField (putField (putField (putField w u fields.goalNode node) u fields.goalFrame frame) u fields.goalProgram program) u fields.goalLevel level) u fields.goalNext next
 
 unfoldable pub putAssumption : List ℕ → ℕ → ℕ → ℕ → ℕ → List ℕ
-putAssumption w u clause frame next = put (put (put w u fields.assumptionNode clause) u fields.assumptionFrame frame) u fields.assumptionNext next
+putAssumption w u clause frame next = putField (putField (putField w u fields.assumptionNode clause) u fields.assumptionFrame frame) u fields.assumptionNext next
 
 unfoldable pub putPath : List ℕ → ℕ → ℕ → ℕ → List ℕ
-putPath w u path line = put (put w u fields.pathBefore path) u fields.pathLine line
+putPath w u path line = putField (putField w u fields.pathBefore path) u fields.pathLine line
 
 -- of a member's use
 unfoldable pub putUse : List ℕ → ℕ → ℕ → ℕ → ℕ → List ℕ
-putUse w u place count next = put (put (put w u fields.usePlace place) u fields.useCount count) u fields.variables next
+putUse w u place count next = putField (putField (putField w u fields.usePlace place) u fields.useCount count) u fields.variables next
 
 unfoldable pub putChoice : List ℕ → ℕ → ℕ → ℕ → ℕ → ℕ → ℕ → List ℕ
-putChoice w u trail choice goals path line = put (put (put (put (put w u fields.choiceTrail trail) u fields.choiceBefore choice) u fields.choiceGoals goals) u fields.choicePath path) u fields.choiceLine line
+putChoice w u trail choice goals path line = putField (putField (putField (putField (putField w u fields.choiceTrail trail) u fields.choiceBefore choice) u fields.choiceGoals goals) u fields.choicePath path) u fields.choiceLine line
 
 -- the rest of a choice point: the goal or atom, and the member
 unfoldable pub putChosen : List ℕ → ℕ → ℕ → ℕ → ℕ → ℕ → List ℕ
-putChosen w u node frame program level = put (put (put (put w u fields.choiceNode node) u fields.choiceFrame frame) u fields.choiceProgram program) u fields.choiceLevel level
+putChosen w u node frame program level = putField (putField (putField (putField w u fields.choiceNode node) u fields.choiceFrame frame) u fields.choiceProgram program) u fields.choiceLevel level
 
 unfoldable pub putPosition : List ℕ → ℕ → ℕ → ℕ → ℕ → ℕ → List ℕ
-putPosition w u hypothesis clause member place = put (put (put (put w u fields.choiceHypothesis hypothesis) u fields.choiceClause clause) u fields.choiceMember member) u fields.choicePlace place
+putPosition w u hypothesis clause member place = putField (putField (putField (putField w u fields.choiceHypothesis hypothesis) u fields.choiceClause clause) u fields.choiceMember member) u fields.choicePlace place
 
 unfoldable pub putPairs : List ℕ → ℕ → ℕ → ℕ → ℕ → ℕ → ℕ → List ℕ
-putPairs w u node frame node′ frame′ after = put (put (put (put (put w u fields.goalSideNode node) u fields.goalSideFrame frame) u fields.clauseSideNode node′) u fields.clauseSideFrame frame′) u fields.pairsAfter after
+putPairs w u node frame node′ frame′ after = putField (putField (putField (putField (putField w u fields.goalSideNode node) u fields.goalSideFrame frame) u fields.clauseSideNode node′) u fields.clauseSideFrame frame′) u fields.pairsAfter after
 
 unfoldable pub putNodes : List ℕ → ℕ → ℕ → ℕ → ℕ → List ℕ
-putNodes w u node frame after = put (put (put w u fields.waitingNode node) u fields.waitingFrame frame) u fields.waitingAfter after
+putNodes w u node frame after = putField (putField (putField w u fields.waitingNode node) u fields.waitingFrame frame) u fields.waitingAfter after

@@ -4,8 +4,9 @@ use mathlib.Core.Bool.{true, false, cond}
 use mathlib.Core.List.{List}
 use lib.Dec.{eqb}
 use Rattle.machine.specs.Fields as fields
-use Rattle.machine.specs.Records.{field, levelOf, putCell, putLevel, putEntry}
+use Rattle.machine.specs.Records.{levelOf, putCell, putLevel, putEntry}
 use Rattle.machine.specs.Words.{nameOf}
+use Rattle.memory.specs.Records.{field}
 
 -- Writes to a variable by its word; 0 is no variable.
 unfoldable pub lowerTo : List ℕ → ℕ → ℕ → List ℕ

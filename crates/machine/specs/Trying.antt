@@ -6,16 +6,17 @@ use lib.Dec.{eqb, ltb}
 use Rattle.sheet_format.specs.Limits.{maxNodes, variableNames}
 use Rattle.node_table.specs.Layout.{kindOf, labelOf, childOf, membersOf, clauseNode, impliesKind}
 use Rattle.machine.specs.declared.Registers.{Registers}
-use Rattle.machine.specs.declared.Found.{Found}
 use Rattle.machine.specs.Fields as fields
-use Rattle.machine.specs.Records.{field, Made, made, putGoal, putPath, putUse, putPairs, clauseLine}
+use Rattle.machine.specs.Records.{Made, made, putGoal, putPath, putUse, putPairs, clauseLine}
 use Rattle.machine.specs.Changes.{onNext, onChoice, onGoals, onPath, onMember}
 use Rattle.machine.specs.Words.{narrow, up}
 use Rattle.machine.specs.Frames.{copyFrame, putFresh}
-use Rattle.machine.specs.Members.{findMember, headOf}
 use Rattle.machine.specs.Choices.{saveChoice}
 use Rattle.machine.specs.Goals.{membersLeft, tryFrom}
 use Rattle.machine.specs.Matching.{pairsFrom, duePairs}
+use Rattle.memory.specs.Records.{field}
+use Rattle.clause_members.specs.declared.Found.{Found}
+use Rattle.clause_members.specs.Members.{member, headOf}
 
 -- The clause whose member is due: its node and its frame.
 unfoldable pub clauseOf : List ℕ → List ℕ → Registers → ℕ
@@ -66,4 +67,4 @@ tryFound t c w r m = cond (eqb (labelOf t (r .node)) (labelOf t (headOf t (m .le
 
 -- One act.
 unfoldable pub tryNext : List ℕ → ℕ → List ℕ → Registers → Made
-tryNext t c w r = tryFound t c w r (findMember maxNodes t (clauseOf t w r) (r .member))
+tryNext t c w r = tryFound t c w r (member t (clauseOf t w r) (r .member))

@@ -10,7 +10,8 @@ use Rattle.sheet_format.specs.Limits.{maxNodes, variableNames}
 use Rattle.node_table.specs.Layout.{kindOf, labelOf, variableKind}
 use Rattle.node_table.specs.Decoding.{termAt}
 use Rattle.machine.specs.Fields as fields
-use Rattle.machine.specs.Records.{field, cellOf}
+use Rattle.machine.specs.Records.{cellOf}
+use Rattle.memory.specs.Records.{field}
 
 -- Tags, which are the remainders of words by the number of tags.
 abbrev pub tagCount : ℕ
@@ -62,11 +63,12 @@ slotOf w f v = cond (eqb f 0) (variableWord v) (field w (f - 1) (fields.frame + 
 unfoldable pub wordOf : List ℕ → List ℕ → ℕ → ℕ → ℕ
 wordOf t w n f = cond (eqb (kindOf t n) variableKind) (slotOf w f (labelOf t n)) (closureWord n f)
 
--- Looking through bindings, at most n of them.
-unfoldable pub lookWord : ℕ → List ℕ → ℕ → ℕ
-lookWord zero w a = a
-lookWord (suc n) w a = elim (eqb (tagOf a) variableTag) [
-  | true ↦ elim (eqb (cellOf w (nameOf a)) 0) [ true ↦ a | false ↦ lookWord n w (cellOf w (nameOf a)) ]
+-- Following bindings, at most n of them. A word of tag 0 binds nothing: an unbound variable's 0, and the numbers that the printer
+-- gives to the variables left over.
+unfoldable pub deref : ℕ → List ℕ → ℕ → ℕ
+deref zero w a = a
+deref (suc n) w a = elim (eqb (tagOf a) variableTag) [
+  | true ↦ elim (eqb (tagOf (cellOf w (nameOf a))) 0) [ true ↦ a | false ↦ deref n w (cellOf w (nameOf a)) ]
   | false ↦ a
 ]
 

@@ -36,10 +36,3 @@ pub struct Registers {
     pub value: u32,
     pub nodes: u32,
 }
-
-// A member of a clause: its node in the table, and the names of its prefix, outermost first, as digits to base 8, lowest first.
-pub struct Found {
-    pub leaf: u32,
-    pub names: u32,
-    pub count: u32,
-}

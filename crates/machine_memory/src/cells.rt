@@ -1,4 +1,4 @@
-// The cells of the engine's machine on the lent work buffer: fields of records, variables, slots of frames. Each function is a
+// The cells of the engine's machine on the lent work buffer: variables, slots of frames. Each function is a
 // definition of the crate machine, and its contract says so. A read past the buffer's end gives 0, a write there does nothing.
 use machine::fields;
 use memory::get;
@@ -6,20 +6,11 @@ use memory::wide;
 use sheet_format::limits::NUMBERS_PER_UNIT;
 ghost use mathlib.Core.Path.{_≡_};
 ghost use Prim.Native.Nat.{_+_, _-_};
-ghost use Rattle.machine.specs.Records.{field, put, cellOf, levelOf, putCell, putLevel};
-
-// Field f of record u.
-pub fn field(w: &[u32], u: u32, f: u32) -> u32
-    ensures { λ r. ⌜ r ≡ field (now (w .entry)) u f ⌝ }
-{
-    get(w, NUMBERS_PER_UNIT * wide(u) + wide(f))
-}
-
-pub fn put_field(w: &mut [u32], u: u32, f: u32, a: u32)
-    ensures { λ _. ⌜ now (w .exit) ≡ put (now (w .entry)) u f a ⌝ }
-{
-    memory::put(w, NUMBERS_PER_UNIT * wide(u) + wide(f), a);
-}
+ghost use Rattle.machine.specs.Records.{cellOf, levelOf, putCell, putLevel};
+use memory::field;
+use memory::put;
+use memory::put_field;
+ghost use Rattle.memory.specs.Records.{field, putField};
 
 // The binding and the level of variable x.
 pub fn cell_of(w: &[u32], x: u32) -> u32
@@ -54,9 +45,9 @@ pub fn slot(w: &[u32], u: u32, v: u32) -> u32
 }
 
 pub fn put_slot(w: &mut [u32], u: u32, v: u32, a: u32)
-    ensures { λ _. ⌜ now (w .exit) ≡ put (now (w .entry)) u (23 + v) a ⌝ }
+    ensures { λ _. ⌜ now (w .exit) ≡ putField (now (w .entry)) u (23 + v) a ⌝ }
 {
-    memory::put(w, NUMBERS_PER_UNIT * wide(u) + (fields::FRAME + wide(v)), a);
+    put(w, NUMBERS_PER_UNIT * wide(u) + (fields::FRAME + wide(v)), a);
 }
 
 // The record of a pointer.

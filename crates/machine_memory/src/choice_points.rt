@@ -1,6 +1,5 @@
 // Taking up an alternative: the trail is undone to its mark, and the registers are as they were. Each function is a definition of
 // the crate machine, and its contract says so.
-use super::cells::field;
 use super::registers::on_goal;
 use super::registers::on_member;
 use super::registers::on_mode;
@@ -11,6 +10,7 @@ use machine::modes;
 ghost use mathlib.Core.Path.{_≡_};
 ghost use Rattle.machine.specs.Records.{made};
 ghost use Rattle.machine.specs.Choices.{resumeGoal, resumeMember, resumeBranch, resume, takeUp, failed};
+use memory::field;
 
 // The registers of the choice point in record q: its goal or atom,
 pub fn resume_goal(w: &[u32], r: Registers, q: u32) -> Registers

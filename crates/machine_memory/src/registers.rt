@@ -1,6 +1,5 @@
 // The registers of the engine's machine, by value, with one of them changed. Each function is a definition of the crate machine,
 // and its contract says so.
-use super::cells::put_field;
 use super::records::put_choice;
 use super::records::put_chosen;
 use super::records::put_position;
@@ -11,6 +10,7 @@ ghost use mathlib.Core.Path.{_≡_};
 ghost use Rattle.machine.specs.Records.{made};
 ghost use Rattle.machine.specs.Changes.{onActs, onMode, onNext, onTrail, onChoice, onGoals, onPath, onGoal, onMember, onPairs, onCheck, onNodes};
 ghost use Rattle.machine.specs.Choices.{saveChoice};
+use memory::put_field;
 
 // One more act is done.
 pub fn on_acts(r: Registers, a: u32) -> Registers

@@ -1,6 +1,5 @@
 // The trail: bindings and lowered levels are noted, and undone. Each function is a definition of the crate machine, and its
 // contract says so.
-use super::cells::field;
 use super::cells::level_of;
 use super::cells::put_cell;
 use super::cells::put_level;
@@ -11,6 +10,7 @@ use machine::fields;
 ghost use mathlib.Core.Path.{_≡_};
 ghost use Prim.Native.Nat.{_<_};
 ghost use Rattle.machine.specs.Trail.{lowerTo, bindTo, oldLevel, effect, undoEntry, undo};
+use memory::field;
 
 // Writes to a variable by its word; 0 is no variable.
 pub fn lower_to(w: &mut [u32], a: u32, k: u32)

@@ -1,4 +1,4 @@
-// The words of the engine's machine, which stand for terms: a variable, a constant, or a node in a frame; looking through bindings.
+// The words of the engine's machine, which stand for terms: a variable, a constant, or a node in a frame; following bindings.
 // Each function is a definition of the crate machine, and its contract says so.
 use super::cells::cell_of;
 use super::cells::slot;
@@ -10,7 +10,7 @@ use node_table::label;
 use sheet_format::limits;
 ghost use mathlib.Core.Path.{_≡_};
 ghost use Prim.Native.Nat.{_+_, _-_};
-ghost use Rattle.machine.specs.Words.{narrow, up, variableWord, constantWord, closureWord, tagOf, nameOf, nodeOf, frameOf, slotOf, wordOf, lookWord};
+ghost use Rattle.machine.specs.Words.{narrow, up, variableWord, constantWord, closureWord, tagOf, nameOf, nodeOf, frameOf, slotOf, wordOf, deref};
 
 // The tags, their number and the number of nodes as addends and factors of words.
 pub const TAGS: usize = tags::COUNT as usize;
@@ -100,9 +100,9 @@ pub fn word_of(t: &[u32], w: &[u32], n: u32, f: u32) -> u32
     closure_word(n, f)
 }
 
-// Looks through at most n bindings.
-pub fn look_word(n: u32, w: &[u32], a: u32) -> u32
-    ensures { λ r. ⌜ r ≡ lookWord n (now (w .entry)) a ⌝ }
+// Follows at most n bindings. A word of tag 0 binds nothing.
+pub fn deref(n: u32, w: &[u32], a: u32) -> u32
+    ensures { λ r. ⌜ r ≡ deref n (now (w .entry)) a ⌝ }
 {
     let mut bindings = n;
     let mut at = a;
@@ -111,7 +111,7 @@ pub fn look_word(n: u32, w: &[u32], a: u32) -> u32
             return at;
         }
         let b = cell_of(w, name_of(at));
-        if b == 0 {
+        if tag_of(b) == 0 {
             return at;
         }
         at = b;

@@ -10,7 +10,6 @@ use machine_memory::choice_points::failed;
 use machine_memory::records::put_pairs;
 use machine_memory::registers::on_check;
 use machine_memory::words::frame_of;
-use machine_memory::words::look_word;
 use machine_memory::words::node_of;
 use machine_memory::words::tag_of;
 use machine_memory::words::up;
@@ -20,6 +19,7 @@ ghost use mathlib.Core.Path.{_≡_};
 ghost use Prim.Native.Nat.{_+_};
 ghost use Rattle.machine.specs.Records.{made};
 ghost use Rattle.machine.specs.Matching.{compareClosures, compareLeaves, compareWords, comparePair};
+use machine_memory::words::deref;
 
 // Two applications: the same symbol, then their arguments, then the pairs at e.
 pub fn compare_closures(t: &[u32], w: &mut [u32], r: Registers, e: u32, x: u32, y: u32) -> Registers
@@ -76,7 +76,7 @@ pub fn compare_pair(t: &[u32], w: &mut [u32], r: Registers) -> Registers
     let a = r.pairs;
     let u = r.acts;
     let e = pairs_from(t, w, a / limits::MAX_ARITY, a % limits::MAX_ARITY + 1);
-    let x = look_word(u, w, argument_word(t, w, a, fields::GOAL_SIDE_NODE));
-    let y = look_word(u, w, argument_word(t, w, a, fields::CLAUSE_SIDE_NODE));
+    let x = deref(u, w, argument_word(t, w, a, fields::GOAL_SIDE_NODE));
+    let y = deref(u, w, argument_word(t, w, a, fields::CLAUSE_SIDE_NODE));
     compare_words(t, w, r, e, x, y)
 }

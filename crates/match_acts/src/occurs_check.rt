@@ -3,7 +3,6 @@
 use super::pairs::due_pairs;
 use machine::Registers;
 use machine::fields;
-use machine_memory::cells::field;
 use machine_memory::cells::level_of;
 use machine_memory::choice_points::failed;
 use machine_memory::registers::on_nodes;
@@ -13,8 +12,10 @@ use machine_memory::words::name_of;
 use machine_memory::words::up;
 ghost use mathlib.Core.Path.{_≡_};
 ghost use Prim.Native.Nat.{min};
-ghost use Rattle.machine.specs.Records.{field, made};
+ghost use Rattle.machine.specs.Records.{made};
 ghost use Rattle.machine.specs.Matching.{bindValue, passNode, visitVariable, visitConstant};
+use memory::field;
+ghost use Rattle.memory.specs.Records.{field};
 
 // The range check has passed: lowers z to k, binds, goes on with the pairs.
 pub fn bind_value(w: &mut [u32], r: Registers, z: u32, k: u32) -> Registers

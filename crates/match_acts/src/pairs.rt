@@ -3,7 +3,6 @@
 use goal_acts::goals::proceed;
 use machine::Registers;
 use machine::fields;
-use machine_memory::cells::field;
 use machine_memory::cells::record_of;
 use machine_memory::registers::on_pairs;
 use machine_memory::words::narrow;
@@ -16,8 +15,9 @@ use sheet_format::limits;
 use sheet_format::limits::NUMBERS_PER_UNIT;
 ghost use mathlib.Core.Path.{_≡_};
 ghost use Prim.Native.Nat.{_+_};
-ghost use Rattle.machine.specs.Records.{field};
 ghost use Rattle.machine.specs.Matching.{placeWord, pairsFrom, nodesFrom, argumentWord, duePairs};
+use memory::field;
+ghost use Rattle.memory.specs.Records.{field};
 
 const ARGUMENTS: usize = limits::MAX_ARITY as usize;
 

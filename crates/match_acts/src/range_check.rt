@@ -9,7 +9,6 @@ use machine::fields;
 use machine::tags;
 use machine_memory::records::put_nodes;
 use machine_memory::words::frame_of;
-use machine_memory::words::look_word;
 use machine_memory::words::node_of;
 use machine_memory::words::tag_of;
 use machine_memory::words::up;
@@ -18,6 +17,7 @@ ghost use mathlib.Core.Path.{_≡_};
 ghost use Prim.Native.Nat.{_+_};
 ghost use Rattle.machine.specs.Records.{made};
 ghost use Rattle.machine.specs.Matching.{visitClosure, visitWord, dueWord, nodesAfter, checkNode};
+use machine_memory::words::deref;
 
 // The node is an application: its arguments are looked at, then the nodes at e.
 pub fn visit_closure(t: &[u32], w: &mut [u32], r: Registers, e: u32, x: u32) -> Registers
@@ -69,6 +69,6 @@ pub fn check_node(t: &[u32], w: &mut [u32], r: Registers) -> Registers
     ensures { λ s. ⌜ made (now (w .exit)) s ≡ checkNode (now (t .entry)) (now (w .entry)) r ⌝ }
 {
     let e = nodes_after(t, w, r.nodes);
-    let x = look_word(r.acts, w, due_word(t, w, r));
+    let x = deref(r.acts, w, due_word(t, w, r));
     visit_word(t, w, r, e, x)
 }

@@ -1,2 +1,3 @@
 -- Laws of lent buffers.
 pub mod Parts
+pub mod Records

@@ -1,9 +1,10 @@
-// Total access to lent numbers and bytes: past the end a read gives 0 and a write does nothing. So no caller has to prove an
-// index, and every contract above is an equation on lists.
+// Total access to lent numbers and bytes, and to records of 64 numbers: past the end a read gives 0 and a write does nothing. So no
+// caller has to prove an index, and every contract above is an equation on lists.
 ghost use mathlib.Core.Path.{_≡_};
 ghost use Prim.Native.Nat.{_<_, _≤_};
 ghost use mathlib.Core.List.{_++_};
 ghost use lib.ListN.{length, getD, set, drop, replicate};
+ghost use Rattle.memory.specs.Records.{field, putField};
 
 pub fn get(w: &[u32], i: usize) -> u32
     ensures { λ r. ⌜ r ≡ getD (now (w .entry)) i 0 ⌝ }
@@ -36,6 +37,19 @@ pub fn wide(x: u32) -> usize
     ensures { λ r. ⌜ (r ≡ x) × (r < 4294967296) ⌝ }
 {
     x as usize
+}
+
+// Field f of record u.
+pub fn field(w: &[u32], u: u32, f: u32) -> u32
+    ensures { λ r. ⌜ r ≡ field (now (w .entry)) u f ⌝ }
+{
+    get(w, 64 * wide(u) + wide(f))
+}
+
+pub fn put_field(w: &mut [u32], u: u32, f: u32, a: u32)
+    ensures { λ _. ⌜ now (w .exit) ≡ putField (now (w .entry)) u f a ⌝ }
+{
+    put(w, 64 * wide(u) + wide(f), a);
 }
 
 // The first n numbers become 0; the rest stay.

@@ -10,10 +10,11 @@ use borrow.Author.Tests.{eqb-true, eqb-false, eq-eqb}
 use Rattle.sheet_format.specs.Limits.{numbersPerUnit, variableNames}
 use Rattle.node_table.specs.Layout.{kindOf, labelOf, variableKind}
 use Rattle.machine.specs.Fields as fields
-use Rattle.machine.specs.Records.{field, put, cellOf, levelOf, putCell}
-use Rattle.machine.specs.Words.{closureWord, tagOf, nameOf, slotOf, wordOf, variableTag}
-use Rattle.printing.specs.Marks.{seek}
-use Rattle.machine.proofs.Records.{length-put, field-other, There, cell-same, cell-put, level-put, field-cell, level-cell, cell-other}
+use Rattle.machine.specs.Records.{cellOf, levelOf, putCell}
+use Rattle.machine.specs.Words.{closureWord, tagOf, nameOf, slotOf, wordOf, variableTag, deref}
+use Rattle.machine.proofs.Records.{There, cell-same, cell-put, level-put, field-cell, level-cell, cell-other}
+use Rattle.memory.proofs.Records.{length-put, field-other}
+use Rattle.memory.specs.Records.{field, putField}
 
 -- A variable of the first n records is in memory.
 pub there-from : (n x : ℕ) (w : List ℕ) → numbersPerUnit * n ≤ length w → x < 9 * n → There x w
@@ -46,7 +47,7 @@ pub alike-fewer : (hi lo : ℕ) (w w′ : List ℕ) → lo ≤ hi → Alike hi w
 alike-fewer hi lo w w′ h a = record { long = a .long; fields = λ u f p q. a .fields u f p (omega arith); levels = a .levels; free = a .free; bound = a .bound }
 
 -- A free field is written.
-pub alike-put : (hi : ℕ) (w : List ℕ) (u f a : ℕ) → hi ≤ f → fields.entryLowered ≤ f → f < numbersPerUnit → Alike hi w (put w u f a)
+pub alike-put : (hi : ℕ) (w : List ℕ) (u f a : ℕ) → hi ≤ f → fields.entryLowered ≤ f → f < numbersPerUnit → Alike hi w (putField w u f a)
 alike-put hi w u f a h l k = record {
   long = length-put w u f a;
   fields = λ v g p q. field-other w u f v g a k (omega arith) (λ e. omega arith);
@@ -71,19 +72,19 @@ alike-mark hi w x a h t e f = record {
     go y false q k = ap tagOf (cell-other w x a y (eqb-false y x q)) ∙ k
 
 -- Reading gives the same: looking through,
-pub seek-alike : (hi n : ℕ) (w w′ : List ℕ) (a : ℕ) → Alike hi w w′ → seek n w′ a ≡ seek n w a
-unfolding seek
-seek-alike hi zero w w′ a h = refl
-seek-alike hi (suc n) w w′ a h = go (eqb (tagOf a) variableTag) (λ b. seek-alike hi n w w′ b h)
+pub deref-alike : (hi n : ℕ) (w w′ : List ℕ) (a : ℕ) → Alike hi w w′ → deref n w′ a ≡ deref n w a
+unfolding deref
+deref-alike hi zero w w′ a h = refl
+deref-alike hi (suc n) w w′ a h = go (eqb (tagOf a) variableTag) (λ b. deref-alike hi n w w′ b h)
   where
     turn : List ℕ → ℕ → ℕ
-    turn v c = elim (eqb (tagOf c) 0) [ true ↦ a | false ↦ seek n v c ]
+    turn v c = elim (eqb (tagOf c) 0) [ true ↦ a | false ↦ deref n v c ]
 
-    bound : (b : Bool) → eqb (tagOf (cellOf w (nameOf a))) 0 ≡ b → ((b : ℕ) → seek n w′ b ≡ seek n w b) → turn w′ (cellOf w′ (nameOf a)) ≡ turn w (cellOf w (nameOf a))
+    bound : (b : Bool) → eqb (tagOf (cellOf w (nameOf a))) 0 ≡ b → ((b : ℕ) → deref n w′ b ≡ deref n w b) → turn w′ (cellOf w′ (nameOf a)) ≡ turn w (cellOf w (nameOf a))
     bound true e f = rw (turn, e, eq-eqb (tagOf (cellOf w′ (nameOf a))) 0 (h .free (nameOf a) (eqb-true (tagOf (cellOf w (nameOf a))) 0 e)))
     bound false e f = ap (turn w′) (h .bound (nameOf a) (eqb-false (tagOf (cellOf w (nameOf a))) 0 e)) ∙ rw (turn, e) (f (cellOf w (nameOf a)))
 
-    go : (b : Bool) → ((b : ℕ) → seek n w′ b ≡ seek n w b) → _≡_ {A = ℕ} (elim b [ true ↦ turn w′ (cellOf w′ (nameOf a)) | false ↦ a ]) (elim b [ true ↦ turn w (cellOf w (nameOf a)) | false ↦ a ])
+    go : (b : Bool) → ((b : ℕ) → deref n w′ b ≡ deref n w b) → _≡_ {A = ℕ} (elim b [ true ↦ turn w′ (cellOf w′ (nameOf a)) | false ↦ a ]) (elim b [ true ↦ turn w (cellOf w (nameOf a)) | false ↦ a ])
     go true f = bound (eqb (tagOf (cellOf w (nameOf a))) 0) refl f
     go false f = refl
 

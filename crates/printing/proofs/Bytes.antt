@@ -3,13 +3,12 @@ use Prim.Native.Nat.{ℕ, zero, suc, _+_, _/_, _%_, _≤_, _<_, min}
 use Prim.Native.Char.{code}
 use native.Mathlib.Omega.{arith}
 use mathlib.Core.Path.{_≡_, refl, sym, ap, _∙_}
-use mathlib.Core.Bool.{Bool, true, false, cond}
+use mathlib.Core.Bool.{Bool, true, false}
 use mathlib.Core.List.{List, [], _∷_, _++_, append-assoc}
 use lib.Dec.{ltb}
 use lib.ListN.{length, getD, set, take, drop, length-append, drop-of-length-le}
-use lib.Seq.{set-out, drop-cons, set-at}
+use lib.Seq.{drop-cons, set-at}
 use borrow.Author.Tests.{lt-ltb, le-ltb, ltb-true, ltb-false}
-use Rattle.machine.specs.Words.{up}
 use Rattle.machine.proofs.Words.{up-small}
 use Rattle.sheet_format.specs.Bytes.{digits, decimal}
 use Rattle.printing.specs.Output.{Written, written, emit, writeBytes, copyBytes, writeDigits, writeNumber, writeSymbol}
@@ -102,17 +101,6 @@ bytes-grow (b ∷ s) out limit at l = go (ltb limit at) refl (bytes-grow s (set 
     go : (c : Bool) → ltb limit at ≡ c → suc at ≤ writeBytes s (set out at b) limit (suc at) .at → at ≤ writeBytes (b ∷ s) out limit at .at
     go true e f = rw (bytes-over (b ∷ s) out limit at (ltb-true limit at e)) (omega arith)
     go false e f = rw (writeBytes, emit-within out limit at b l (ltb-false limit at e)) (omega arith)
-
--- An empty buffer stays empty,
-pub bytes-empty : (s : List ℕ) (limit at : ℕ) → writeBytes s [] limit at .buffer ≡ []
-unfolding writeBytes emit
-bytes-empty [] limit at = refl
-bytes-empty (b ∷ s) limit at = go (ltb limit at) (λ a. bytes-empty s limit a)
-  where
-    go : (c : Bool) → ((a : ℕ) → writeBytes s [] limit a .buffer ≡ [])
-        → writeBytes s (cond c (written [] at) (written (set [] at b) (up at)) .buffer) limit (cond c (written [] at) (written (set [] at b) (up at)) .at) .buffer ≡ []
-    go true f = f at
-    go false f = rw (set-out [] at b (omega arith)) (f (up at))
 
 -- and a buffer in which they fit holds them.
 pub bytes-fit : (s before rest : List ℕ) (limit at : ℕ) → limit ≤ 65535 → at ≡ length before → at + length s ≤ limit → length s ≤ length rest

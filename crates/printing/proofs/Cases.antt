@@ -4,12 +4,11 @@ use mathlib.Core.Path.{_≡_, refl}
 use mathlib.Core.List.{List, [], _∷_, _++_}
 use lib.ListN.{replicate}
 use Rattle.printing.specs.Writer.{Answered}
-use Rattle.machine.specs.Records.{field, put, cellOf, levelOf, putCell, putLevel, putEntry, putGoal, putAssumption, putPath, putUse, putChoice, putChosen, putPosition, putPairs, putNodes}
+use Rattle.machine.specs.Records.{cellOf, levelOf, putCell, putLevel, putEntry, putGoal, putAssumption, putPath, putUse, putChoice, putChosen, putPosition, putPairs, putNodes}
 use Rattle.machine.specs.Changes.{onActs, onMode, onNext, onTrail, onChoice, onGoals, onPath, onGoal, onMember, onPairs, onCheck, onNodes}
-use Rattle.machine.specs.Words.{narrow, up, variableWord, constantWord, closureWord, tagOf, nameOf, nodeOf, frameOf, slotOf, wordOf, lookWord, leafOf, environmentAt, termOf}
+use Rattle.machine.specs.Words.{narrow, up, variableWord, constantWord, closureWord, tagOf, nameOf, nodeOf, frameOf, slotOf, wordOf, leafOf, environmentAt, termOf, deref}
 use Rattle.machine.specs.Trail.{lowerTo, bindTo, oldLevel, effect, undoEntry, undo}
 use Rattle.machine.specs.Frames.{copyFrame, putVariable, putFresh, putVariables}
-use Rattle.machine.specs.Members.{hasName, addName, findMember, headOf}
 use Rattle.machine.specs.Choices.{saveChoice, resumeGoal, resumeMember, resumeBranch, resume, takeUp, failed}
 use Rattle.machine.specs.Goals.{dueGoal, proceed, membersLeft, tryFrom, takeAtom, takeTrue, takeAnd, rightBranch, takeOr, takeImplies, takeExists, putConstant, takeForall, takeGoal}
 use Rattle.machine.specs.Matching.{placeWord, pairsFrom, nodesFrom, argumentWord, duePairs, compareClosures, compareLeaves, compareWords, comparePair, bindValue, passNode, visitVariable, visitConstant, visitClosure, visitWord, dueWord, nodesAfter, checkNode}
@@ -17,16 +16,18 @@ use Rattle.machine.specs.Trying.{clauseOf, clauseFrame, nextClause, nextMember,
 use Rattle.machine.specs.Machine.{dueAct, act, run, startMemory, startRegisters, runMachine}
 use Rattle.node_table.specs.Layout.{kindOf, childCount, labelOf, childOf, infoOf, packInfo, maskOf, goalBit, membersOf, sizeOf, bitOf, nameStart, nameLength, isFunctionBit, arityOf, clauseNode}
 use Rattle.printing.specs.Output.{emit, writeBytes, copyBytes, writeDigits, writeNumber, writeSymbol}
-use Rattle.printing.specs.Marks.{onAt, onVariables, onConstants, wrote, seek, markVariable, markConstant, showVariable, showConstant}
+use Rattle.printing.specs.Marks.{onAt, onVariables, onConstants, wrote, markVariable, markConstant, showVariable, showConstant}
 use Rattle.printing.specs.WriteTerms.{emitTo, writeName, separator, argumentsBy, applicationBy, wordBy, writeTerm, termTo}
 use Rattle.printing.specs.WriteLines.{bytesTo, numberTo, resultTo, plainBytes, termLine, bindingsTo, prefixTo, clauseTo, lineTo, linesTo}
 use Rattle.printing.specs.Links.{linkWord, linkPath, clearConstants, clearVariables}
 use Rattle.printing.specs.Writer.{textLimit, proofPass, prepare, firstLink, writePass, writeProof, shortPass, writeShort, writeNo, writeSpent}
 use Rattle.sheet_format.specs.Bytes.{ascii}
+use Rattle.memory.specs.Records.{field, putField}
+use Rattle.clause_members.specs.Members.{hasName, pushName, addName, findMember, member, headOf}
 
 -- A run of the machine, and the text written.
 unfoldable computeAnswer : List ℕ → List ℕ → ℕ → ℕ → ℕ → List ℕ → List ℕ → Answered
-unfolding field put cellOf levelOf putCell putLevel putEntry putGoal putAssumption putPath putUse putChoice putChosen putPosition putPairs putNodes onActs onMode onNext onTrail onChoice onGoals onPath onGoal onMember onPairs onCheck onNodes narrow up variableWord constantWord closureWord tagOf nameOf nodeOf frameOf slotOf wordOf lookWord leafOf environmentAt termOf lowerTo bindTo oldLevel effect undoEntry undo copyFrame putVariable putFresh putVariables hasName addName findMember headOf saveChoice resumeGoal resumeMember resumeBranch resume takeUp failed dueGoal proceed membersLeft tryFrom takeAtom takeTrue takeAnd rightBranch takeOr takeImplies takeExists putConstant takeForall takeGoal placeWord pairsFrom nodesFrom argumentWord duePairs compareClosures compareLeaves compareWords comparePair bindValue passNode visitVariable visitConstant visitClosure visitWord dueWord nodesAfter checkNode clauseOf clauseFrame nextClause nextMember putPrefix leaveOthers putBody putTry tried tryMember tryFound tryNext dueAct act run startMemory startRegisters runMachine kindOf childCount labelOf childOf infoOf packInfo maskOf goalBit membersOf sizeOf bitOf nameStart nameLength isFunctionBit arityOf clauseNode emit writeBytes copyBytes writeDigits writeNumber writeSymbol onAt onVariables onConstants wrote seek markVariable markConstant showVariable showConstant emitTo writeName separator argumentsBy applicationBy wordBy writeTerm termTo bytesTo numberTo resultTo plainBytes termLine bindingsTo prefixTo clauseTo lineTo linesTo linkWord linkPath clearConstants clearVariables textLimit proofPass prepare firstLink writePass writeProof shortPass writeShort writeNo writeSpent ascii
+unfolding field putField cellOf levelOf putCell putLevel putEntry putGoal putAssumption putPath putUse putChoice putChosen putPosition putPairs putNodes onActs onMode onNext onTrail onChoice onGoals onPath onGoal onMember onPairs onCheck onNodes narrow up variableWord constantWord closureWord tagOf nameOf nodeOf frameOf slotOf wordOf deref leafOf environmentAt termOf lowerTo bindTo oldLevel effect undoEntry undo copyFrame putVariable putFresh putVariables hasName pushName addName findMember member headOf saveChoice resumeGoal resumeMember resumeBranch resume takeUp failed dueGoal proceed membersLeft tryFrom takeAtom takeTrue takeAnd rightBranch takeOr takeImplies takeExists putConstant takeForall takeGoal placeWord pairsFrom nodesFrom argumentWord duePairs compareClosures compareLeaves compareWords comparePair bindValue passNode visitVariable visitConstant visitClosure visitWord dueWord nodesAfter checkNode clauseOf clauseFrame nextClause nextMember putPrefix leaveOthers putBody putTry tried tryMember tryFound tryNext dueAct act run startMemory startRegisters runMachine kindOf childCount labelOf childOf infoOf packInfo maskOf goalBit membersOf sizeOf bitOf nameStart nameLength isFunctionBit arityOf clauseNode emit writeBytes copyBytes writeDigits writeNumber writeSymbol onAt onVariables onConstants wrote markVariable markConstant showVariable showConstant emitTo writeName separator argumentsBy applicationBy wordBy writeTerm termTo bytesTo numberTo resultTo plainBytes termLine bindingsTo prefixTo clauseTo lineTo linesTo linkWord linkPath clearConstants clearVariables textLimit proofPass prepare firstLink writePass writeProof shortPass writeShort writeNo writeSpent ascii
 computeAnswer sheet t clauses goal budget w out = writeProof sheet t goal (runMachine budget t clauses goal w) budget out
 
 -- "Goal every b some a p(a,b)", with the clause every z p(z,z): nodes V 0, V 1, p(0,0), U, p(0,1), E, U

@@ -24,7 +24,6 @@ use Rattle.node_table.specs.Decoding.{declarationsFrom}
 use Rattle.answer_texts.specs.TextLines.{bindingLine}
 use Rattle.answer_texts.specs.Spelling.{spellWord, join, textLine}
 use Rattle.machine.specs.Fields as fields
-use Rattle.machine.specs.Records.{field}
 use Rattle.machine.specs.Words.{variableWord, constantWord, termOf}
 use Rattle.machine.specs.Reading.{variablesFrom, lineAt}
 use Rattle.printing.specs.Marks.{Page, wrote}
@@ -39,6 +38,7 @@ use Rattle.printing.proofs.Steps.{Right, steps-alike}
 use Rattle.printing.proofs.Words.{variable-tag, variable-name, constant-tag, constant-name}
 use Rattle.printing.proofs.Values.{value, variable-term, constant-term}
 use Rattle.printing.proofs.TermSteps.{Basis, word-right, term-steps}
+use Rattle.memory.specs.Records.{field}
 
 module _ (sheet t : List ℕ) (symbols nodes : ℕ) (w : List ℕ) (acts : ℕ) (s : Store) (b : Basis t symbols nodes w acts s) (limit : ℕ) (low : limit ≤ 65535) where
   abbrev ds : List Declaration

@@ -15,7 +15,7 @@ use Rattle.sequents.specs.Renamings.{Renaming, rename}
 use Rattle.sheet_format.specs.Bytes.{decimal}
 use Rattle.sheet_format.specs.Limits.{numbersPerUnit}
 use Rattle.machine.specs.Fields as fields
-use Rattle.machine.specs.Records.{field, put, cellOf, levelOf, putCell}
+use Rattle.machine.specs.Records.{cellOf, levelOf, putCell}
 use Rattle.machine.specs.Words.{narrow, tagOf}
 use Rattle.machine.proofs.Words.{up-small}
 use Rattle.answer_texts.specs.Numbering.{sameSymbol, isMade, madeOnly, leftoverOnly, firsts, indexOf, numberingOf}
@@ -27,12 +27,14 @@ use Rattle.printing.specs.Output.{Written, written, emit, writeBytes, wr
 use Rattle.printing.specs.Marks.{onAt, onVariables, onConstants, Page, page, wrote, markVariable, markConstant, showVariable, showConstant, constantNumberField}
 use Rattle.printing.specs.WriteTerms.{emitTo}
 use Rattle.printing.specs.WriteLines.{bytesTo}
-use Rattle.machine.proofs.Records.{There, cell-same, cell-other, field-cell, level-cell, cell-put, field-same, field-other, record-other}
+use Rattle.machine.proofs.Records.{There, cell-same, cell-other, field-cell, level-cell, cell-put}
 use Rattle.printing.proofs.Bytes.{emit-within, bytes-append, bytes-grow, bytes-over, symbol-bytes}
 use Rattle.printing.proofs.Tokens.{Token, byte, sign, showSymbol, step, steps, steps-over, signs, spelled}
 use Rattle.printing.proofs.Alike.{there-from, Alike, alike-trans, alike-put, alike-mark}
 use Rattle.printing.proofs.Steps.{Right}
 use Rattle.printing.proofs.Firsts.{has-more, has-middle, index-next, Book, book-same, book-again, book-new}
+use Rattle.memory.proofs.Records.{field-same, field-other, record-other}
+use Rattle.memory.specs.Records.{field, putField}
 
 -- a number's word
 word-small : (n : ℕ) → n ≤ 1000000 → narrow (4 * suc n) ≡ 4 * suc n
@@ -75,13 +77,13 @@ constant-old limit g c n e =
 -- one that gets it
 constant-new : (limit : ℕ) (g : Page) (c : ℕ) → field (g .memory) c constantNumberField ≡ 0 → numbersPerUnit * c + 63 < length (g .memory) → g .pen .constants ≤ 1000000
     → showConstant limit g c
-    ≡ bytesTo limit (page (put (g .memory) c constantNumberField (suc (g .pen .constants))) (g .buffer) (onConstants (g .pen) (suc (g .pen .constants)))) (spellSymbol (made (g .pen .constants) (field (g .memory) c fields.constantLevel)))
+    ≡ bytesTo limit (page (putField (g .memory) c constantNumberField (suc (g .pen .constants))) (g .buffer) (onConstants (g .pen) (suc (g .pen .constants)))) (spellSymbol (made (g .pen .constants) (field (g .memory) c fields.constantLevel)))
 unfolding showConstant markConstant bytesTo spellSymbol onConstants
 constant-new limit g c e t l =
     rw (e, up-small (g .pen .constants) (omega arith))
-    (ap (wrote (page (put (g .memory) c constantNumberField (suc (g .pen .constants))) (g .buffer) (onConstants (g .pen) (suc (g .pen .constants)))))
+    (ap (wrote (page (putField (g .memory) c constantNumberField (suc (g .pen .constants))) (g .buffer) (onConstants (g .pen) (suc (g .pen .constants)))))
     (ap₂ (writeSymbol (g .buffer) limit (g .pen .at) (code "!"))
-    (let f = field-same (g .memory) c constantNumberField (suc (g .pen .constants)) t in let z : field (put (g .memory) c constantNumberField (suc (g .pen .constants))) c constantNumberField - 1 ≡ g .pen .constants = omega arith in z)
+    (let f = field-same (g .memory) c constantNumberField (suc (g .pen .constants)) t in let z : field (putField (g .memory) c constantNumberField (suc (g .pen .constants))) c constantNumberField - 1 ≡ g .pen .constants = omega arith in z)
     (field-other (g .memory) c constantNumberField c fields.constantLevel (suc (g .pen .constants)) (omega arith) (omega arith) (λ q. omega arith))
     ∙ symbol-bytes (g .buffer) limit (g .pen .at) (code "!") (g .pen .constants) (field (g .memory) c fields.constantLevel)))
 
@@ -307,13 +309,13 @@ module _ (w : List ℕ) (next acts : ℕ) where
           there : numbersPerUnit * c + 63 < length (g .memory)
           there = let a = n .alike .long in let b = right .0 in omega arith
 
-          other : (z : Symbol) (a : ℕ) → Constant z → sameSymbol (made c k) z ≡ false → fieldMark (put (g .memory) c constantNumberField a) z ≡ fieldMark (g .memory) z
+          other : (z : Symbol) (a : ℕ) → Constant z → sameSymbol (made c k) z ≡ false → fieldMark (putField (g .memory) c constantNumberField a) z ≡ fieldMark (g .memory) z
           other (leftover x j) a m d = refl
           other (made c′ j) a m d =
               record-other (g .memory) c constantNumberField c′ constantNumberField a (omega arith) (omega arith)
               (λ q. true≢false (sym (sameSymbol-refl (made c k)) ∙ ap (sameSymbol (made c k)) (ap₂ made (sym q) (right .1 ∙ ap (λ (d : ℕ). field w d fields.constantLevel) (sym q) ∙ sym (m .1))) ∙ d))
 
-          cell-kept : (z : Symbol) (a : ℕ) → cellMark (put (g .memory) c constantNumberField a) z ≡ cellMark (g .memory) z
+          cell-kept : (z : Symbol) (a : ℕ) → cellMark (putField (g .memory) c constantNumberField a) z ≡ cellMark (g .memory) z
           cell-kept (made c′ j) a = refl
           cell-kept (leftover x j) a = cell-put (g .memory) x c constantNumberField a (omega arith) (omega arith)
 
@@ -337,7 +339,7 @@ module _ (w : List ℕ) (next acts : ℕ) where
               let j = n .fewConstants in
               let m = g .pen .constants in
               let d : m ≡ r .ofMade c k = n .constants .counts ∙ sym (due e) in
-              let v = put (g .memory) c constantNumberField (suc m) in
+              let v = putField (g .memory) c constantNumberField (suc m) in
               shown-by y (made m (field (g .memory) c fields.constantLevel)) h g _ v (onConstants (g .pen) (suc m)) refl (ap₂ made d level) l
               (λ a q. record {
                 alike = alike-trans 62 w (g .memory) v (n .alike) (alike-put 62 (g .memory) c 63 (suc m) (omega arith) (omega arith) (omega arith));

@@ -16,7 +16,7 @@ use Rattle.sheet_format.specs.Limits.{maxBudget, maxNodes, numbersPerUnit}
 use Rattle.node_table.specs.Decoding.{clausesFrom, goalAt}
 use Rattle.node_table.specs.WellMade.{WellMade}
 use Rattle.machine.specs.Fields as fields
-use Rattle.machine.specs.Records.{field, cellOf, Made, provedMode}
+use Rattle.machine.specs.Records.{cellOf, Made, provedMode}
 use Rattle.machine.specs.Words.{tagOf, nameOf, nodeOf, frameOf, slotOf}
 use Rattle.machine.specs.Machine.{runMachine}
 use Rattle.machine.specs.Simulation.{StandsAt, Tells}
@@ -32,6 +32,7 @@ use Rattle.machine.proofs.Simulation.{simulates}
 use Rattle.machine.proofs.Proved.{proved-at}
 use Rattle.printing.specs.Written.{LeafWord, variable, constant, TermWord, ofLeaf, ofClosure, PathMade, Orderly, WritesAnswer}
 use Rattle.printing.proofs.Passes.{writes-proof}
+use Rattle.memory.specs.Records.{field}
 
 -- Words of the simulation are the writer's.
 leaf-is : (n a : ℕ) → LeafAt n a → LeafWord n a

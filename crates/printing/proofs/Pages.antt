@@ -1,7 +1,7 @@
 -- Bytes on a page: every writer that shows no symbol is `bytesTo` some bytes.
 use Prim.Native.Nat.{ℕ, _≤_, _<_}
-use mathlib.Core.Path.{_≡_, refl, sym, ap}
-use mathlib.Core.List.{List, [], _∷_, _++_}
+use mathlib.Core.Path.{_≡_, refl, ap}
+use mathlib.Core.List.{List, [], _∷_}
 use lib.ListN.{take, drop}
 use Rattle.sheet_format.specs.Bytes.{decimal}
 use Rattle.node_table.specs.Layout.{nameStart, nameLength}
@@ -9,7 +9,7 @@ use Rattle.printing.specs.Output.{writeBytes}
 use Rattle.printing.specs.Marks.{onAt, Page, wrote}
 use Rattle.printing.specs.WriteTerms.{emitTo, writeName}
 use Rattle.printing.specs.WriteLines.{bytesTo, numberTo}
-use Rattle.printing.proofs.Bytes.{bytes-over, bytes-append, number-bytes, copied-bytes, bytes-grow}
+use Rattle.printing.proofs.Bytes.{bytes-over, number-bytes, copied-bytes, bytes-grow}
 
 -- One byte,
 pub emitted : (limit : ℕ) (g : Page) (b : ℕ) → emitTo limit g b ≡ bytesTo limit g (b ∷ [])
@@ -20,11 +20,6 @@ emitted limit g b = refl
 pub bytes-next : (limit : ℕ) (g : Page) (b : ℕ) (bs : List ℕ) → bytesTo limit g (b ∷ bs) ≡ bytesTo limit (emitTo limit g b) bs
 unfolding emitTo bytesTo writeBytes wrote onAt
 bytes-next limit g b bs = refl
-
--- one list and then another,
-pub bytes-then : (limit : ℕ) (g : Page) (x y : List ℕ) → bytesTo limit (bytesTo limit g x) y ≡ bytesTo limit g (x ++ y)
-unfolding bytesTo wrote onAt
-bytes-then limit g x y = ap (wrote g) (sym (bytes-append x y (g .buffer) limit (g .pen .at)))
 
 -- a number,
 pub number-then : (limit : ℕ) (g : Page) (n : ℕ) → numberTo limit g n ≡ bytesTo limit g (decimal n)

@@ -25,7 +25,7 @@ use Rattle.answer_texts.specs.Numbering.{madeOnly, leftoverOnly, firsts, shown,
 use Rattle.answer_texts.specs.Spelling.{proofText, noText, spentText, textLine, join}
 use Rattle.answer_texts.specs.Promises.{searchText}
 use Rattle.answer_texts.proofs.Showings.{has}
-use Rattle.machine.specs.Records.{field, Made, provedMode}
+use Rattle.machine.specs.Records.{Made, provedMode}
 use Rattle.machine.specs.Simulation.{StandsAt}
 use Rattle.printing.specs.declared.Pen.{Pen}
 use Rattle.printing.specs.Output.{Written, written, emit, writeBytes}
@@ -42,6 +42,7 @@ use Rattle.printing.proofs.TermSteps.{Basis}
 use Rattle.printing.proofs.LineSteps.{Reached, reach-alike, reach-kept, reach-as, reach-then, reach-result, reach-bindings}
 use Rattle.printing.proofs.PathSteps.{PathLine, pathLines, lineOf, lines-read, lines-few, reverse-map, Prepared, prepared, lineShown, reach-lines}
 use Rattle.printing.proofs.Numbered.{cellMark, fieldMark, Variable, Constant, Numbered, Due, due-first, due-again, Wrote, steps-numbered}
+use Rattle.memory.specs.Records.{field}
 
 -- Written or not, by the length of the text.
 told-fits : (text out : List ℕ) → length text ≤ textLimit out → told text out ≡ written (text ++ drop (length text) out) (length text)

@@ -18,19 +18,21 @@ use Rattle.sheet_format.specs.Limits.{numbersPerUnit}
 use Rattle.node_table.specs.Decoding.{declarationsFrom}
 use Rattle.answer_texts.specs.TextLines.{TextLine, derivationLine}
 use Rattle.machine.specs.Fields as fields
-use Rattle.machine.specs.Records.{field, put, cellOf, Made}
+use Rattle.machine.specs.Records.{cellOf, Made}
 use Rattle.machine.specs.Reading.{lineAt, pathFrom}
 use Rattle.printing.specs.Marks.{Page, constantNumberField}
 use Rattle.printing.specs.WriteLines.{lineTo, linesTo}
 use Rattle.printing.specs.Links.{linkWord, Linked, linked, linkPath, clearConstants, nextLineField}
 use Rattle.printing.specs.Writer.{prepare, firstLink}
 use Rattle.printing.specs.Written.{LineMade, PathMade}
-use Rattle.machine.proofs.Records.{length-put, cell-put, field-same, record-other}
+use Rattle.machine.proofs.Records.{cell-put}
 use Rattle.printing.proofs.Tokens.{lineTokens, textTokens, tokens}
 use Rattle.printing.proofs.Alike.{Alike, alike-refl, alike-trans, alike-fewer, alike-put}
 use Rattle.printing.proofs.Words.{link-pointer, link-line}
 use Rattle.printing.proofs.TermSteps.{Basis}
 use Rattle.printing.proofs.LineSteps.{Reached, reach-alike, reach-kept, reach-none, reach-then, reach-line-at}
+use Rattle.memory.proofs.Records.{length-put, field-same, record-other}
+use Rattle.memory.specs.Records.{field, putField}
 
 -- A line of the path: the pointer to its record, and which line it is.
 pub record PathLine : Type 0 where
@@ -91,7 +93,7 @@ module _ (w : List ℕ) (next acts : ℕ) where
   chain-same v v′ f e (x ∷ l) c = (c .0, c .1, c .2, c .3, subst (λ (d : ℕ). Chain v′ d l) (sym (f (x .pointer - 1))) (chain-same v v′ f (field v (x .pointer - 1) nextLineField) l (c .4)))
 
   -- the link of an earlier record is written
-  chain-put : (v : List ℕ) (p a : ℕ) → 1 ≤ p → (e : ℕ) (l : List PathLine) → All (λ x. p < x .pointer) l → Chain v e l → Chain (put v (p - 1) nextLineField a) e l
+  chain-put : (v : List ℕ) (p a : ℕ) → 1 ≤ p → (e : ℕ) (l : List PathLine) → All (λ x. p < x .pointer) l → Chain v e l → Chain (putField v (p - 1) nextLineField a) e l
   unfolding Chain
   chain-put v p a h e [] o c = c
   chain-put v p a h e (x ∷ l) o c =
@@ -100,7 +102,7 @@ module _ (w : List ℕ) (next acts : ℕ) where
         c .1,
         c .2,
         c .3,
-        subst (λ (d : ℕ). Chain (put v (p - 1) nextLineField a) d l) (sym (record-other v (p - 1) nextLineField (x .pointer - 1) nextLineField a (omega arith) (omega arith) (λ q. omega arith)))
+        subst (λ (d : ℕ). Chain (putField v (p - 1) nextLineField a) d l) (sym (record-other v (p - 1) nextLineField (x .pointer - 1) nextLineField a (omega arith) (omega arith) (λ q. omega arith)))
             (chain-put v p a h (field v (x .pointer - 1) nextLineField) l (o .1) (c .4)),
       )
 
@@ -114,23 +116,23 @@ module _ (w : List ℕ) (next acts : ℕ) where
       → Joined v (linkPath n v p k e) (reverseAux (pathLines n w p k) l)
   unfolding linkPath pathLines PathMade Chain
   link-chain zero v p k e l room a m h o c = record { chain = c; alike = alike-refl 62 v }
-  link-chain (suc n) v p k e l room a m h o c = go m (link-chain n (put v (p - 1) nextLineField e))
+  link-chain (suc n) v p k e l room a m h o c = go m (link-chain n (putField v (p - 1) nextLineField e))
     where
       go : (p ≡ 0) ⊎ ((1 ≤ p) × LineMade w next (p - 1) k × (field w (p - 1) fields.pathBefore < p) × PathMade n w next (field w (p - 1) fields.pathBefore) (field w (p - 1) fields.pathLine))
-          → ((q j d : ℕ) (i : List PathLine) → numbersPerUnit * acts ≤ length (put v (p - 1) nextLineField e) → Alike 62 w (put v (p - 1) nextLineField e) → PathMade n w next q j → q ≤ acts → All (λ x. q < x .pointer) i
-          → Chain (put v (p - 1) nextLineField e) d i → Joined (put v (p - 1) nextLineField e) (linkPath n (put v (p - 1) nextLineField e) q j d) (reverseAux (pathLines n w q j) i))
+          → ((q j d : ℕ) (i : List PathLine) → numbersPerUnit * acts ≤ length (putField v (p - 1) nextLineField e) → Alike 62 w (putField v (p - 1) nextLineField e) → PathMade n w next q j → q ≤ acts → All (λ x. q < x .pointer) i
+          → Chain (putField v (p - 1) nextLineField e) d i → Joined (putField v (p - 1) nextLineField e) (linkPath n (putField v (p - 1) nextLineField e) q j d) (reverseAux (pathLines n w q j) i))
           → Joined v (linkPath (suc n) v p k e) (reverseAux (pathLines (suc n) w p k) l)
       go (inl z) f = rw (linkPath, pathLines, eq-eqb p 0 z) (record { chain = c; alike = alike-refl 62 v })
       go (inr q) f =
           let low = q .0 in
           let falls = q .2 in
           let g = alike-put 62 v (p - 1) 62 e (omega arith) (omega arith) (omega arith) in
-          let c′ : Chain (put v (p - 1) nextLineField e) (linkWord p k) (pathLine p k ∷ l) = (
+          let c′ : Chain (putField v (p - 1) nextLineField e) (linkWord p k) (pathLine p k ∷ l) = (
             refl,
             q .0,
             h,
             q .1,
-            subst (λ (d : ℕ). Chain (put v (p - 1) nextLineField e) d l) (sym (field-same v (p - 1) nextLineField e (omega arith))) (chain-put v p e (q .0) e l o c),
+            subst (λ (d : ℕ). Chain (putField v (p - 1) nextLineField e) d l) (sym (field-same v (p - 1) nextLineField e (omega arith))) (chain-put v p e (q .0) e l o c),
           )
           in
           let r = f (field w (p - 1) fields.pathBefore) (field w (p - 1) fields.pathLine) (linkWord p k) (pathLine p k ∷ l) (let y = g .long in omega arith) (alike-trans 62 w v _ a g) (q .3) (omega arith)
@@ -143,34 +145,34 @@ module _ (w : List ℕ) (next acts : ℕ) where
   clear-alike : (n : ℕ) (v : List ℕ) → Alike 63 v (clearConstants n v)
   unfolding clearConstants
   clear-alike zero v = alike-refl 63 v
-  clear-alike (suc n) v = alike-trans 63 v (put v n constantNumberField 0) _ (alike-put 63 v n 63 0 (omega arith) (omega arith) (omega arith)) (clear-alike n (put v n constantNumberField 0))
+  clear-alike (suc n) v = alike-trans 63 v (putField v n constantNumberField 0) _ (alike-put 63 v n 63 0 (omega arith) (omega arith) (omega arith)) (clear-alike n (putField v n constantNumberField 0))
 
   -- They are 0 then.
   clear-beyond : (n : ℕ) (v : List ℕ) (c : ℕ) → n ≤ c → field (clearConstants n v) c constantNumberField ≡ field v c constantNumberField
   unfolding clearConstants
   clear-beyond zero v c h = refl
-  clear-beyond (suc n) v c h = clear-beyond n (put v n constantNumberField 0) c (omega arith) ∙ record-other v n constantNumberField c constantNumberField 0 (omega arith) (omega arith) (λ q. omega arith)
+  clear-beyond (suc n) v c h = clear-beyond n (putField v n constantNumberField 0) c (omega arith) ∙ record-other v n constantNumberField c constantNumberField 0 (omega arith) (omega arith) (λ q. omega arith)
 
   -- all that were to be
   clear-zero : (n : ℕ) (v : List ℕ) (c : ℕ) → numbersPerUnit * n ≤ length v → c < n → field (clearConstants n v) c constantNumberField ≡ 0
   unfolding clearConstants
   clear-zero zero v c r h = absurd (omega arith)
-  clear-zero (suc n) v c r h = go (eqb c n) refl (clear-zero n (put v n constantNumberField 0) c)
+  clear-zero (suc n) v c r h = go (eqb c n) refl (clear-zero n (putField v n constantNumberField 0) c)
     where
-      go : (b : Bool) → eqb c n ≡ b → (numbersPerUnit * n ≤ length (put v n constantNumberField 0) → c < n → field (clearConstants n (put v n constantNumberField 0)) c constantNumberField ≡ 0) → field (clearConstants n (put v n constantNumberField 0)) c constantNumberField ≡ 0
-      go true e f = let q = eqb-true c n e in clear-beyond n (put v n constantNumberField 0) c (omega arith) ∙ ap (λ (d : ℕ). field (put v n constantNumberField 0) d constantNumberField) q ∙ field-same v n constantNumberField 0 (omega arith)
+      go : (b : Bool) → eqb c n ≡ b → (numbersPerUnit * n ≤ length (putField v n constantNumberField 0) → c < n → field (clearConstants n (putField v n constantNumberField 0)) c constantNumberField ≡ 0) → field (clearConstants n (putField v n constantNumberField 0)) c constantNumberField ≡ 0
+      go true e f = let q = eqb-true c n e in clear-beyond n (putField v n constantNumberField 0) c (omega arith) ∙ ap (λ (d : ℕ). field (putField v n constantNumberField 0) d constantNumberField) q ∙ field-same v n constantNumberField 0 (omega arith)
       go false e f = let q = eqb-false c n e in f (let l = length-put v n constantNumberField 0 in omega arith) (omega arith)
 
 -- No cell is written.
 link-cells : (n : ℕ) (v : List ℕ) (p k e x : ℕ) → cellOf (linkPath n v p k e .memory) x ≡ cellOf v x
 unfolding linkPath
 link-cells zero v p k e x = refl
-link-cells (suc n) v p k e x = go (eqb p 0) (link-cells n (put v (p - 1) nextLineField e) (field v (p - 1) fields.pathBefore) (field v (p - 1) fields.pathLine) (linkWord p k) x)
+link-cells (suc n) v p k e x = go (eqb p 0) (link-cells n (putField v (p - 1) nextLineField e) (field v (p - 1) fields.pathBefore) (field v (p - 1) fields.pathLine) (linkWord p k) x)
   where
     r : Linked
-    r = linkPath n (put v (p - 1) nextLineField e) (field v (p - 1) fields.pathBefore) (field v (p - 1) fields.pathLine) (linkWord p k)
+    r = linkPath n (putField v (p - 1) nextLineField e) (field v (p - 1) fields.pathBefore) (field v (p - 1) fields.pathLine) (linkWord p k)
 
-    go : (b : Bool) → cellOf (r .memory) x ≡ cellOf (put v (p - 1) nextLineField e) x → cellOf ((elim b as (λ b. Linked) [ true ↦ linked v e | false ↦ r ]) .memory) x ≡ cellOf v x
+    go : (b : Bool) → cellOf (r .memory) x ≡ cellOf (putField v (p - 1) nextLineField e) x → cellOf ((elim b as (λ b. Linked) [ true ↦ linked v e | false ↦ r ]) .memory) x ≡ cellOf v x
     go true h = refl
     go false h = h ∙ cell-put v x (p - 1) nextLineField e (omega arith) (omega arith)
 
@@ -178,7 +180,7 @@ link-cells (suc n) v p k e x = go (eqb p 0) (link-cells n (put v (p - 1) nextLin
 clear-cells : (n : ℕ) (v : List ℕ) (x : ℕ) → cellOf (clearConstants n v) x ≡ cellOf v x
 unfolding clearConstants
 clear-cells zero v x = refl
-clear-cells (suc n) v x = clear-cells n (put v n constantNumberField 0) x ∙ cell-put v x n constantNumberField 0 (omega arith) (omega arith)
+clear-cells (suc n) v x = clear-cells n (putField v n constantNumberField 0) x ∙ cell-put v x n constantNumberField 0 (omega arith) (omega arith)
 
 -- What the writer finds when its passes begin.
 pub record Prepared (w : List ℕ) (next acts : ℕ) (v : List ℕ) (e : ℕ) (l : List PathLine) : Type 0 where

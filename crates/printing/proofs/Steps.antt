@@ -13,7 +13,7 @@ use Rattle.sequents.specs.Symbols.{Symbol, made, leftover}
 use Rattle.sheet_format.specs.Bytes.{decimal}
 use Rattle.sheet_format.specs.Limits.{numbersPerUnit}
 use Rattle.machine.specs.Fields as fields
-use Rattle.machine.specs.Records.{field, put, cellOf, levelOf, putCell}
+use Rattle.machine.specs.Records.{cellOf, levelOf, putCell}
 use Rattle.machine.specs.Words.{narrow, up, tagOf}
 use Rattle.printing.specs.declared.Pen.{Pen}
 use Rattle.printing.specs.Output.{writeSymbol}
@@ -23,9 +23,10 @@ use Rattle.printing.proofs.Bytes.{symbol-bytes, bytes-grow}
 use Rattle.printing.proofs.Pages.{emitted, page-grow}
 use Rattle.printing.proofs.Tokens.{Token, byte, sign, showSymbol, step, steps, signs}
 use Rattle.printing.proofs.Alike.{there-from, Alike, alike-refl, alike-trans, alike-fewer, alike-put, alike-mark}
+use Rattle.memory.specs.Records.{field, putField}
 
 -- A symbol leaves the position where it is until its bytes are written.
-mark-at : (w : List ℕ) (p : Pen) (x : ℕ) → markVariable w p x .pen .at ≡ p .at
+pub mark-at : (w : List ℕ) (p : Pen) (x : ℕ) → markVariable w p x .pen .at ≡ p .at
 unfolding markVariable onVariables
 mark-at w p x = go (eqb (cellOf w x) 0)
   where
@@ -34,11 +35,11 @@ mark-at w p x = go (eqb (cellOf w x) 0)
     go false = refl
 
 -- so it is with a constant
-mark-constant-at : (w : List ℕ) (p : Pen) (c : ℕ) → markConstant w p c .pen .at ≡ p .at
+pub mark-constant-at : (w : List ℕ) (p : Pen) (c : ℕ) → markConstant w p c .pen .at ≡ p .at
 unfolding markConstant onConstants
 mark-constant-at w p c = go (eqb (field w c constantNumberField) 0)
   where
-    go : (b : Bool) → cond b (marked (put w c constantNumberField (up (p .constants))) (onConstants p (up (p .constants)))) (marked w p) .pen .at ≡ p .at
+    go : (b : Bool) → cond b (marked (putField w c constantNumberField (up (p .constants))) (onConstants p (up (p .constants)))) (marked w p) .pen .at ≡ p .at
     go true = refl
     go false = refl
 
@@ -94,7 +95,7 @@ module _ (w : List ℕ) (next acts : ℕ) where
         go false e = alike-refl 63 (g .memory)
     show-alike limit g (made c k) r a = go (eqb (field (g .memory) c constantNumberField) 0)
       where
-        go : (b : Bool) → Alike 63 (g .memory) (cond b (marked (put (g .memory) c constantNumberField (up (g .pen .constants))) (onConstants (g .pen) (up (g .pen .constants)))) (marked (g .memory) (g .pen)) .memory)
+        go : (b : Bool) → Alike 63 (g .memory) (cond b (marked (putField (g .memory) c constantNumberField (up (g .pen .constants))) (onConstants (g .pen) (up (g .pen .constants)))) (marked (g .memory) (g .pen)) .memory)
         go true = alike-put 63 (g .memory) c 63 (up (g .pen .constants)) (omega arith) (omega arith) (omega arith)
         go false = alike-refl 63 (g .memory)
 

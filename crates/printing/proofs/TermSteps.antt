@@ -24,17 +24,17 @@ use Rattle.node_table.specs.WellMade.{Named}
 use Rattle.node_table.proofs.Decoding.{Nodes}
 use Rattle.answer_texts.specs.Spelling.{nameIn, nameOf}
 use Rattle.machine.specs.Records.{cellOf, levelOf}
-use Rattle.machine.specs.Words.{nodeOf, frameOf, wordOf, environmentAt, termOf}
+use Rattle.machine.specs.Words.{nodeOf, frameOf, wordOf, environmentAt, termOf, deref}
 use Rattle.machine.specs.Reading.{variableOf}
 use Rattle.printing.specs.Output.{emit}
-use Rattle.printing.specs.Marks.{onAt, Page, wrote, seek}
+use Rattle.printing.specs.Marks.{onAt, Page, wrote}
 use Rattle.printing.specs.WriteTerms.{emitTo, writeName, separator, argumentsBy, applicationBy, wordBy, writeTerm}
 use Rattle.printing.specs.WriteLines.{bytesTo}
 use Rattle.printing.specs.Written.{variable, constant, Closure, TermWord, ofLeaf, ofClosure}
 use Rattle.printing.proofs.Bytes.{emit-over, emit-within}
 use Rattle.printing.proofs.Pages.{name-then}
 use Rattle.printing.proofs.Tokens.{byte, showSymbol, step, steps, steps-append, steps-over, steps-bytes, termTokens, argumentTokens, moreTokens, signs, term-signs}
-use Rattle.printing.proofs.Alike.{Alike, alike-trans, alike-fewer, seek-alike, word-alike}
+use Rattle.printing.proofs.Alike.{Alike, alike-trans, alike-fewer, word-alike, deref-alike}
 use Rattle.printing.proofs.Steps.{Right, steps-grow, steps-alike}
 use Rattle.printing.proofs.Values.{leaves-show, value, argument-word, sought, variable-value, constant-value, closure-value, value-right}
 
@@ -192,21 +192,21 @@ module _ (sheet t : List ℕ) (symbols nodes : ℕ) (w : List ℕ) (acts : ℕ) 
 
   -- The word looked through.
   word-steps : (rank : ℕ) → Writes rank → (g : Page) (a : ℕ) → Word a → Alike 62 w (g .memory) → g .pen .at ≤ limit → limit < g .pen .at + suc rank
-      → wordBy (writeTerm rank sheet t acts limit) sheet t limit g (seek acts w a) ≡ steps limit (termTokens (value s (termOf t w a)) declarations) g
+      → wordBy (writeTerm rank sheet t acts limit) sheet t limit g (deref acts w a) ≡ steps limit (termTokens (value s (termOf t w a)) declarations) g
   unfolding wordBy showSymbol
   word-steps rank ih g a h k l r = go (found .0 .0)
     where
-      found : Word (seek acts w a) × (termOf t w (seek acts w a) ≡ look (s .bindings) (termOf t w a))
+      found : Word (deref acts w a) × (termOf t w (deref acts w a) ≡ look (s .bindings) (termOf t w a))
       found = sought t nodes (b .table) (b .size) w acts (b .few) s (b .formed) (b .fits) (b .holds) (b .levels) (b .free) (b .words) a h
 
-      go : TermWord t w nodes acts (seek acts w a) → wordBy (writeTerm rank sheet t acts limit) sheet t limit g (seek acts w a) ≡ steps limit (termTokens (value s (termOf t w a)) declarations) g
+      go : TermWord t w nodes acts (deref acts w a) → wordBy (writeTerm rank sheet t acts limit) sheet t limit g (deref acts w a) ≡ steps limit (termTokens (value s (termOf t w a)) declarations) g
       go (ofLeaf (variable e)) =
           rw (wordBy, e) (symbol-steps g _ _ (variable-value t nodes (b .table) (b .size) w acts (b .few) s (b .formed) (b .fits) (b .holds) (b .levels) (b .free) (b .words) a h e) l)
       go (ofLeaf (constant e i)) =
           rw (wordBy, e, e) (symbol-steps g _ _ (constant-value t nodes (b .table) (b .size) w acts (b .few) s (b .formed) (b .fits) (b .holds) (b .levels) (b .free) (b .words) a h e) l)
       go (ofClosure c) =
           rw (wordBy, c .tag, c .tag)
-          (application-steps rank ih (seek acts w a) c (found .0 .1) g k r
+          (application-steps rank ih (deref acts w a) c (found .0 .1) g k r
           ∙ ap (λ (v : Ground). steps limit (termTokens v declarations) g)
           (sym (closure-value t nodes (b .table) (b .size) w acts (b .few) s (b .formed) (b .fits) (b .holds) (b .levels) (b .free) (b .words) a h c)))
 
@@ -217,9 +217,9 @@ module _ (sheet t : List ℕ) (symbols nodes : ℕ) (w : List ℕ) (acts : ℕ) 
   term-steps (suc rank) g a h k r = go (ltb limit (g .pen .at)) refl (term-steps rank)
     where
       go : (c : Bool) → ltb limit (g .pen .at) ≡ c → Writes rank
-          → _≡_ {A = Page} (elim c [ true ↦ g | false ↦ wordBy (writeTerm rank sheet t acts limit) sheet t limit g (seek acts (g .memory) a) ])
+          → _≡_ {A = Page} (elim c [ true ↦ g | false ↦ wordBy (writeTerm rank sheet t acts limit) sheet t limit g (deref acts (g .memory) a) ])
           (steps limit (termTokens (value s (termOf t w a)) declarations) g)
       go true e ih = sym (steps-over limit (termTokens (value s (termOf t w a)) declarations) g (ltb-true limit (g .pen .at) e))
       go false e ih =
-          ap (wordBy (writeTerm rank sheet t acts limit) sheet t limit g) (seek-alike 62 acts w (g .memory) a k)
+          ap (wordBy (writeTerm rank sheet t acts limit) sheet t limit g) (deref-alike 62 acts w (g .memory) a k)
           ∙ word-steps rank ih g a h k (ltb-false limit (g .pen .at) e) r

@@ -31,15 +31,17 @@ use Rattle.node_table.specs.WellMade.{IsTerm}
 use Rattle.node_table.proofs.Decoding.{Nodes, term-variable, term-application}
 use Rattle.answer_texts.specs.Numbering.{symbolsIn, symbolsInAll}
 use Rattle.machine.specs.Fields as fields
-use Rattle.machine.specs.Records.{field, cellOf, levelOf}
-use Rattle.machine.specs.Words.{closureWord, tagOf, nameOf, nodeOf, frameOf, slotOf, wordOf, leafOf, environmentAt, termOf, constantTag, variableTag}
+use Rattle.machine.specs.Records.{cellOf, levelOf}
+use Rattle.machine.specs.Words.{closureWord, tagOf, nameOf, nodeOf, frameOf, slotOf, wordOf, leafOf, environmentAt, termOf, constantTag, variableTag, deref}
 use Rattle.machine.specs.Reading.{variableOf}
 use Rattle.machine.proofs.Bindings.{cell, cell-some, hops, hops-le, look-app, look-con, hop, stop}
-use Rattle.printing.specs.Marks.{seek}
 use Rattle.printing.specs.Written.{LeafWord, variable, constant, Closure, TermWord, ofLeaf, ofClosure}
 use Rattle.printing.proofs.Words.{closure-tag, closure-node, closure-frame}
 use Rattle.printing.proofs.Finals.{unbound-alone, final-leaves}
 use Rattle.printing.proofs.Steps.{Right}
+use Rattle.memory.specs.Records.{field}
+use Rattle.machine.proofs.Words.{zero-tag}
+use Rattle.machine.proofs.Deref.{deref-other, deref-free, Turn, stays, follows, deref-look}
 
 -- what holds of all leaves holds of all symbols that show
 mutual
@@ -79,26 +81,6 @@ bound-below (b ∷ bs) n x h l = go (eqb x (b .name)) (bound-below bs n x (h .1)
     go : (c : Bool) → Leaves (boundTo bs x) (Below n) → Leaves (cond c (b .value) (boundTo bs x)) (Below n)
     go true k = h .0 .1
     go false k = k
-
--- the tag of no word
-zero-tag : tagOf 0 ≡ 0
-unfolding tagOf
-zero-tag = refl
-
--- looking through one turn: an unbound variable, a bound one, another word
-seek-free : (n : ℕ) (w : List ℕ) (a : ℕ) → tagOf a ≡ variableTag → tagOf (cellOf w (nameOf a)) ≡ 0 → seek (suc n) w a ≡ a
-unfolding seek
-seek-free n w a e f = rw (seek, e, f)
-
--- a bound one
-seek-bound : (n : ℕ) (w : List ℕ) (a : ℕ) → tagOf a ≡ variableTag → (tagOf (cellOf w (nameOf a)) ≡ 0 → ⊥) → seek (suc n) w a ≡ seek n w (cellOf w (nameOf a))
-unfolding seek
-seek-bound n w a e f = rw (seek, e, ne-eqb (tagOf (cellOf w (nameOf a))) 0 f)
-
--- another word
-seek-other : (n : ℕ) (w : List ℕ) (a : ℕ) → (tagOf a ≡ variableTag → ⊥) → seek (suc n) w a ≡ a
-unfolding seek
-seek-other n w a f = rw (seek, ne-eqb (tagOf a) variableTag f)
 
 module _ (t : List ℕ) (nodes : ℕ) (table : Nodes t nodes) (size : nodes ≤ maxNodes) (w : List ℕ) (acts : ℕ) (few : acts ≤ maxBudget) (s : Store) where
   -- A word that reads as a term.
@@ -250,14 +232,6 @@ module _ (t : List ℕ) (nodes : ℕ) (table : Nodes t nodes) (size : nodes ≤ 
     unfolding Leaves Below
     variable-below a e b = subst (λ (u : Term Leaf). Leaves u (Below (s .next))) (variable-term a e) b
 
-    -- Looking through, turn by turn: as many turns as there are bindings on the way.
-    abbrev Sought : ℕ → ℕ → Type 0
-    Sought a b = Good b × (termOf t w b ≡ look (s .bindings) (termOf t w a))
-
-    -- where the word stays
-    seek-stays : (n a : ℕ) → Good a → look (s .bindings) (termOf t w a) ≡ termOf t w a → seek n w a ≡ a → Sought a (seek n w a)
-    seek-stays n a g h e = subst (Sought a) (sym e) (g, sym h)
-
     -- a variable with no word, and one with a word
     free-look : (x : ℕ) → x < s .next → cellOf w x ≡ 0 → look (s .bindings) (leaf (var x)) ≡ leaf (var x)
     free-look x l z = go (cell (s .bindings) x) refl
@@ -286,63 +260,57 @@ module _ (t : List ℕ) (nodes : ℕ) (table : Nodes t nodes) (size : nodes ≤ 
     other-look a (ofLeaf (constant e l)) d = rw (constant-term a e) (look-con (s .bindings) (nameOf a) (field w (nameOf a) fields.constantLevel) .0)
     other-look a (ofClosure c) d = rw (closure-term a c) (look-app (s .bindings) _ _ .0)
 
-    -- the turns
-    seek-look : (n a : ℕ) → Good a → hops (s .bindings) (termOf t w a) ≤ n → Sought a (seek n w a)
-    unfolding seek
-    seek-look zero a g h = seek-stays zero a g (go (g .0)) refl
-      where
-        go : Word a → look (s .bindings) (termOf t w a) ≡ termOf t w a
-        go (ofLeaf (constant e l)) = other-look a (ofLeaf (constant e l)) (λ q. omega arith)
-        go (ofClosure c) = other-look a (ofClosure c) (λ q. let e = c .tag in omega arith)
-        go (ofLeaf (variable e)) = let l = variable-below a e (g .1) in rw (variable-term a e) (at (words (nameOf a) l) l)
-          where
-            at : (cellOf w (nameOf a) ≡ 0) ⊎ Word (cellOf w (nameOf a)) → nameOf a < s .next → look (s .bindings) (leaf (var (nameOf a))) ≡ leaf (var (nameOf a))
-            at (inl z) l = free-look (nameOf a) l z
-            at (inr k) l = absurd (let r = bound-look (nameOf a) l k .1 in let q = ap (hops (s .bindings)) (variable-term a e) in omega arith)
-    seek-look (suc n) a g h = go (g .0) (seek-look n (cellOf w (nameOf a)))
-      where
-        turn : tagOf a ≡ variableTag → nameOf a < s .next → (cellOf w (nameOf a) ≡ 0) ⊎ Word (cellOf w (nameOf a))
-            → (Good (cellOf w (nameOf a)) → hops (s .bindings) (termOf t w (cellOf w (nameOf a))) ≤ n → Sought (cellOf w (nameOf a)) (seek n w (cellOf w (nameOf a)))) → Sought a (seek (suc n) w a)
-        turn e l (inl z) f = seek-stays (suc n) a g (rw (variable-term a e) (free-look (nameOf a) l z)) (seek-free n w a e (ap tagOf z ∙ zero-tag))
-        turn e l (inr k) f =
-            let q = bound-look (nameOf a) l k in
-            let y = q .1 in
-            let z = ap (hops (s .bindings)) (variable-term a e) in
-            let r = f (bound-good (nameOf a) l k) (omega arith) in
-            subst (Sought a) (sym (seek-bound n w a e (word-tag (cellOf w (nameOf a)) k))) (r .0, r .1 ∙ sym (ap (look (s .bindings)) (variable-term a e) ∙ q .0))
+    -- A good word and its term.
+    abbrev Reads : ℕ → Term Leaf → Type 0
+    Reads a u = Good a × (termOf t w a ≡ u)
 
-        go : Word a → (Good (cellOf w (nameOf a)) → hops (s .bindings) (termOf t w (cellOf w (nameOf a))) ≤ n → Sought (cellOf w (nameOf a)) (seek n w (cellOf w (nameOf a)))) → Sought a (seek (suc n) w a)
-        go (ofLeaf (variable e)) f = let l = variable-below a e (g .1) in turn e l (words (nameOf a) l) f
-        go (ofLeaf (constant e l)) f = seek-stays (suc n) a g (other-look a (ofLeaf (constant e l)) (λ q. omega arith)) (seek-other n w a (λ q. omega arith))
-        go (ofClosure c) f = seek-stays (suc n) a g (other-look a (ofClosure c) (λ q. let e = c .tag in omega arith)) (seek-other n w a (λ q. let e = c .tag in omega arith))
+    -- one turn from it
+    turn : (a : ℕ) → Good a → Turn w (s .bindings) Reads a (termOf t w a)
+    turn a g = go (g .0)
+      where
+        at : tagOf a ≡ variableTag → nameOf a < s .next → (cellOf w (nameOf a) ≡ 0) ⊎ Word (cellOf w (nameOf a)) → Turn w (s .bindings) Reads a (leaf (var (nameOf a)))
+        at e l (inl z) =
+            stays (λ n. deref-free n w a (tagOf a) (nameOf a) (cellOf w (nameOf a)) (tagOf (cellOf w (nameOf a))) refl e refl refl refl (ap tagOf z ∙ zero-tag))
+            (free-look (nameOf a) l z)
+        at e l (inr k) =
+            let q = bound-look (nameOf a) l k in
+            follows (termOf t w (cellOf w (nameOf a))) e (word-tag (cellOf w (nameOf a)) k) (q .0) (q .1) (bound-good (nameOf a) l k, refl)
+
+        go : Word a → Turn w (s .bindings) Reads a (termOf t w a)
+        go (ofLeaf (variable e)) = let l = variable-below a e (g .1) in rw (variable-term a e) (at e l (words (nameOf a) l))
+        go (ofLeaf (constant e l)) = stays (λ n. deref-other n w a (tagOf a) refl (λ q. omega arith)) (other-look a (ofLeaf (constant e l)) (λ q. omega arith))
+        go (ofClosure c) =
+            stays (λ n. deref-other n w a (tagOf a) refl (λ q. let e = c .tag in omega arith)) (other-look a (ofClosure c) (λ q. let e = c .tag in omega arith))
 
     -- So a word looked through reads as its term looked through,
-    pub sought : (a : ℕ) → Good a → Good (seek acts w a) × (termOf t w (seek acts w a) ≡ look (s .bindings) (termOf t w a))
-    sought a g = seek-look acts a g (let l = hops-le (s .bindings) (termOf t w a) in omega arith)
+    pub sought : (a : ℕ) → Good a → Good (deref acts w a) × (termOf t w (deref acts w a) ≡ look (s .bindings) (termOf t w a))
+    sought a g =
+        deref-look w (s .bindings) Reads (λ b u r. subst (Turn w (s .bindings) Reads b) (r .1) (turn b (r .0))) acts a (termOf t w a) (g, refl)
+        (let l = hops-le (s .bindings) (termOf t w a) in omega arith)
 
     -- with the same final value:
-    sought-value : (a : ℕ) → Good a → value s (termOf t w a) ≡ value s (termOf t w (seek acts w a))
+    sought-value : (a : ℕ) → Good a → value s (termOf t w a) ≡ value s (termOf t w (deref acts w a))
     sought-value a g = sym (ap (value s) (sought a g .1) ∙ value-look s (termOf t w a) formed)
 
     -- a variable, then, is unbound
-    pub variable-value : (a : ℕ) → Good a → tagOf (seek acts w a) ≡ variableTag → value s (termOf t w a) ≡ leaf (leftover (nameOf (seek acts w a)) (s .level (nameOf (seek acts w a))))
+    pub variable-value : (a : ℕ) → Good a → tagOf (deref acts w a) ≡ variableTag → value s (termOf t w a) ≡ leaf (leftover (nameOf (deref acts w a)) (s .level (nameOf (deref acts w a))))
     unfolding substitute
     variable-value a g e =
-        let x = nameOf (seek acts w a) in
-        let h : look (s .bindings) (termOf t w a) ≡ leaf (var x) = sym (sought a g .1) ∙ variable-term (seek acts w a) e in
+        let x = nameOf (deref acts w a) in
+        let h : look (s .bindings) (termOf t w a) ≡ leaf (var x) = sym (sought a g .1) ∙ variable-term (deref acts w a) e in
         let u : Unbound (s .bindings) x = ap (look (s .bindings)) (sym h) ∙ look-twice (s .bindings) (termOf t w a) (formed .bound) ∙ h in
-        sought-value a g ∙ ap (value s) (variable-term (seek acts w a) e) ∙ value-unbound s x formed u
+        sought-value a g ∙ ap (value s) (variable-term (deref acts w a) e) ∙ value-unbound s x formed u
 
     -- a constant is itself,
-    pub constant-value : (a : ℕ) → Good a → tagOf (seek acts w a) ≡ constantTag → value s (termOf t w a) ≡ leaf (made (nameOf (seek acts w a)) (field w (nameOf (seek acts w a)) fields.constantLevel))
+    pub constant-value : (a : ℕ) → Good a → tagOf (deref acts w a) ≡ constantTag → value s (termOf t w a) ≡ leaf (made (nameOf (deref acts w a)) (field w (nameOf (deref acts w a)) fields.constantLevel))
     unfolding substitute final at symbolOf
-    constant-value a g e = sought-value a g ∙ ap (value s) (constant-term (seek acts w a) e)
+    constant-value a g e = sought-value a g ∙ ap (value s) (constant-term (deref acts w a) e)
 
     -- and a closure is an application.
-    pub closure-value : (a : ℕ) → Good a → (c : Closure t w nodes acts (seek acts w a))
-        → value s (termOf t w a) ≡ app (labelOf t (nodeOf (seek acts w a))) (substitutes (substitutes (argumentsAt t (nodeOf (seek acts w a))) (environmentAt w (frameOf (seek acts w a)))) (final s))
+    pub closure-value : (a : ℕ) → Good a → (c : Closure t w nodes acts (deref acts w a))
+        → value s (termOf t w a) ≡ app (labelOf t (nodeOf (deref acts w a))) (substitutes (substitutes (argumentsAt t (nodeOf (deref acts w a))) (environmentAt w (frameOf (deref acts w a)))) (final s))
     unfolding substitute
-    closure-value a g c = sought-value a g ∙ ap (value s) (closure-term (seek acts w a) c)
+    closure-value a g c = sought-value a g ∙ ap (value s) (closure-term (deref acts w a) c)
 
     -- The symbols of final values are as the memory has them.
     cell-known : (x : ℕ) → (cellOf w x ≡ 0) ⊎ Word (cellOf w x) → Leaves (variableOf t w x) Known

@@ -6,9 +6,10 @@ use mathlib.Core.Bool.{true, false, cond}
 use mathlib.Core.List.{List}
 use lib.Dec.{eqb}
 use Rattle.machine.specs.Fields as fields
-use Rattle.machine.specs.Records.{field, put, cellOf, putCell}
+use Rattle.machine.specs.Records.{cellOf, putCell}
 use Rattle.machine.specs.Words.{narrow, tagOf}
 use Rattle.printing.specs.Marks.{constantNumberField}
+use Rattle.memory.specs.Records.{field, putField}
 
 -- Field of a record that the search leaves free: the link to the line after that of the record.
 abbrev pub nextLineField : ℕ
@@ -37,13 +38,13 @@ linkPath zero w p k e = linked w e
 linkPath (suc n) w p k e =
     elim (eqb p 0) [
       | true ↦ linked w e
-      | false ↦ linkPath n (put w (p - 1) nextLineField e) (field w (p - 1) fields.pathBefore) (field w (p - 1) fields.pathLine) (linkWord p k)
+      | false ↦ linkPath n (putField w (p - 1) nextLineField e) (field w (p - 1) fields.pathBefore) (field w (p - 1) fields.pathLine) (linkWord p k)
     ]
 
 -- Field 63 of the first n records: no constant has shown.
 unfoldable pub clearConstants : ℕ → List ℕ → List ℕ
 clearConstants zero w = w
-clearConstants (suc n) w = clearConstants n (put w n constantNumberField 0)
+clearConstants (suc n) w = clearConstants n (putField w n constantNumberField 0)
 
 -- The first n variables: none has shown.
 unfoldable pub clearVariables : ℕ → List ℕ → List ℕ

@@ -1,15 +1,16 @@
 -- Numbering by first showing, in memory. The number of a leftover variable, plus 1, stands in its own binding as a word of tag 0;
 -- that of a made constant, plus 1, in a field of the record of the act that made it. 0 is: not shown yet.
-use Prim.Native.Nat.{ℕ, zero, suc, _-_, _*_, _/_}
+use Prim.Native.Nat.{ℕ, _-_, _*_, _/_}
 use Prim.Native.Char.{code}
-use mathlib.Core.Bool.{true, false, cond}
+use mathlib.Core.Bool.{cond}
 use mathlib.Core.List.{List}
 use lib.Dec.{eqb}
 use Rattle.machine.specs.Fields as fields
-use Rattle.machine.specs.Records.{field, put, cellOf, levelOf, putCell}
-use Rattle.machine.specs.Words.{narrow, up, tagOf, nameOf, variableTag, tagCount}
+use Rattle.machine.specs.Records.{cellOf, levelOf, putCell}
+use Rattle.machine.specs.Words.{narrow, up, variableTag, tagCount}
 use Rattle.printing.specs.declared.Pen.{Pen}
 use Rattle.printing.specs.Output.{Written, writeSymbol}
+use Rattle.memory.specs.Records.{field, putField}
 
 -- Field of a record that the search leaves free: the number of the made constant, plus 1.
 abbrev pub constantNumberField : ℕ
@@ -50,21 +51,13 @@ pub record Marked : Type 0 where
 abbrev pub marked : List ℕ → Pen → Marked
 marked w p = record { memory = w; pen = p }
 
--- Looking through bindings, at most n of them. A word of tag 0 binds nothing.
-unfoldable pub seek : ℕ → List ℕ → ℕ → ℕ
-seek zero w a = a
-seek (suc n) w a = elim (eqb (tagOf a) variableTag) [
-  | true ↦ elim (eqb (tagOf (cellOf w (nameOf a))) 0) [ true ↦ a | false ↦ seek n w (cellOf w (nameOf a)) ]
-  | false ↦ a
-]
-
 -- The next number, if there is none yet.
 unfoldable pub markVariable : List ℕ → Pen → ℕ → Marked
 markVariable w p x = cond (eqb (cellOf w x) 0) (marked (putCell w x (narrow (tagCount * up (p .variables)))) (onVariables p (up (p .variables)))) (marked w p)
 
 -- of a constant
 unfoldable pub markConstant : List ℕ → Pen → ℕ → Marked
-markConstant w p c = cond (eqb (field w c constantNumberField) 0) (marked (put w c constantNumberField (up (p .constants))) (onConstants p (up (p .constants)))) (marked w p)
+markConstant w p c = cond (eqb (field w c constantNumberField) 0) (marked (putField w c constantNumberField (up (p .constants))) (onConstants p (up (p .constants)))) (marked w p)
 
 -- A symbol is shown: its number, and its final level.
 unfoldable pub showVariable : ℕ → Page → ℕ → Page

@@ -5,12 +5,13 @@ use mathlib.Core.List.{List}
 use lib.Dec.{eqb, ltb}
 use Rattle.sheet_format.specs.Bytes.{ascii, tab, lf}
 use Rattle.machine.specs.Fields as fields
-use Rattle.machine.specs.Records.{field, trueLine, andLine, leftLine, rightLine, someLine, allLine}
+use Rattle.machine.specs.Records.{trueLine, andLine, leftLine, rightLine, someLine, allLine}
 use Rattle.machine.specs.Words.{variableWord, constantWord}
 use Rattle.printing.specs.Output.{writeBytes, writeNumber}
 use Rattle.printing.specs.Marks.{Page, wrote}
 use Rattle.printing.specs.WriteTerms.{emitTo, termTo}
 use Rattle.printing.specs.Links.{nextLineField, lineCodes}
+use Rattle.memory.specs.Records.{field}
 
 -- Bytes on a page.
 unfoldable pub bytesTo : ℕ → Page → List ℕ → Page

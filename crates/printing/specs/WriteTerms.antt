@@ -7,9 +7,9 @@ use mathlib.Core.Bool.{true, false, cond}
 use mathlib.Core.List.{List}
 use lib.Dec.{eqb, ltb}
 use Rattle.node_table.specs.Layout.{childCount, labelOf, childOf, nameStart, nameLength}
-use Rattle.machine.specs.Words.{up, tagOf, nameOf, nodeOf, frameOf, wordOf, constantTag, variableTag}
+use Rattle.machine.specs.Words.{up, tagOf, nameOf, nodeOf, frameOf, wordOf, constantTag, variableTag, deref}
 use Rattle.printing.specs.Output.{emit, copyBytes}
-use Rattle.printing.specs.Marks.{Page, wrote, seek, showVariable, showConstant}
+use Rattle.printing.specs.Marks.{Page, wrote, showVariable, showConstant}
 
 -- A byte on a page.
 unfoldable pub emitTo : ℕ → Page → ℕ → Page
@@ -47,7 +47,7 @@ wordBy write sheet t limit g a = elim (eqb (tagOf a) variableTag) [
 unfoldable pub writeTerm : ℕ → List ℕ → List ℕ → ℕ → ℕ → Page → ℕ → Page
 writeTerm zero sheet t turns limit g a = g
 writeTerm (suc rank) sheet t turns limit g a =
-    elim (ltb limit (g .pen .at)) [ true ↦ g | false ↦ wordBy (writeTerm rank sheet t turns limit) sheet t limit g (seek turns (g .memory) a) ]
+    elim (ltb limit (g .pen .at)) [ true ↦ g | false ↦ wordBy (writeTerm rank sheet t turns limit) sheet t limit g (deref turns (g .memory) a) ]
 
 -- A rank that suffices.
 unfoldable pub termTo : List ℕ → List ℕ → ℕ → ℕ → Page → ℕ → Page

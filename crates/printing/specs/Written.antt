@@ -15,7 +15,7 @@ use Rattle.search.specs.Search.{proved, ends, search}
 use Rattle.node_table.specs.Decoding.{clausesFrom, goalAt, decodeSheet}
 use Rattle.node_table.specs.WellMade.{IsTerm, WellMade, Named}
 use Rattle.machine.specs.Fields as fields
-use Rattle.machine.specs.Records.{field, cellOf, levelOf, Made, provedMode, someLine, clauseLine}
+use Rattle.machine.specs.Records.{cellOf, levelOf, Made, provedMode, someLine, clauseLine}
 use Rattle.machine.specs.Words.{tagOf, nameOf, nodeOf, frameOf, slotOf, closureTag, constantTag, variableTag}
 use Rattle.machine.specs.Machine.{runMachine}
 use Rattle.machine.specs.Simulation.{StandsAt}
@@ -24,6 +24,7 @@ use Rattle.answer_texts.specs.Promises.{searchText}
 use Rattle.printing.specs.Output.{Written, written}
 use Rattle.printing.specs.Links.{clearVariables, nextLineField}
 use Rattle.printing.specs.Writer.{textLimit, noRoom, writeProof, writeNo, writeSpent}
+use Rattle.memory.specs.Records.{field}
 
 -- What holds of the machine's memory after a proved search, beside `StandsAt`. All of it is part of the simulation's invariant.
 

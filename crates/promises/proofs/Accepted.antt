@@ -14,8 +14,9 @@ use Rattle.sheet_format.specs.Sheets.{Refusal, refusal}
 use Rattle.answer_texts.specs.Judging.{valid, judge}
 use Rattle.answer_texts.specs.Promises.{CheckerExact}
 use Rattle.answer_texts.proofs.Promises.{checkerExact}
-use Rattle.engine_spec.specs.EngineRun.{Told, toldProved, toldNo, toldSpent, Answer, Result, answered, turnedBack as refusedRun, engineRun, answerAfter}
-use Rattle.engine_spec.specs.Promises.{HandedBack, outcomeNumber, handedBack, RunContract, RunSound}
+use Rattle.engine_spec.proofs.Callers.{proved-number}
+use Rattle.engine_spec.specs.EngineRun.{toldProved, Answer, Result, answered, turnedBack as refusedRun, engineRun, answerAfter}
+use Rattle.engine_spec.specs.Promises.{HandedBack, handedBack, RunContract, RunSound}
 use Rattle.engine_spec.proofs.Answered.{answered-answers}
 use Rattle.engine_spec.proofs.Buffers.{take-front}
 use Rattle.engine_spec.proofs.Promises.{runSound}
@@ -56,12 +57,6 @@ record Proves (bytes : List ℕ) (budget t w a : ℕ) (answer′ : List ℕ) (r 
   outcome : x .outcome ≡ toldProved
   text : take (r .length) answer′ ≡ x .text
 
-proved-told : (t : Told) → outcomeNumber t ≡ 0 → t ≡ toldProved
-unfolding outcomeNumber
-proved-told toldProved e = refl
-proved-told toldNo e = absurd (omega arith)
-proved-told toldSpent e = absurd (omega arith)
-
 proves : (bytes : List ℕ) (budget : ℕ) (table work answer table′ work′ answer′ : List ℕ) (r : HandedBack) → RunContract bytes budget table work answer table′ work′ answer′ r → r .outcome ≡ 0
     → Proves bytes budget (length table) (length work) (length answer) answer′ r
 unfolding handedBack answerAfter
@@ -75,7 +70,7 @@ proves bytes budget table work answer table′ work′ answer′ r c h = go (eng
         record {
           x = x;
           is = e;
-          outcome = proved-told (x .outcome) (sym (ap (λ (y : HandedBack). y .outcome) v) ∙ h);
+          outcome = proved-number (x .outcome) (sym (ap (λ (y : HandedBack). y .outcome) v) ∙ h);
           text = rw (v, b) (take-front (x .text) _);
         }
 

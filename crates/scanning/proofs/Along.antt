@@ -33,7 +33,8 @@ use Rattle.scanning.specs.Instances.{alongRange, alongName, alongSlot, a
 use Rattle.scanning.proofs.Places.{byte-is, byte-none, drop-next, drop-past}
 use Rattle.scanning.proofs.Ranges.{begins, begins-rest, Solid, range-begins}
 use Rattle.scanning.proofs.Names.{size-length, name-solid}
-use Rattle.scanning.proofs.Placed.{both-ways, Placed, spelling-solid}
+use Rattle.scanning.proofs.Placed.{Placed, spelling-solid}
+use Rattle.terms.proofs.Tests.{eqb-comm}
 
 -- reaching the end of bytes
 
@@ -81,10 +82,6 @@ reach-append a c x i = go (begins a (drop i x)) refl
         ap₂ (λ (z : Bool) (j : ℕ). cond z (To j) Differs)
         (ap (begins c) (drop-past x i a (r .0) (r .1)) ∙ sym (begins-append a c (r .0)) ∙ ap (begins (a ++ c)) (sym (r .1))) l
 
--- a test of two numbers, either way round
-eqb-swap : (c d : ℕ) → eqb c d ≡ eqb d c
-eqb-swap c d = both-ways (eqb c d) (eqb d c) (λ h. eq-eqb d c (sym (eqb-true c d h))) (λ h. eq-eqb c d (sym (eqb-true d c h)))
-
 -- a byte and then others
 reach-byte : (c : ℕ) (a x : List ℕ) (i : ℕ) → 0 < c → cond (eqb (getD x i 0) c) (reach a x (i + 1)) Differs ≡ reach (c ∷ a) x i
 unfolding reach begins
@@ -94,7 +91,7 @@ reach-byte c a x i z = go (drop i x) refl
     go [] h = rw (byte-none x i h, ne-eqb 0 c (λ q. omega arith))
     go (d ∷ ds) h =
         let l : i + 1 + length a ≡ i + suc (length a) = omega arith in
-        rw (byte-is x i d ds h, drop-next x i d ds h, l, eqb-swap d c) (both (eqb c d))
+        rw (byte-is x i d ds h, drop-next x i d ds h, l, eqb-comm d c) (both (eqb c d))
       where
         both : (p : Bool) → cond p (cond (begins a ds) (To (i + suc (length a))) Differs) Differs ≡ cond (p && begins a ds) (To (i + suc (length a))) Differs
         both true = refl

@@ -13,10 +13,12 @@ use Rattle.sequents.specs.Sequents.{Environment}
 use Rattle.sheet_format.specs.Nodes.{Declaration}
 use Rattle.sheet_format.specs.Limits.{variableNames}
 use Rattle.scanning.specs.Fields as fields
-use Rattle.scanning.specs.Frames.{field, put, slotStart, slotEnd, putSlot, copyFrame, bindFrame}
+use Rattle.scanning.specs.Frames.{slotStart, slotEnd, putSlot, copyFrame, bindFrame}
 use Rattle.scanning.proofs.Placed.{Placed}
 use Rattle.scanning.proofs.Along.{Frame}
-use Rattle.scanning.proofs.Records.{Room, put-at, put-off, Kept, put-kept, kept-room, copy-kept, copy-at}
+use Rattle.scanning.proofs.Records.{Room, Kept, kept-room, copy-kept, copy-at}
+use Rattle.memory.specs.Records.{field, putField}
+use Rattle.memory.proofs.Records.{length-put, field-same, field-other}
 
 module _ (ds : List Declaration) (x : List ℕ) where
   -- a place with its two numbers changed for equal ones
@@ -44,10 +46,10 @@ module _ (ds : List Declaration) (x : List ℕ) where
   frame-put q v s j u w e p p′ room k h n f z l g = go (eqb z v) refl
     where
       w₁ : List ℕ
-      w₁ = put w q (2 * v) s
+      w₁ = putField w q (2 * v) s
 
       w₂ : List ℕ
-      w₂ = put w₁ q (2 * v + 1) j
+      w₂ = putField w₁ q (2 * v + 1) j
 
       go : (b : Bool) → eqb z v ≡ b → Placed ds x (field w₂ q (2 * z)) (field w₂ q (2 * z + 1)) (update e v u z)
       go true i =
@@ -55,14 +57,14 @@ module _ (ds : List Declaration) (x : List ℕ) where
           subst (λ (y : ℕ). Placed ds x (field w₂ q (2 * y)) (field w₂ q (2 * y + 1)) (update e v u y)) (sym d)
           (subst (Placed ds x (field w₂ q (2 * v)) (field w₂ q (2 * v + 1))) (sym (update-same e v u))
           (moved s j (field w₂ q (2 * v)) (field w₂ q (2 * v + 1)) u
-          (sym (put-off w₁ q (2 * v + 1) j q (2 * v) (omega arith) (omega arith) (λ y. omega arith) ∙ put-at w q (2 * v) s room (omega arith)))
-          (sym (put-at w₁ q (2 * v + 1) j (kept-room q q w w₁ (put-kept w q (2 * v) s (omega arith)) room) (omega arith))) h))
+          (sym (field-other w₁ q (2 * v + 1) q (2 * v) j (omega arith) (omega arith) (λ y. omega arith) ∙ field-same w q (2 * v) s (omega arith)))
+          (sym (let y = length-put w q (2 * v) s in field-same w₁ q (2 * v + 1) j (omega arith))) h))
       go false i =
           let d = eqb-false z v i in
           subst (Placed ds x (field w₂ q (2 * z)) (field w₂ q (2 * z + 1))) (sym (update-other e v u z d))
           (moved (field w q (2 * z)) (field w q (2 * z + 1)) (field w₂ q (2 * z)) (field w₂ q (2 * z + 1)) (e z)
-          (sym (put-off w₁ q (2 * v + 1) j q (2 * z) (omega arith) (omega arith) (λ y. omega arith) ∙ put-off w q (2 * v) s q (2 * z) (omega arith) (omega arith) (λ y. omega arith)))
-          (sym (put-off w₁ q (2 * v + 1) j q (2 * z + 1) (omega arith) (omega arith) (λ y. omega arith) ∙ put-off w q (2 * v) s q (2 * z + 1) (omega arith) (omega arith) (λ y. omega arith)))
+          (sym (field-other w₁ q (2 * v + 1) q (2 * z) j (omega arith) (omega arith) (λ y. omega arith) ∙ field-other w q (2 * v) q (2 * z) s (omega arith) (omega arith) (λ y. omega arith)))
+          (sym (field-other w₁ q (2 * v + 1) q (2 * z + 1) j (omega arith) (omega arith) (λ y. omega arith) ∙ field-other w q (2 * v) q (2 * z + 1) s (omega arith) (omega arith) (λ y. omega arith)))
           (f z l (n z d g)))
 
   -- both

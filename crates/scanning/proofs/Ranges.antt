@@ -9,6 +9,7 @@ use lib.Dec.{eqb, leb}
 use lib.ListN.{length, getD, take, drop, length-append}
 use borrow.Author.Tests.{eqb-true, eq-eqb, ne-eqb, leb-true, leb-false, le-leb, lt-leb}
 use Rattle.terms.specs.Lists.{All}
+use Rattle.terms.proofs.Tests.{cond-and}
 use Rattle.formulas.proofs.Free.{and-parts}
 use Rattle.sheet_format.specs.Bytes.{isDigit, digitsFrom, atMost, number, sameBytes, lf}
 use Rattle.sheet_format.proofs.Bytes.{Without, digit-bounds, same-equal}
@@ -73,18 +74,24 @@ unfolding sameRange begins
 range-begins [] r a i x j h s = refl
 range-begins (c ∷ cs) r a i x j h s = go (drop j x) refl (range-begins cs r a (i + 1) x (j + 1) (drop-next a i c (cs ++ r) h) (s .1))
   where
-    both : (b z : Bool) → cond b z false ≡ (b && z)
-    both true z = refl
-    both false z = refl
-
     go : (y : List ℕ) → drop j x ≡ y → sameRange (length cs) a (i + 1) x (j + 1) ≡ begins cs (drop (j + 1) x)
         → cond (eqb (getD a i 0) (getD x j 0)) (sameRange (length cs) a (i + 1) x (j + 1)) false ≡ begins (c ∷ cs) y
     go [] e ih = rw (byte-is a i c (cs ++ r) h, byte-none x j e, ne-eqb c 0 (λ q. let p = s .0 in omega arith))
     go (d ∷ ds) e ih =
         rw (byte-is a i c (cs ++ r) h, byte-is x j d ds e)
-        (ap (λ (z : Bool). cond (eqb c d) z false) (ih ∙ ap (begins cs) (drop-next x j d ds e)) ∙ both (eqb c d) (begins cs ds))
+        (ap (λ (z : Bool). cond (eqb c d) z false) (ih ∙ ap (begins cs) (drop-next x j d ds e)) ∙ cond-and (eqb c d) (begins cs ds))
 
 -- the end of a line
+
+-- A byte is not found before the search starts.
+pub byte-least : (n : ℕ) (x : List ℕ) (c i : ℕ) → i ≤ findByte n x c i
+unfolding findByte
+byte-least zero x c i = omega arith
+byte-least (suc n) x c i = go (eqb (getD x i 0) c) (byte-least n x c (i + 1))
+  where
+    go : (z : Bool) → i + 1 ≤ findByte n x c (i + 1) → i ≤ cond z i (findByte n x c (i + 1))
+    go true h = omega arith
+    go false h = omega arith
 
 -- the first LF is found
 find-lf : (l r x : List ℕ) (n i : ℕ) → drop i x ≡ l ++ (lf ∷ r) → Without lf l → length l < n → findByte n x 10 i ≡ i + length l

@@ -1,28 +1,20 @@
--- Reads after writes in records of 64 numbers.
+-- Writes to one record keep the others; frames that are copied.
 use Prim.Native.Nat.{ℕ, zero, suc, _+_, _*_, _<_, _≤_}
 use native.Mathlib.Omega.{arith}
 use mathlib.Core.Path.{_≡_, refl, sym, ap, _∙_}
 use mathlib.Core.Bool.{Bool, true, false}
 use mathlib.Core.List.{List, [], _∷_}
 use lib.Dec.{eqb}
-use lib.ListN.{length, getD, drop, length-set}
-use lib.Seq.{getD-set-same, getD-set-other, drop-set-lt}
+use lib.ListN.{length, drop}
+use lib.Seq.{drop-set-lt}
 use borrow.Author.Tests.{eqb-true, eqb-false}
-use Rattle.scanning.specs.Frames.{field, put, putSlot, copyFrame, bindFrame}
+use Rattle.memory.specs.Records.{field, putField}
+use Rattle.memory.proofs.Records.{length-put, field-same, field-other, record-other, puts}
+use Rattle.scanning.specs.Frames.{putSlot, copyFrame, bindFrame}
 
 -- The buffer has record q.
 abbrev pub Room : ℕ → List ℕ → Type 0
 Room q w = 64 * suc q ≤ length w
-
--- what was written is read
-pub put-at : (w : List ℕ) (q f a : ℕ) → Room q w → f < 64 → field (put w q f a) q f ≡ a
-unfolding field put
-put-at w q f a h l = getD-set-same w (64 * q + f) a 0 (omega arith)
-
--- another field is as it was, of any record
-pub put-off : (w : List ℕ) (q f a r g : ℕ) → f < 64 → g < 64 → (g ≡ f → ⊥) → field (put w q f a) r g ≡ field w r g
-unfolding field put
-put-off w q f a r g l m n = getD-set-other w (64 * q + f) (64 * r + g) a 0 (λ e. n (omega arith))
 
 -- Another memory that is the same but for record q.
 pub record Kept (q : ℕ) (w w′ : List ℕ) : Type 0 where
@@ -43,11 +35,11 @@ kept-then q u v w h k = record {
 }
 
 -- one number written
-pub put-kept : (w : List ℕ) (q f a : ℕ) → f < 64 → Kept q w (put w q f a)
-unfolding field put
+pub put-kept : (w : List ℕ) (q f a : ℕ) → f < 64 → Kept q w (putField w q f a)
+unfolding putField
 put-kept w q f a l = record {
-  size = length-set w (64 * q + f) a;
-  others = λ r g n m. getD-set-other w (64 * q + f) (64 * r + g) a 0 (λ e. n (omega arith));
+  size = length-put w q f a;
+  others = λ r g n m. record-other w q f r g a l m n;
   after = drop-set-lt (64 * suc q) w (64 * q + f) a (omega arith);
 }
 
@@ -55,37 +47,11 @@ put-kept w q f a l = record {
 pub kept-room : (q r : ℕ) (w w′ : List ℕ) → Kept q w w′ → Room r w → Room r w′
 kept-room q r w w′ h l = let e = h .size in omega arith
 
--- groups of fields
-
--- Numbers written to record q from field f on.
-unfoldable pub puts : List ℕ → List ℕ → ℕ → ℕ → List ℕ
-puts [] w q f = w
-puts (a ∷ l) w q f = puts l (put w q f a) q (suc f)
-
--- only record q is written
+-- several numbers written
 pub puts-kept : (l w : List ℕ) (q f : ℕ) → f + length l ≤ 64 → Kept q w (puts l w q f)
 unfolding puts
 puts-kept [] w q f h = kept-self q w
-puts-kept (a ∷ l) w q f h = kept-then q w (put w q f a) (puts l (put w q f a) q (suc f)) (put-kept w q f a (omega arith)) (puts-kept l (put w q f a) q (suc f) (omega arith))
-
--- fields before them
-pub puts-before : (l w : List ℕ) (q f g : ℕ) → f + length l ≤ 64 → g < f → field (puts l w q f) q g ≡ field w q g
-unfolding puts
-puts-before [] w q f g h k = refl
-puts-before (a ∷ l) w q f g h k =
-    puts-before l (put w q f a) q (suc f) g (omega arith) (omega arith) ∙ put-off w q f a q g (omega arith) (omega arith) (λ e. omega arith)
-
--- each of them is read
-pub puts-at : (l w : List ℕ) (q f k : ℕ) → Room q w → f + length l ≤ 64 → k < length l → field (puts l w q f) q (f + k) ≡ getD l k 0
-unfolding puts
-puts-at [] w q f k r h m = absurd (omega arith)
-puts-at (a ∷ l) w q f zero r h m =
-    let e : f + 0 ≡ f = omega arith in
-    ap (field (puts l (put w q f a) q (suc f)) q) e ∙ puts-before l (put w q f a) q (suc f) f (omega arith) (omega arith) ∙ put-at w q f a r (omega arith)
-puts-at (a ∷ l) w q f (suc k) r h m =
-    let e : f + suc k ≡ suc f + k = omega arith in
-    ap (field (puts l (put w q f a) q (suc f)) q) e
-    ∙ puts-at l (put w q f a) q (suc f) k (kept-room q q w (put w q f a) (put-kept w q f a (omega arith)) r) (omega arith) (omega arith)
+puts-kept (a ∷ l) w q f h = kept-then q w (putField w q f a) (puts l (putField w q f a) q (suc f)) (put-kept w q f a (omega arith)) (puts-kept l (putField w q f a) q (suc f) (omega arith))
 
 -- frames
 
@@ -93,22 +59,22 @@ puts-at (a ∷ l) w q f (suc k) r h m =
 pub slot-kept : (w : List ℕ) (q v s e : ℕ) → v < 8 → Kept q w (putSlot w q v s e)
 unfolding putSlot
 slot-kept w q v s e l =
-    kept-then q w (put w q (2 * v) s) (put (put w q (2 * v) s) q (2 * v + 1) e) (put-kept w q (2 * v) s (omega arith)) (put-kept (put w q (2 * v) s) q (2 * v + 1) e (omega arith))
+    kept-then q w (putField w q (2 * v) s) (putField (putField w q (2 * v) s) q (2 * v + 1) e) (put-kept w q (2 * v) s (omega arith)) (put-kept (putField w q (2 * v) s) q (2 * v + 1) e (omega arith))
 
 -- a frame is copied
 pub copy-kept : (n : ℕ) (w : List ℕ) (q p f : ℕ) → f + n ≤ 64 → Kept q w (copyFrame n w q p f)
 unfolding copyFrame
 copy-kept zero w q p f h = kept-self q w
 copy-kept (suc n) w q p f h =
-    kept-then q w (put w q f (field w p f)) (copyFrame n (put w q f (field w p f)) q p (f + 1))
-    (put-kept w q f (field w p f) (omega arith)) (copy-kept n (put w q f (field w p f)) q p (f + 1) (omega arith))
+    kept-then q w (putField w q f (field w p f)) (copyFrame n (putField w q f (field w p f)) q p (f + 1))
+    (put-kept w q f (field w p f) (omega arith)) (copy-kept n (putField w q f (field w p f)) q p (f + 1) (omega arith))
 
 -- fields before those that are copied
 copy-before : (n : ℕ) (w : List ℕ) (q p f g : ℕ) → f + n ≤ 64 → g < f → field (copyFrame n w q p f) q g ≡ field w q g
 unfolding copyFrame
 copy-before zero w q p f g h k = refl
 copy-before (suc n) w q p f g h k =
-    copy-before n (put w q f (field w p f)) q p (f + 1) g (omega arith) (omega arith) ∙ put-off w q f (field w p f) q g (omega arith) (omega arith) (λ e. omega arith)
+    copy-before n (putField w q f (field w p f)) q p (f + 1) g (omega arith) (omega arith) ∙ field-other w q f q g (field w p f) (omega arith) (omega arith) (λ e. omega arith)
 
 -- those that are
 pub copy-at : (n : ℕ) (w : List ℕ) (q p f g : ℕ) → Room q w → (p ≡ q → ⊥) → f + n ≤ 64 → f ≤ g → g < f + n → field (copyFrame n w q p f) q g ≡ field w p g
@@ -117,15 +83,15 @@ copy-at zero w q p f g r d h k m = absurd (omega arith)
 copy-at (suc n) w q p f g r d h k m =
     let a = field w p f in
     go (eqb f g) refl
-    (λ l. copy-at n (put w q f a) q p (f + 1) g (kept-room q q w (put w q f a) (put-kept w q f a (omega arith)) r) d (omega arith) l (omega arith)
+    (λ l. copy-at n (putField w q f a) q p (f + 1) g (kept-room q q w (putField w q f a) (put-kept w q f a (omega arith)) r) d (omega arith) l (omega arith)
     ∙ put-kept w q f a (omega arith) .others p g d (omega arith))
   where
-    go : (z : Bool) → eqb f g ≡ z → (f + 1 ≤ g → field (copyFrame n (put w q f (field w p f)) q p (f + 1)) q g ≡ field w p g)
-        → field (copyFrame n (put w q f (field w p f)) q p (f + 1)) q g ≡ field w p g
+    go : (z : Bool) → eqb f g ≡ z → (f + 1 ≤ g → field (copyFrame n (putField w q f (field w p f)) q p (f + 1)) q g ≡ field w p g)
+        → field (copyFrame n (putField w q f (field w p f)) q p (f + 1)) q g ≡ field w p g
     go true e ih =
         let i = eqb-true f g e in
-        ap (field (copyFrame n (put w q f (field w p f)) q p (f + 1)) q) (sym i) ∙ copy-before n (put w q f (field w p f)) q p (f + 1) f (omega arith) (omega arith)
-        ∙ put-at w q f (field w p f) r (omega arith) ∙ ap (field w p) i
+        ap (field (copyFrame n (putField w q f (field w p f)) q p (f + 1)) q) (sym i) ∙ copy-before n (putField w q f (field w p f)) q p (f + 1) f (omega arith) (omega arith)
+        ∙ field-same w q f (field w p f) (omega arith) ∙ ap (field w p) i
     go false e ih = let i = eqb-false f g e in ih (omega arith)
 
 -- a frame is copied and a place changed

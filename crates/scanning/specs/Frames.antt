@@ -1,16 +1,9 @@
--- The work buffer: records of 64 numbers, field f of record r at 64 * r + f, for the fields of Fields.
+-- The work buffer: records of 64 numbers (memory/specs/Records), with the fields of Fields.
 use Prim.Native.Nat.{ℕ, zero, suc, _+_, _*_}
 use mathlib.Core.List.{List}
-use lib.ListN.{getD, set}
 use Rattle.sheet_format.specs.Limits.{numbersPerUnit}
 use Rattle.scanning.specs.Fields as fields
-
--- Reading and writing a field.
-unfoldable pub field : List ℕ → ℕ → ℕ → ℕ
-field w r f = getD w (numbersPerUnit * r + f) 0
-
-unfoldable pub put : List ℕ → ℕ → ℕ → ℕ → List ℕ
-put w r f a = set w (numbersPerUnit * r + f) a
+use Rattle.memory.specs.Records.{field, putField}
 
 -- The place of name v in frame r.
 unfoldable pub slotStart : List ℕ → ℕ → ℕ → ℕ
@@ -22,12 +15,12 @@ slotEnd w r v = field w r (2 * v + 1)
 
 -- another place for name v
 unfoldable pub putSlot : List ℕ → ℕ → ℕ → ℕ → ℕ → List ℕ
-putSlot w r v s e = put (put w r (2 * v) s) r (2 * v + 1) e
+putSlot w r v s e = putField (putField w r (2 * v) s) r (2 * v + 1) e
 
 -- Frame q copied to record r: n numbers from field f on.
 unfoldable pub copyFrame : ℕ → List ℕ → ℕ → ℕ → ℕ → List ℕ
 copyFrame zero w r q f = w
-copyFrame (suc n) w r q f = copyFrame n (put w r f (field w q f)) r q (f + 1)
+copyFrame (suc n) w r q f = copyFrame n (putField w r f (field w q f)) r q (f + 1)
 
 -- The frame of record r: frame q with another term for name v.
 unfoldable pub bindFrame : List ℕ → ℕ → ℕ → ℕ → ℕ → ℕ → List ℕ

@@ -11,7 +11,7 @@ use Rattle.terms.specs.Lists.{All}
 use Rattle.terms.proofs.Lists.{all-weaken}
 use Rattle.formulas.proofs.Free.{and-parts, or-left}
 use Rattle.sheet_format.specs.Limits.{maxName}
-use Rattle.sheet_format.specs.Bytes.{isDigit, isLetter, isNameByte, nameBytes, isName, sameBytes}
+use Rattle.sheet_format.specs.Bytes.{isDigit, isLetter, isNameByte, nameBytes, isName, sameBytes, lf, Lines, onLine, linesOf}
 
 -- sameBytes
 
@@ -108,6 +108,11 @@ pub name-nonempty : isName [] ≡ true → ⊥
 unfolding isName
 name-nonempty h = true≢false (sym h)
 
+-- it has a length
+pub name-length : (b : List ℕ) → isName b ≡ true → 1 ≤ length b
+name-length [] h = absurd (name-nonempty h)
+name-length (c ∷ cs) h = omega arith
+
 -- it begins with a letter
 pub name-letter : (c : ℕ) (cs : List ℕ) → isName (c ∷ cs) ≡ true → isLetter c ≡ true
 unfolding isName
@@ -130,3 +135,12 @@ name-short (c ∷ cs) h = leb-true (length (c ∷ cs)) maxName (and-parts (isLet
 -- its bytes are graphic
 pub name-is-graphic : (b : List ℕ) → isName b ≡ true → Graphic b
 name-is-graphic b h = all-weaken (λ d. isNameByte d ≡ true) (λ d. 32 < d) name-graphic b (name-kinds b h)
+
+-- Whole lines and a rest.
+abbrev pub lines : List (List ℕ) → List ℕ → Lines
+lines ls r = record { whole = ls; rest = r }
+
+-- another byte goes in front of the first line, or of the rest
+pub linesOf-other : (c : ℕ) (cs : List ℕ) → eqb c lf ≡ false → linesOf (c ∷ cs) ≡ onLine c (linesOf cs .whole) (linesOf cs .rest)
+unfolding linesOf
+linesOf-other c cs h = rw (h, linesOf)

@@ -1,10 +1,10 @@
 -- Laws of `getElem?`: what stands at a place of a list.
-use Prim.Native.Nat.{ℕ, zero, suc}
-use mathlib.Core.Path.{_≡_, refl, ap}
-use mathlib.Core.List.{List, [], _∷_, _++_}
-use mathlib.Core.Option.{some}
+use Prim.Native.Nat.{ℕ, zero, suc, _-_, _<_, _≤_}
+use mathlib.Core.Path.{_≡_, refl, sym, ap, _∙_}
+use mathlib.Core.List.{List, [], _∷_, _++_, map}
+use mathlib.Core.Option.{some, Option·map}
 use mathlib.Core.Logic.{_⊎_, inl, inr}
-use lib.ListN.{length, getElem?}
+use lib.ListN.{length, drop, getElem?}
 use native.Mathlib.Omega.{arith}
 use Rattle.terms.specs.Lists.{All}
 use Rattle.sheet_format.proofs.Options.{OnSome, some-is}
@@ -32,3 +32,29 @@ at-snoc [] b zero a h = inr (refl, cc)
 at-snoc [] b (suc i) a h = absurd (let z : _≡_ {A = ℕ} 0 1 = cc in omega arith)
 at-snoc (c ∷ l) b zero a h = inl h
 at-snoc (c ∷ l) b (suc i) a h = elim (at-snoc l b i a h) [ inl q ↦ inl q | inr q ↦ inr (ap suc (q .0), q .1) ]
+
+-- in the first of two lists
+pub at-left : {A : Type 0} (a b : List A) (k : ℕ) → k < length a → getElem? (a ++ b) k ≡ getElem? a k
+at-left [] b k h = absurd (omega arith)
+at-left (x ∷ a) b zero h = refl
+at-left (x ∷ a) b (suc k) h = at-left a b k (omega arith)
+
+-- in the second
+pub at-right : {A : Type 0} (a b : List A) (k : ℕ) → length a ≤ k → getElem? (a ++ b) k ≡ getElem? b (k - length a)
+at-right [] b k h = let e : k - 0 ≡ k = omega arith in ap (getElem? b) (sym e)
+at-right (x ∷ a) b zero h = absurd (omega arith)
+at-right (x ∷ a) b (suc k) h =
+    let e : suc k - suc (length a) ≡ k - length a = omega arith in
+    at-right a b k (omega arith) ∙ ap (getElem? b) (sym e)
+
+-- in a mapped list
+pub at-map : {A B : Type 0} (f : A → B) (l : List A) (k : ℕ) → getElem? (map f l) k ≡ Option·map f (getElem? l k)
+at-map f [] k = refl
+at-map f (x ∷ l) zero = refl
+at-map f (x ∷ l) (suc k) = at-map f l k
+
+-- the list from a place on
+pub at-drop : {A : Type 0} (l : List A) (k : ℕ) (a : A) → getElem? l k ≡ some a → drop k l ≡ a ∷ drop (suc k) l
+at-drop [] k a e = absurd (let z : _≡_ {A = ℕ} 0 1 = cc in omega arith)
+at-drop (b ∷ l) zero a e = let q : b ≡ a = cc in rw q
+at-drop (b ∷ l) (suc k) a e = at-drop l k a e

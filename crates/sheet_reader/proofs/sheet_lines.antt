@@ -2,5 +2,4 @@
 pub mod Lines
 pub mod Steps
 pub mod Reading
-pub mod Determined
 pub mod Refusals

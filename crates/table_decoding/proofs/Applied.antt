@@ -7,10 +7,11 @@ use mathlib.Core.List.{List, map}
 use mathlib.Core.Option.{none, some}
 use lib.Dec.{eqb, leb}
 use lib.ListN.{length, getD}
-use borrow.Author.Tests.{eqb-true, eqb-false, eq-eqb, ne-eqb, le-leb}
+use borrow.Author.Tests.{eqb-true, le-leb}
 use Rattle.terms.specs.Lists.{All}
 use Rattle.terms.specs.Terms.{Term, app, Terms, size}
 use Rattle.terms.proofs.Lists.{all-weaken, length-map}
+use Rattle.terms.proofs.Tests.{eqb-comm}
 use Rattle.formulas.specs.Formulas.{Goal, atom, Clause, fact, freeT, freeTs, freeG, freeC}
 use Rattle.formulas.specs.Members.{members}
 use Rattle.sheet_format.specs.Nodes.{Declaration, Node, neither, termsOf, sized, termNode, applied, applyNode, isSome, isSomething}
@@ -223,13 +224,6 @@ module _ (bytes t : List ℕ) (k : Counts) (st : Stands bytes t k) (h : k .nodes
           rw (← total-is all agree) (bounded (leb (sizesFrom t 1 args) 1024) refl)
       go false p = atom-added all agree
 
-  eqb-turned : (x y : ℕ) → eqb x y ≡ eqb y x
-  eqb-turned x y = go (eqb y x) refl
-    where
-      go : (q : Bool) → eqb y x ≡ q → eqb x y ≡ q
-      go true e = eq-eqb x y (sym (eqb-true y x e))
-      go false e = ne-eqb x y (λ z. eqb-false y x e (sym z))
-
   neither-nothing : isSomething neither ≡ false
   unfolding isSomething neither isSome
   neither-nothing = refl
@@ -238,7 +232,7 @@ module _ (bytes t : List ℕ) (k : Counts) (st : Stands bytes t k) (h : k .nodes
       → Follows bytes t k (addNode t k anyRecord) (sheetAddNode (tableOf bytes t k) (some (applyNode declared f (map (nodeRead t) args))))
   unfolding applicationInfo applyNode declarationAt applied
   application-added there =
-      rw (length-map (nodeRead t) args, eqb-turned (length args) (arityOf t f)) (go (eqb (arityOf t f) (length args)) refl)
+      rw (length-map (nodeRead t) args, eqb-comm (length args) (arityOf t f)) (go (eqb (arityOf t f) (length args)) refl)
     where
       none-applied : (x : Bool) → isSomething (applied x f none) ≡ false
       none-applied true = neither-nothing

@@ -2,7 +2,7 @@
 use Prim.Native.Nat.{ℕ, zero, suc, _+_, _<_, _≤_}
 use native.Mathlib.Omega.{arith}
 use mathlib.Core.Path.{_≡_, refl, sym, ap, ap₂, _∙_}
-use mathlib.Core.Bool.{Bool, true, false, _||_, cond, true≢false}
+use mathlib.Core.Bool.{Bool, true, false, _||_, cond, true≢false, or-false}
 use mathlib.Core.List.{List, [], _∷_, map}
 use mathlib.Core.Option.{none, some}
 use lib.Bits.{bitOr, or-lt}
@@ -147,10 +147,6 @@ module _ (bytes t : List ℕ) (k : Counts) (st : Stands bytes t k) where
       → eqb (bitOf (masksFrom t m l) v) 1 ≡ (eqb (bitOf m v) 1 || freeTs (termsBy (termAt t) l) v)
   unfolding masksFrom termsBy freeTs
   masks-are m [] v lv h = sym (or-false (eqb (bitOf m v) 1))
-    where
-      or-false : (x : Bool) → (x || false) ≡ x
-      or-false true = refl
-      or-false false = refl
   masks-are m (a ∷ l) v lv h =
       masks-are (bitOr m (maskOf t a)) l v lv (h .1)
       ∙ ap (λ (x : Bool). x || freeTs (termsBy (termAt t) l) v)

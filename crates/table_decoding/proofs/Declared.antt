@@ -9,6 +9,7 @@ use lib.Dec.{ltb, leb, eqb}
 use lib.ListN.{length, take, drop, getD, length-drop}
 use lib.Seq.{drop-cons, length-take-le}
 use borrow.Author.Tests.{eqb-true, eqb-false, eq-eqb, ne-eqb, le-ltb, lt-ltb, leb-true, leb-false}
+use Rattle.terms.proofs.Tests.{eqb-comm, cond-and}
 use Rattle.sheet_format.specs.Bytes.{sameBytes}
 use Rattle.sheet_format.specs.Nodes.{Declaration}
 use Rattle.sheet_format.specs.Sheets.{next, stop, isDeclared}
@@ -30,17 +31,6 @@ use Rattle.table_decoding.proofs.Adding.{table-agree, nodes-of-stands, 
 
 -- names
 
-eqb-turned : (x y : ℕ) → eqb x y ≡ eqb y x
-eqb-turned x y = go (eqb y x) refl
-  where
-    go : (q : Bool) → eqb y x ≡ q → eqb x y ≡ q
-    go true e = eq-eqb x y (sym (eqb-true y x e))
-    go false e = ne-eqb x y (λ z. eqb-false y x e (sym z))
-
-cond-and : (x y : Bool) → cond x y false ≡ (x && y)
-cond-and true y = refl
-cond-and false y = refl
-
 -- the bytes on the sheet are those of the name
 same-is : (bytes : List ℕ) (at : ℕ) (name : List ℕ) → at + length name ≤ length bytes → sameAt bytes at name ≡ sameBytes name (take (length name) (drop at bytes))
 unfolding sameAt sameBytes
@@ -48,7 +38,7 @@ same-is bytes at [] h = refl
 same-is bytes at (b ∷ l) h =
     let k : at < length bytes = omega arith in
     cond-and (eqb (getD bytes at 0) b) (sameAt bytes (at + 1) l)
-    ∙ ap₂ _&&_ (eqb-turned (getD bytes at 0) b) (ap (λ (x : ℕ). sameAt bytes x l) (add-one at) ∙ same-is bytes (suc at) l (omega arith))
+    ∙ ap₂ _&&_ (eqb-comm (getD bytes at 0) b) (ap (λ (x : ℕ). sameAt bytes x l) (add-one at) ∙ same-is bytes (suc at) l (omega arith))
     ∙ ap (λ (x : List ℕ). sameBytes (b ∷ l) (take (suc (length l)) x)) (sym (drop-cons bytes at 0 k))
 
 -- symbol i has the name

@@ -4,7 +4,7 @@ use Prim.Native.Nat.{ℕ, _+_, _*_, _<_, _≤_}
 use native.Mathlib.Omega.{arith}
 use mathlib.Core.Path.{_≡_, refl, ap, _∙_}
 use mathlib.Core.Bool.{Bool, true, false, not, cond}
-use mathlib.Core.List.{List, [], map}
+use mathlib.Core.List.{List, map}
 use mathlib.Core.Option.{Option, none, some}
 use lib.Dec.{ltb, leb}
 use lib.ListN.{length, take, drop, getElem?}
@@ -14,13 +14,13 @@ use Rattle.sheet_format.specs.Nodes.{Declaration, Node, with1, with2, nodesAt, 
 use Rattle.sheet_format.specs.Sheets.{Table, stop, takeNode, takeLine}
 use Rattle.sheet_format.specs.Sheets.{Taken as SheetTaken}
 use Rattle.sheet_format.specs.Sheets.{addNode as sheetAddNode}
-use Rattle.node_table.specs.Decoding.{goalAt, declarationAt, declarationsFrom, clausesFrom, decodeSheet}
+use Rattle.node_table.specs.Decoding.{declarationAt}
 use Rattle.node_table.specs.WellMade.{IsGoal, WellMade, Named}
 use Rattle.table_builder.specs.declared.node_info.Counts.{Counts}
 use Rattle.table_builder.specs.declared.node_info.Taken.the-variants.{Stop}
 use Rattle.table_builder.specs.Making.{Made, made, counts, nodeRecord, addNode, addOne, addTwo, andInfo, orInfo, impliesInfo, existsInfo, forallInfo, takeVariable, takeTrue, takeAnd, takeOr, takeImplies, takeExists, takeForall, takeClause, takeGoal}
 use Rattle.table_builder.specs.Symbols.{allThere, applicationInfo, appliedKind, firstOf, takeApplication, takeDeclaration}
-use Rattle.table_decoding.specs.Standing.{nodeRead, nodesFrom, tableOf, Stands, Agrees, Follows}
+use Rattle.table_decoding.specs.Standing.{nodeRead, tableOf, Stands, Agrees, Follows}
 use Rattle.table_decoding.proofs.Sequences.{from-length, from-at, from-none, nodes-list, declarations-list}
 use Rattle.table_decoding.proofs.Pairs.{and-added, or-added, implies-added}
 use Rattle.table_decoding.proofs.Single.{true-added, variable-added, exists-added, forall-added}
@@ -172,10 +172,6 @@ stands-empty bytes t h =
       clauses = λ i l. absurd (omega arith);
     }
 
-pub table-empty : (bytes t : List ℕ) → tableOf bytes t (counts 0 0 0) ≡ record { symbols = []; nodes = []; clauses = [] }
-unfolding tableOf declarationsFrom nodesFrom clausesFrom
-table-empty bytes t = refl
-
 -- After the Q line the table is as the engine and the checker want it, and is the sheet.
 pub well-made : (bytes t : List ℕ) (k : Counts) (goal : ℕ) → Stands bytes t k → goal < k .nodes → IsGoal t goal → WellMade t (k .nodes) (k .clauses) goal
 well-made bytes t k goal st l i =
@@ -192,8 +188,3 @@ well-made bytes t k goal st l i =
 
 pub all-named : (bytes t : List ℕ) (k : Counts) → Stands bytes t k → Named t (k .nodes) (k .symbols)
 all-named bytes t k st n l i e = st .named n l (omega arith) (omega arith)
-
-pub sheet-made : (bytes t : List ℕ) (k : Counts) (goal : ℕ)
-    → decodeSheet bytes t (k .symbols) (k .clauses) goal ≡ record { symbols = tableOf bytes t k .symbols; clauses = tableOf bytes t k .clauses; goal = goalAt t goal }
-unfolding decodeSheet tableOf
-sheet-made bytes t k goal = refl

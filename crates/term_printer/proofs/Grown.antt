@@ -2,20 +2,21 @@
 use Prim.Native.Nat.{ℕ, zero, suc, _-_, _/_, _≤_}
 use Prim.Native.Char.{code}
 use native.Mathlib.Omega.{arith}
-use mathlib.Core.Path.{_≡_, refl}
-use mathlib.Core.Bool.{Bool, true, false, cond}
+use mathlib.Core.Path.{_≡_}
+use mathlib.Core.Bool.{Bool, true, false}
 use mathlib.Core.List.{List}
 use lib.Dec.{eqb, ltb}
 use Rattle.node_table.specs.Layout.{childCount, labelOf, childOf}
 use Rattle.machine.specs.Fields as fields
-use Rattle.machine.specs.Records.{field, cellOf, levelOf}
-use Rattle.machine.specs.Words.{tagOf, nameOf, nodeOf, frameOf, wordOf, constantTag, variableTag}
-use Rattle.printing.specs.declared.Pen.{Pen}
+use Rattle.machine.specs.Records.{cellOf, levelOf}
+use Rattle.machine.specs.Words.{tagOf, nameOf, nodeOf, frameOf, wordOf, constantTag, variableTag, deref}
 use Rattle.printing.specs.Output.{writeSymbol}
-use Rattle.printing.specs.Marks.{onAt, onVariables, onConstants, Page, wrote, marked, seek, markVariable, markConstant, showVariable, showConstant, constantNumberField}
+use Rattle.printing.specs.Marks.{onAt, Page, wrote, markVariable, markConstant, showVariable, showConstant, constantNumberField}
 use Rattle.printing.specs.WriteTerms.{emitTo, writeName, separator, argumentsBy, applicationBy, wordBy, writeTerm}
 use Rattle.printing.proofs.Bytes.{bytes-grow, symbol-bytes}
 use Rattle.printing.proofs.Pages.{emitted, name-then, page-grow}
+use Rattle.memory.specs.Records.{field}
+use Rattle.printing.proofs.Steps.{mark-at, mark-constant-at}
 
 record Grown (g s : Page) : Type 0 where
   position : g .pen .at ≤ s .pen .at
@@ -30,19 +31,6 @@ grown-either : (g x y : Page) (b : Bool) → Grown g x → Grown g y → Grown g
 grown-either g x y true p q = p
 grown-either g x y false p q = q
 
--- Numbering moves nothing.
-kept : (w w′ : List ℕ) (p q : Pen) (b : Bool) → q .at ≡ p .at → cond b (marked w′ q) (marked w p) .pen .at ≡ p .at
-kept w w′ p q true e = e
-kept w w′ p q false e = refl
-
-variable-kept : (w : List ℕ) (p : Pen) (x : ℕ) → markVariable w p x .pen .at ≡ p .at
-unfolding markVariable onVariables
-variable-kept w p x = kept w _ p _ (eqb (cellOf w x) 0) refl
-
-constant-kept : (w : List ℕ) (p : Pen) (c : ℕ) → markConstant w p c .pen .at ≡ p .at
-unfolding markConstant onConstants
-constant-kept w p c = kept w _ p _ (eqb (field w c constantNumberField) 0) refl
-
 from : (a b c : ℕ) → b ≡ a → b ≤ c → a ≤ c
 from a b c e h = omega arith
 
@@ -54,13 +42,13 @@ module _ (limit : ℕ) (small : limit ≤ 65535) where
   unfolding showVariable wrote onAt
   variable-grown g x =
       let m = markVariable (g .memory) (g .pen) x in
-      record { position = from _ _ _ (variable-kept (g .memory) (g .pen) x) (symbol-grown (g .buffer) (m .pen .at) (code "_") (cellOf (m .memory) x / 4 - 1) (levelOf (m .memory) x)) }
+      record { position = from _ _ _ (mark-at (g .memory) (g .pen) x) (symbol-grown (g .buffer) (m .pen .at) (code "_") (cellOf (m .memory) x / 4 - 1) (levelOf (m .memory) x)) }
 
   constant-grown : (g : Page) (c : ℕ) → Grown g (showConstant limit g c)
   unfolding showConstant wrote onAt
   constant-grown g c =
       let m = markConstant (g .memory) (g .pen) c in
-      record { position = from _ _ _ (constant-kept (g .memory) (g .pen) c) (symbol-grown (g .buffer) (m .pen .at) (code "!") (field (m .memory) c constantNumberField - 1) (field (m .memory) c fields.constantLevel)) }
+      record { position = from _ _ _ (mark-constant-at (g .memory) (g .pen) c) (symbol-grown (g .buffer) (m .pen .at) (code "!") (field (m .memory) c constantNumberField - 1) (field (m .memory) c fields.constantLevel)) }
 
   emit-grown : (g : Page) (b : ℕ) → Grown g (emitTo limit g b)
   emit-grown g b = record { position = rw (emitted limit g b) (page-grow limit g _ small) }
@@ -94,7 +82,7 @@ module _ (limit : ℕ) (small : limit ≤ 65535) where
     unfolding writeTerm
     term-grown zero turns g a = grown-same g
     term-grown (suc rank) turns g a =
-        grown-either g g _ (ltb limit (g .pen .at)) (grown-same g) (word-grown (writeTerm rank sheet t turns limit) (term-grown rank turns) g (seek turns (g .memory) a))
+        grown-either g g _ (ltb limit (g .pen .at)) (grown-same g) (word-grown (writeTerm rank sheet t turns limit) (term-grown rank turns) g (deref turns (g .memory) a))
 
 -- The same of what the code's calls gave.
 after : (g s u : Page) → Grown g s → u ≡ s → g .pen .at ≤ u .pen .at

@@ -6,9 +6,9 @@ use mathlib.Core.Path.{_≡_, refl}
 use mathlib.Core.List.{List}
 use borrow.Author.Tests.{lt-ltb, le-ltb, eq-eqb, ne-eqb}
 use Rattle.node_table.specs.Layout.{childCount, labelOf, childOf}
-use Rattle.machine.specs.Words.{up, tagOf, nameOf, nodeOf, frameOf, wordOf}
+use Rattle.machine.specs.Words.{up, tagOf, nameOf, nodeOf, frameOf, wordOf, deref}
 use Rattle.printing.specs.declared.Pen.{Pen}
-use Rattle.printing.specs.Marks.{Page, page, seek, showVariable, showConstant}
+use Rattle.printing.specs.Marks.{Page, page, showVariable, showConstant}
 use Rattle.printing.specs.WriteTerms.{emitTo, writeName, separator, argumentsBy, applicationBy, wordBy, writeTerm, termTo}
 
 -- The arguments.
@@ -43,12 +43,12 @@ module _ (sheet t : List ℕ) (turns limit : ℕ) (w out : List ℕ) (p : Pen) (
   term-past zero n h = refl
   term-past (suc rank) n h = simp (writeTerm, lt-ltb _ _ h)
 
-  term-word : (rank : ℕ) → (rank ≡ 0 → ⊥) → p .at ≤ limit → writeTerm rank sheet t turns limit (page w out p) a ≡ wordBy (writeTerm (rank - 1) sheet t turns limit) sheet t limit (page w out p) (seek turns w a)
+  term-word : (rank : ℕ) → (rank ≡ 0 → ⊥) → p .at ≤ limit → writeTerm rank sheet t turns limit (page w out p) a ≡ wordBy (writeTerm (rank - 1) sheet t turns limit) sheet t limit (page w out p) (deref turns w a)
   unfolding writeTerm
   term-word zero n h = absurd (n refl)
   term-word (suc rank) n h = rw (sub-one (suc rank)) (simp (writeTerm, le-ltb _ _ h))
 
-  module _ (rank b k : ℕ) (r : rank ≡ 0 → ⊥) (h : p .at ≤ limit) (eb : b ≡ seek turns w a) (ek : k ≡ tagOf b) where
+  module _ (rank b k : ℕ) (r : rank ≡ 0 → ⊥) (h : p .at ≤ limit) (eb : b ≡ deref turns w a) (ek : k ≡ tagOf b) where
     pub term-variable : (x : ℕ) (s : Page) → k ≡ 1 → x ≡ nameOf b → s ≡ showVariable limit (page w out p) x → s ≡ writeTerm rank sheet t turns limit (page w out p) a
     unfolding wordBy
     term-variable x s e ex es = rw (es, ex, term-word rank r h) (simp (wordBy, ← eb, ← ek, eq-eqb _ _ e))

@@ -26,13 +26,13 @@ use machine_memory::words::word_of;
 use node_table::child;
 use node_table::child_count;
 use node_table::label;
-use numbering::seek;
 use printing::Pen;
 ghost use mathlib.Core.Path.{_≡_};
 ghost use Prim.Native.Nat.{_≤_};
 ghost use Rattle.printing.specs.Marks.{page};
 ghost use Rattle.printing.specs.WriteTerms.{separator, writeTerm, termTo};
 ghost use Rattle.term_printer.specs.State.{penIn, boundsIn};
+use machine_memory::words::deref;
 
 // The term of word a: its name, and its arguments in brackets by calls of itself. It ends since the remaining answer bytes plus the
 // rank fall. The sheet and the table are lent as references to slices: a slice itself is a pair, which each level would copy.
@@ -54,7 +54,7 @@ pub fn write_term(
     if s[LIMIT] < s[AT] {
         return;
     }
-    let b = seek(s[TURNS], w, a);
+    let b = deref(s[TURNS], w, a);
     let tag = tag_of(b);
     if tag == tags::VARIABLE {
         show_variable_in(w, out, s, name_of(b));

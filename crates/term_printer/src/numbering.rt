@@ -2,19 +2,17 @@
 // Each function is a definition of the crate printing, and its contract says so.
 use machine::tags;
 use machine_memory::cells::cell_of;
-use machine_memory::cells::field;
 use machine_memory::cells::put_cell;
-use machine_memory::cells::put_field;
 use machine_memory::words::TAGS;
-use machine_memory::words::name_of;
 use machine_memory::words::narrow;
-use machine_memory::words::tag_of;
 use machine_memory::words::up;
 use memory::wide;
 use printing::Pen;
 ghost use mathlib.Core.Path.{_≡_};
 ghost use Prim.Native.Nat.{_+_, _<_};
-ghost use Rattle.printing.specs.Marks.{onAt, onVariables, onConstants, marked, seek, markVariable, markConstant};
+ghost use Rattle.printing.specs.Marks.{onAt, onVariables, onConstants, marked, markVariable, markConstant};
+use memory::field;
+use memory::put_field;
 
 // Changes of the pen.
 pub fn on_at(p: Pen, a: u32) -> Pen
@@ -39,26 +37,6 @@ pub fn on_constants(p: Pen, n: u32) -> Pen
     let mut q = p;
     q.constants = n;
     q
-}
-
-// Looks through at most n bindings. A word of tag 0 binds nothing.
-pub fn seek(n: u32, w: &[u32], a: u32) -> u32
-    ensures { λ r. ⌜ r ≡ seek n (now (w .entry)) a ⌝ }
-{
-    let mut bindings = n;
-    let mut at = a;
-    while 0 < bindings {
-        if tag_of(at) != tags::VARIABLE {
-            return at;
-        }
-        let b = cell_of(w, name_of(at));
-        if tag_of(b) == 0 {
-            return at;
-        }
-        at = b;
-        bindings -= 1;
-    }
-    at
 }
 
 // The next number for variable x, if it has none yet: number + 1 as a word of tag 0 in its own binding.

@@ -2,9 +2,7 @@
 // Each function is a definition of the crate printing, and its contract says so.
 use machine::fields;
 use machine_memory::cells::cell_of;
-use machine_memory::cells::field;
 use machine_memory::cells::put_cell;
-use machine_memory::cells::put_field;
 use machine_memory::cells::record_of;
 use machine_memory::words::narrow;
 use machine_memory::words::tag_of;
@@ -16,6 +14,8 @@ ghost use lib.Dec.{eqb};
 ghost use Rattle.machine.specs.Records.{cellOf, putCell};
 ghost use Rattle.machine.specs.Words.{tagOf};
 ghost use Rattle.printing.specs.Links.{linkWord, linked, linkPath, clearConstants, clearVariables};
+use memory::field;
+use memory::put_field;
 
 const LINE_CODES: usize = printing::LINE_CODES as usize;
 

@@ -7,12 +7,12 @@ use super::output::write_symbol;
 use machine::fields;
 use machine::tags;
 use machine_memory::cells::cell_of;
-use machine_memory::cells::field;
 use machine_memory::cells::level_of;
 use machine_memory::cells::record_of;
 use printing::Pen;
 ghost use mathlib.Core.Path.{_≡_};
 ghost use Rattle.printing.specs.Marks.{page, showVariable, showConstant};
+use memory::field;
 
 // A symbol is shown: its number, and its final level.
 pub fn show_variable(limit: u32, w: &mut [u32], out: &mut [u8], p: Pen, x: u32) -> Pen

@@ -1,10 +1,10 @@
 -- Laws of substitution, sizes and levels.
-use Prim.Native.Nat.{ℕ, suc, _+_, _≤_, _<_, max}
+use Prim.Native.Nat.{ℕ, _≤_, max}
 use mathlib.Core.Path.{_≡_, refl, sym, ap, ap₂, subst}
 use mathlib.Core.Bool.{true≢false}
-use mathlib.Core.Logic.{_⊎_, inl, inr}
+use mathlib.Core.Logic.{inl, inr}
 use native.Mathlib.Omega.{arith}
-use Rattle.terms.specs.Terms.{Term, leaf, app, Terms, nil, cons, substitute, substitutes, size, sizes, levelBy, levelsBy, Leaves, LeavesAll, Appears, AppearsIn}
+use Rattle.terms.specs.Terms.{Term, leaf, app, Terms, nil, cons, substitute, substitutes, size, levelBy, levelsBy, Leaves, LeavesAll, Appears, AppearsIn}
 
 -- substitution composes
 mutual
@@ -183,10 +183,6 @@ pub level-substitute : {A B : Type 0} (t : Term A) (θ : A → Term B) (l : B �
 level-substitute t θ l k h =
     level-leaves (substitute t θ) l k
     (leaves-substitute t θ (λ a. levelBy (θ a) l ≤ k) (λ b. l b ≤ k) (λ a p. leaves-level (θ a) l k p) (leaves-appear t (λ a. levelBy (θ a) l ≤ k) h))
-
--- a leaf that appears is no higher than the term
-pub appears-level : {A : Type 0} (t : Term A) (l : A → ℕ) (a : A) → Appears t a → l a ≤ levelBy t l
-appears-level t l a h = appears-leaves t (λ b. l b ≤ levelBy t l) a (leaves-level t l (levelBy t l) (omega arith)) h
 
 -- constructors differ
 pub leaf-not-app : {A : Type 0} (a : A) (f : ℕ) (ts : Terms A) → leaf a ≡ app f ts → ⊥

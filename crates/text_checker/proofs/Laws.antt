@@ -2,19 +2,18 @@
 use Prim.Native.Nat.{ℕ, zero, suc, _+_, _-_, _≤_, _<_}
 use native.Mathlib.Omega.{arith}
 use mathlib.Core.Path.{_≡_, _∙_}
-use mathlib.Core.Bool.{Bool, true, false, cond}
 use mathlib.Core.List.{List}
-use lib.Dec.{eqb}
-use lib.ListN.{length, getD}
+use lib.ListN.{length}
 use borrow.Author.Tests.{lt-ltb, le-ltb, eq-eqb, ne-eqb}
 use Rattle.scanning.specs.declared.Shown.{Shown}
 use Rattle.scanning.specs.declared.Shown.the-variants.{Counts, Misnumbered}
-use Rattle.scanning.specs.Ranges.{findByte, lineEnd}
+use Rattle.scanning.specs.Ranges.{lineEnd}
 use Rattle.scanning.specs.Showing.{showFrom}
 use Rattle.line_checking.specs.declared.Registers.{Registers}
 use Rattle.line_checking.specs.Sequents.{Made, made, start, broken, onCounts, brokenStage, doneStage, openingStage, bindingStage, sequentStage}
 use Rattle.line_checking.specs.Bindings.{openLine, bindLine}
 use Rattle.line_checking.specs.Judging.{sequentLine, stageLine, countLine, orderLine, judgeLine, Judged, judged, endVerdict, judgeFrom, judgeText}
+use Rattle.scanning.proofs.Ranges.{byte-least}
 
 -- the stage
 
@@ -77,18 +76,9 @@ module _ (x : List ℕ) (r : Registers) (q i : ℕ) where
 -- the loop
 
 -- A line does not end before it starts.
-byte-after : (n : ℕ) (x : List ℕ) (c i : ℕ) → i ≤ findByte n x c i
-unfolding findByte
-byte-after zero x c i = omega arith
-byte-after (suc n) x c i = go (eqb (getD x i 0) c) (byte-after n x c (i + 1))
-  where
-    go : (z : Bool) → i + 1 ≤ findByte n x c (i + 1) → i ≤ cond z i (findByte n x c (i + 1))
-    go true h = omega arith
-    go false h = omega (arith, h)
-
 pub end-after : (x : List ℕ) (i e : ℕ) → e ≡ lineEnd x i → i ≤ e
 unfolding lineEnd
-end-after x i e h = omega (arith, h, byte-after (length x - i) x 10 i)
+end-after x i e h = omega (arith, h, byte-least (length x - i) x 10 i)
 
 -- The verdict v of the whole text is that of the lines from line q on, with turns enough for the bytes left.
 pub record Rest (v : Judged) (b t : List ℕ) (symbols clauses goal : ℕ) (x w : List ℕ) (r : Registers) (q i : ℕ) : Type 0 where

@@ -11,6 +11,7 @@ use lib.Dec.{eqb, leb}
 use borrow.Author.Tests.{eqb-true, eqb-false, leb-true, leb-false}
 use Rattle.terms.specs.Terms.{Term, leaf, app, Terms, nil, cons, substitute, substitutes, size, sizes}
 use Rattle.terms.proofs.Terms.{size-pos}
+use Rattle.terms.proofs.Tests.{refuted}
 use Rattle.unification.specs.Store.{Leaf, var, con, Binding, Store, look, lower, bind, at, apply}
 use Rattle.unification.specs.Matching.{Pair, Matching, pairs, check, fail, pushTerms, pushPairs, comparing, onNode, visit, compareTerms, matchStep, matchSteps, Ended}
 use Rattle.unification.specs.Promises.{WellBound, Formed}
@@ -55,10 +56,6 @@ howMany-lt p q h y (suc n) l a b = go (eqb y n) refl (λ k. howMany-lt p q h y n
     go false e ih le = more (q n) (p n) (h n) (ih (let d = eqb-false y n e in omega arith))
 
 -- A test that is not true is false.
-not-true : (b : Bool) → (b ≡ true → ⊥) → b ≡ false
-not-true true h = absurd (h refl)
-not-true false h = refl
-
 -- The first measure: the unbound variables
 
 unbounds : Store → ℕ
@@ -71,7 +68,7 @@ bind-unbounds s y t f =
     let b : Binding = record { name = y; value = t } in
     let bs = s .bindings in
     howMany-lt (isUnbound bs) (isUnbound (b ∷ bs)) (λ x e. unbound-isUnbound bs x (unbound-before b bs x (f .bound) (isUnbound-true (b ∷ bs) x e) .0)) y (s .next) (f .below .0 .0)
-    (unbound-isUnbound bs y (f .bound .0)) (not-true (isUnbound (b ∷ bs) y) (λ e. unbound-before b bs y (f .bound) (isUnbound-true (b ∷ bs) y e) .1 refl))
+    (unbound-isUnbound bs y (f .bound .0)) (refuted (isUnbound (b ∷ bs) y) (λ e. unbound-before b bs y (f .bound) (isUnbound-true (b ∷ bs) y e) .1 refl))
 
 -- The second measure: the sizes of the final values
 

@@ -215,23 +215,3 @@ module _ (R : ℕ → Type 0) where
   unfolding matchSteps
   matchSteps-running zero m r = r
   matchSteps-running (suc n) m r = matchStep-running (matchSteps n m) (matchSteps-running n m r)
-
--- Another property of the number of variables.
-pub running-weaken : (R S : ℕ → Type 0) → ((n : ℕ) → R n → S n) → (m : Matching) → Running R m → Running S m
-unfolding Running
-running-weaken R S k (pairs s ps) r = (record { formed = r .0 .formed; extra = k (s .next) (r .0 .extra) }, r .1)
-running-weaken R S k (check s y t n ns ps) r =
-    let c = r .0 in (
-      record {
-        good = record { formed = c .good .formed; extra = k (s .next) (c .good .extra) };
-        unbound = c .unbound;
-        looked = c .looked;
-        other = c .other;
-        low = c .low;
-        below = c .below;
-        nodes = c .nodes;
-        passed = c .passed;
-      },
-      r .1,
-    )
-running-weaken R S k fail r = tt

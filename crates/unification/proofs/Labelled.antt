@@ -2,7 +2,6 @@
 use Prim.Native.Nat.{ℕ, _≤_}
 use mathlib.Core.Path.{_≡_}
 use mathlib.Core.Logic.{_⊎_, inl, inr}
-use native.Mathlib.Omega.{arith}
 use Rattle.terms.specs.Terms.{Appears}
 use Rattle.unification.specs.Store.{var, con}
 use Rattle.unification.specs.Labelled.{Substitution, Labelling, Proper, Induced, Composed}
@@ -15,14 +14,3 @@ absorbed-proper L L′ θ φ i p a x c k h = go (i .attained x)
     go : ((L′ x ≡ L x) ⊎ ((y : ℕ) × Appears (θ .to y) (var x) × (L′ x ≡ L y))) → k ≤ L′ x
     go (inl e) = rw e (p x c k h)
     go (inr w) = rw (w .2) (p (w .0) c k (rw (a (w .0)) (appears-apply (θ .to (w .0)) (φ .to) x (con c k) (w .1) h)))
-
--- There is one induced labelling.
-pub induced-unique : (L : Labelling) (θ : Substitution) (A B : Labelling) → Induced L θ A → Induced L θ B → (x : ℕ) → A x ≡ B x
-induced-unique L θ A B a b x = let p = le A B a b in let q = le B A b a in omega arith
-  where
-    le : (A B : Labelling) → Induced L θ A → Induced L θ B → A x ≤ B x
-    le A B a b = go (b .attained x)
-      where
-        go : ((B x ≡ L x) ⊎ ((y : ℕ) × Appears (θ .to y) (var x) × (B x ≡ L y))) → A x ≤ B x
-        go (inl e) = let p = a .own x in omega arith
-        go (inr w) = let p = a .other x (w .0) (w .1) in let q = w .2 in omega arith

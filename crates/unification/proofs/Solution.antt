@@ -150,10 +150,6 @@ appears-unbound (b ∷ bs) y x w h = go (bind-appears b bs y (var x) h) (λ z i.
         let r = apply-variable (b .value) (final bs) x (i .1) in
         unbound-bind b bs x (ih (r .0) (r .2)) (λ q. w .2 (subst (λ (z : ℕ). Appears (apply (b .value) (final bs)) (var z)) q (i .1)))
 
--- Nor in terms with all bindings put to use.
-pub apply-unbound : (bs : List Binding) (t : Term Leaf) (x : ℕ) → WellBound bs → Appears (apply t (final bs)) (var x) → Unbound bs x
-apply-unbound bs t x w h = let r = apply-variable t (final bs) x h in appears-unbound bs (r .0) x w (r .2)
-
 -- The final values solve the bindings.
 pub final-bound : (bs : List Binding) → WellBound bs → All (λ b. final bs (b .name) ≡ apply (b .value) (final bs)) bs
 unfolding WellBound substitute at

@@ -6,12 +6,12 @@ use mathlib.Core.Path.{_≡_, refl}
 use mathlib.Core.List.{List}
 use Rattle.sheet_format.specs.Bytes.{ascii}
 use Rattle.machine.specs.Fields as fields
-use Rattle.machine.specs.Records.{field}
 use Rattle.machine.specs.Words.{narrow, variableWord}
 use Rattle.printing.specs.declared.Pen.{Pen}
 use Rattle.printing.specs.Marks.{Page, page}
 use Rattle.printing.specs.WriteLines.{bytesTo, numberTo, prefixTo, clauseTo}
 use Rattle.printing.specs.WriteTerms.{emitTo, termTo}
+use Rattle.memory.specs.Records.{field}
 
 module _ (sheet t : List ℕ) (turns limit : ℕ) where
   module _ (g : Page) (x : ℕ) where

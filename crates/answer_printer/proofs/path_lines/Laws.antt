@@ -7,12 +7,12 @@ use mathlib.Core.List.{List}
 use borrow.Author.Tests.{lt-ltb, le-ltb, eq-eqb, ne-eqb}
 use Rattle.sheet_format.specs.Bytes.{ascii}
 use Rattle.machine.specs.Fields as fields
-use Rattle.machine.specs.Records.{field}
 use Rattle.machine.specs.Words.{variableWord, constantWord}
 use Rattle.printing.specs.declared.Pen.{Pen}
 use Rattle.printing.specs.Marks.{Page, page}
 use Rattle.printing.specs.WriteLines.{bytesTo, plainBytes, termLine, clauseTo, lineTo, linesTo}
 use Rattle.printing.specs.Links.{nextLineField}
+use Rattle.memory.specs.Records.{field}
 
 module _ (limit : ℕ) (g s : Page) where
   module _ (k : ℕ) where

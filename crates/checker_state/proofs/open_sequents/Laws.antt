@@ -4,9 +4,9 @@ use mathlib.Core.Path.{_≡_, _∙_}
 use mathlib.Core.List.{List}
 use borrow.Author.Tests.{eq-eqb, ne-eqb}
 use Rattle.scanning.specs.Fields as fields
-use Rattle.scanning.specs.Frames.{field}
 use Rattle.line_checking.specs.declared.Registers.{Registers}
 use Rattle.line_checking.specs.Sequents.{onStage, onSequent, dueSequent, proceed, doneStage}
+use Rattle.memory.specs.Records.{field}
 
 -- the next sequent
 

@@ -7,10 +7,10 @@ use mathlib.Core.List.{List}
 use borrow.Author.Tests.{lt-ltb, le-ltb, eq-eqb, ne-eqb}
 use Rattle.node_table.specs.Layout.{membersOf, clauseNode}
 use Rattle.scanning.specs.Fields as fields
-use Rattle.scanning.specs.Frames.{field}
 use Rattle.line_checking.specs.declared.Place.{Place}
 use Rattle.line_checking.specs.declared.Place.the-variants.{At, Nowhere}
 use Rattle.line_checking.specs.Members.{clauseFrom, hypothesisFrom}
+use Rattle.memory.specs.Records.{field}
 
 -- clauses of the sheet
 

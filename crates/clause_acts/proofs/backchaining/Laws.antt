@@ -2,11 +2,11 @@
 use Prim.Native.Nat.{ℕ, _-_}
 use mathlib.Core.Path.{_≡_}
 use mathlib.Core.List.{List}
+use Rattle.clause_members.specs.declared.Found.{Found}
+use Rattle.clause_members.specs.Members.{headOf}
 use Rattle.machine.specs.declared.Registers.{Registers}
-use Rattle.machine.specs.declared.Found.{Found}
 use Rattle.machine.specs.Records.{made, putPairs}
 use Rattle.machine.specs.Words.{up}
-use Rattle.machine.specs.Members.{headOf}
 use Rattle.machine.specs.Matching.{pairsFrom, duePairs}
 use Rattle.machine.specs.Trying.{nextMember, putPrefix, putTry, tried, tryMember}
 

@@ -6,12 +6,12 @@ use mathlib.Core.List.{List}
 use lib.Dec.{eqb}
 use Rattle.node_table.specs.Layout.{kindOf, impliesKind}
 use Rattle.machine.specs.declared.Registers.{Registers}
-use Rattle.machine.specs.declared.Found.{Found}
 use Rattle.machine.specs.Records.{putPath, putUse, clauseLine}
 use Rattle.machine.specs.Changes.{onNext, onChoice, onGoals, onPath}
 use Rattle.machine.specs.Words.{narrow, up}
 use Rattle.machine.specs.Goals.{membersLeft}
 use Rattle.machine.specs.Trying.{leaveOthers, putBody, putTry, tried}
+use Rattle.clause_members.specs.declared.Found.{Found}
 
 module _ (t : List ℕ) (c : ℕ) (r s : Registers) (m : Found) where
   -- The registers after a try.

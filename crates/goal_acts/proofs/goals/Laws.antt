@@ -6,11 +6,12 @@ use mathlib.Core.List.{List}
 use borrow.Author.Tests.{eq-eqb, ne-eqb}
 use Rattle.machine.specs.declared.Registers.{Registers}
 use Rattle.machine.specs.Fields as fields
-use Rattle.machine.specs.Records.{field, made, putPath, trueLine, tryMode, provedMode}
+use Rattle.machine.specs.Records.{made, putPath, trueLine, tryMode, provedMode}
 use Rattle.machine.specs.Changes.{onMode, onGoals, onPath, onGoal, onMember}
 use Rattle.machine.specs.Words.{up}
 use Rattle.machine.specs.Choices.{failed}
 use Rattle.machine.specs.Goals.{dueGoal, proceed, membersLeft, tryFrom, takeAtom, takeTrue}
+use Rattle.memory.specs.Records.{field}
 
 -- The next goal.
 pub goal-due : (w : List ℕ) (r : Registers) (q g n f h i : ℕ) (m s : Registers) → g ≡ field w q fields.goalNext → m ≡ onGoals r g → n ≡ field w q fields.goalNode → f ≡ field w q fields.goalFrame → h ≡ field w q fields.goalProgram → i ≡ field w q fields.goalLevel → s ≡ onGoal m n f h i → s ≡ dueGoal w r q

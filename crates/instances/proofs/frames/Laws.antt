@@ -2,16 +2,13 @@
 use Prim.Native.Nat.{ℕ, zero, suc, _+_, _-_, _*_, _<_, _≤_}
 use native.Mathlib.Omega.{arith}
 use native.Mathlib.Numerals.{sub-one}
-use mathlib.Core.Path.{_≡_, refl, ap, _∙_}
+use mathlib.Core.Path.{_≡_, refl}
 use mathlib.Core.List.{List}
 use Rattle.scanning.specs.Fields as fields
-use Rattle.scanning.specs.Frames.{field, put, putSlot, copyFrame, bindFrame}
+use Rattle.scanning.specs.Frames.{putSlot, copyFrame, bindFrame}
+use Rattle.memory.specs.Records.{field, putField}
 
--- A write after others.
-pub and-put : {w₁ x w₂ : List ℕ} (r f a : ℕ) → w₁ ≡ x → w₂ ≡ put w₁ r f a → w₂ ≡ put x r f a
-and-put r f a p q = q ∙ ap (λ l. put l r f a) p
-
-pub slot-made : (w w₁ w₂ : List ℕ) (r v s e : ℕ) → w₁ ≡ put w r (2 * v) s → w₂ ≡ put w₁ r (2 * v + 1) e → w₂ ≡ putSlot w r v s e
+pub slot-made : (w w₁ w₂ : List ℕ) (r v s e : ℕ) → w₁ ≡ putField w r (2 * v) s → w₂ ≡ putField w₁ r (2 * v + 1) e → w₂ ≡ putSlot w r v s e
 unfolding putSlot
 slot-made w w₁ w₂ r v s e p q = rw (q, p)
 
@@ -20,7 +17,7 @@ unfolding copyFrame
 copy-end zero w r q f h = refl
 copy-end (suc n) w r q f h = absurd (omega arith)
 
-pub copy-on : (n : ℕ) (w w′ : List ℕ) (r q f a : ℕ) → 0 < n → a ≡ field w q f → w′ ≡ put w r f a → copyFrame n w r q f ≡ copyFrame (n - 1) w′ r q (f + 1)
+pub copy-on : (n : ℕ) (w w′ : List ℕ) (r q f a : ℕ) → 0 < n → a ≡ field w q f → w′ ≡ putField w r f a → copyFrame n w r q f ≡ copyFrame (n - 1) w′ r q (f + 1)
 unfolding copyFrame
 copy-on zero w w′ r q f a h p e = absurd (omega arith)
 copy-on (suc n) w w′ r q f a h p e = rw (sub-one (suc n), e, p)

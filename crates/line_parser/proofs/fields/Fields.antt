@@ -39,10 +39,6 @@ fields-last s h = fields-first s ∙ rw (le-ltb (fieldLen s) (length s) h)
 pub fields-more : (s : List ℕ) → fieldLen s < length s → fields s ≡ firstField s ∷ fields (drop (fieldLen s + 1) s)
 fields-more s h = fields-first s ∙ rw (lt-ltb (fieldLen s) (length s) h)
 
--- a line has a field
-pub fields-some : (s : List ℕ) → fields s ≡ [] → ⊥
-fields-some s e = let z : _≡_ {A = ℕ} 0 1 = cc (fields-first s) in omega arith
-
 -- numbers
 
 -- what an answer with a value says
@@ -137,12 +133,3 @@ module _ (s : List ℕ) where
       go : (t : Bool) → isName (firstField s) ≡ t → (length (cond t (firstField s) []) ≡ 0 → ⊥) → (isName (firstField s) ≡ true) × (length (cond t (firstField s) []) ≡ fieldLen s)
       go true e k = (e, first-length)
       go false e k = absurd (k refl)
-
--- a name that was read lies within the line
-pub name-le : (s : List ℕ) → length (firstName s) ≤ length s
-unfolding firstName
-name-le s = go (isName (firstField s))
-  where
-    go : (t : Bool) → length (cond t (firstField s) []) ≤ length s
-    go true = omega (arith, first-length s, len-le s)
-    go false = omega arith

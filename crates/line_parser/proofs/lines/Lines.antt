@@ -13,7 +13,7 @@ use Rattle.sheet_format.specs.Limits.{maxArity, maxName}
 use Rattle.sheet_format.specs.Bytes.{tab, fields, isName, number}
 use Rattle.sheet_format.specs.SheetLines.{variableLine, applyLine, trueLine, andLine, orLine, impliesLine, someLine, everyLine, SheetLine, declareLine, nodeLine, clauseLine, goalLine, numbers, declared, declaration, noNumber, oneNumber, twoNumbers, withVariable, application, lineOf, ofFields, parseLine}
 use Rattle.sheet_format.proofs.Options.{some-is}
-use Rattle.sheet_format.proofs.Bytes.{name-short, name-nonempty}
+use Rattle.sheet_format.proofs.Bytes.{name-short, name-length}
 use Rattle.sheet_format.proofs.SheetLines.{FormedLine, parseLine-some}
 use Rattle.line_parser.specs.Fields.{fieldLen, firstField}
 use Rattle.line_parser.proofs.fields.Fields.{fields-first, first-length}
@@ -164,15 +164,11 @@ declare-bounds s k n a e =
     let f = some-is FormedLine (parseLine s) (declareLine k (take n (drop 2 s)) a) (parseLine-some s) p in
     let q : Declare k n a ≡ Declare k (length (take n (drop 2 s))) a = e ∙ ap lineAnswer p in
     let z : n ≡ length (take n (drop 2 s)) = cc in
-    let l = name-some (take n (drop 2 s)) (f .0) in
+    let l = name-length (take n (drop 2 s)) (f .0) in
     let m = name-short (take n (drop 2 s)) (f .0) in
     let w = length-take n (drop 2 s) in
     let d = length-drop 2 s in
     record { named = f .0; some-byte = omega arith; short = omega arith; within = omega arith; arity = f .1 }
-  where
-    name-some : (b : List ℕ) → isName b ≡ true → 1 ≤ length b
-    name-some [] h = absurd (name-nonempty h)
-    name-some (c ∷ cs) h = omega arith
 
 -- An application has at most four nodes.
 pub apply-count : (s : List ℕ) (f : ℕ) (ns : Nodes) → Node (Apply f ns) ≡ lineAnswer (parseLine s) → ns .count ≤ maxArity

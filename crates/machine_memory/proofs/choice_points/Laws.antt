@@ -5,10 +5,11 @@ use mathlib.Core.List.{List}
 use borrow.Author.Tests.{eq-eqb, ne-eqb}
 use Rattle.machine.specs.declared.Registers.{Registers}
 use Rattle.machine.specs.Fields as fields
-use Rattle.machine.specs.Records.{field, made, noMode, tryMode, takeMode}
+use Rattle.machine.specs.Records.{made, noMode, tryMode, takeMode}
 use Rattle.machine.specs.Changes.{onMode, onNext, onTrail, onChoice, onGoals, onPath, onGoal, onMember}
 use Rattle.machine.specs.Trail.{undo}
 use Rattle.machine.specs.Choices.{resumeGoal, resumeMember, resumeBranch, resume, takeUp, failed}
+use Rattle.memory.specs.Records.{field}
 
 -- Going on with what was saved in record q.
 module _ (w : List ℕ) (r : Registers) (q : ℕ) where

@@ -6,8 +6,9 @@ use mathlib.Core.Path.{_≡_, refl}
 use mathlib.Core.List.{List}
 use borrow.Author.Tests.{eq-eqb, ne-eqb}
 use Rattle.machine.specs.Fields as fields
-use Rattle.machine.specs.Records.{field, putEntry}
+use Rattle.machine.specs.Records.{putEntry}
 use Rattle.machine.specs.Trail.{lowerTo, bindTo, oldLevel, effect, undoEntry, undo}
+use Rattle.memory.specs.Records.{field}
 
 -- The trail.
 pub effect-made : (w w₁ w₂ w₃ : List ℕ) (u z k y v before l : ℕ) → l ≡ oldLevel w z → w₁ ≡ lowerTo w z k → w₂ ≡ bindTo w₁ y v → w₃ ≡ putEntry w₂ u z l y before → w₃ ≡ effect w u z k y v before

@@ -2,7 +2,7 @@
 use Prim.Native.Nat.{ℕ, zero, suc, _+_, _-_, _<_, _≤_}
 use native.Mathlib.Omega.{arith}
 use mathlib.Core.Path.{_≡_, refl, sym, _∙_}
-use mathlib.Core.Bool.{Bool, true, false, cond}
+use mathlib.Core.Bool.{Bool, true, false}
 use mathlib.Core.List.{List}
 use mathlib.Core.Option.{Option, none, some}
 use lib.Dec.{eqb}
@@ -17,7 +17,7 @@ use Rattle.scanning.specs.declared.Number.{Number}
 use Rattle.scanning.specs.declared.Number.the-variants.{Value, Missing}
 use Rattle.scanning.specs.Ranges.{findByte, readNumber}
 use Rattle.scanning.specs.Showing.{outsideName, isSymbol, numberAt, levelAt, isShowing, levelFrom, firstLevel}
-use Rattle.scanning.proofs.Ranges.{numberTo, read-number}
+use Rattle.scanning.proofs.Ranges.{byte-least, numberTo, read-number}
 
 -- places
 
@@ -118,18 +118,9 @@ skipped (suc m) x c n i h = go (eqb (getD x i 0) c) refl (λ l. skipped m x c n 
 pub from-found : (x : List ℕ) (c n i j : ℕ) → j ≡ findByte (length x - i) x c i → levelFrom (length x - i) x c n i ≡ levelFrom (length x - j) x c n j
 from-found x c n i j e = rw e (skipped (length x - i) x c n i refl)
 
-found-least : (m : ℕ) (x : List ℕ) (c i : ℕ) → i ≤ findByte m x c i
-unfolding findByte
-found-least zero x c i = omega arith
-found-least (suc m) x c i = go (eqb (getD x i 0) c) (found-least m x c (i + 1))
-  where
-    go : (z : Bool) → i + 1 ≤ findByte m x c (i + 1) → i ≤ cond z i (findByte m x c (i + 1))
-    go true h = omega arith
-    go false h = omega arith
-
 -- the search goes on behind
 pub found-later : (x : List ℕ) (c i j : ℕ) → j ≡ findByte (length x - i) x c i → i ≤ j
-found-later x c i j e = rw e (found-least (length x - i) x c i)
+found-later x c i j e = rw e (byte-least (length x - i) x c i)
 
 pub from-here : (x : List ℕ) (c n i l : ℕ) (z : Bool) → i < length x → z ≡ isShowing x c n i → z ≡ true → l ≡ levelAt x i → levelFrom (length x - i) x c n i ≡ l
 unfolding levelFrom

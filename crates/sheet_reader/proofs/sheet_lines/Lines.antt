@@ -10,6 +10,7 @@ use lib.ListN.{length, take, drop, getD, length-drop, drop-of-length-le}
 use lib.Seq.{drop-cons, drop-drop}
 use borrow.Author.Tests.{eq-eqb, ne-eqb}
 use Rattle.sheet_format.specs.Bytes.{lf, Lines, onLine, linesOf}
+use Rattle.sheet_format.proofs.Bytes.{lines, linesOf-other}
 use Rattle.sheet_reader.specs.Reader.{lineLength, lineEnd}
 
 -- the end of a line
@@ -49,15 +50,6 @@ unfolding lineEnd
 end-within s at end h e = (omega arith, omega (arith, length-most (drop at s), length-drop at s))
 
 -- whole lines
-
--- Whole lines and a rest.
-abbrev pub lines : List (List ℕ) → List ℕ → Lines
-lines ls r = record { whole = ls; rest = r }
-
--- another byte goes in front of the first line, or of the rest
-pub linesOf-other : (c : ℕ) (cs : List ℕ) → eqb c lf ≡ false → linesOf (c ∷ cs) ≡ onLine c (linesOf cs .whole) (linesOf cs .rest)
-unfolding linesOf
-linesOf-other c cs h = rw (h, linesOf)
 
 -- its length is one more
 length-other : (c : ℕ) (cs : List ℕ) → eqb c lf ≡ false → lineLength (c ∷ cs) ≡ suc (lineLength cs)

@@ -9,6 +9,7 @@ use mathlib.Core.List.{List, [], _∷_}
 use lib.Dec.{ltb, eqb}
 use lib.ListN.{length, drop, length-drop, drop-of-length-le}
 use borrow.Author.Tests.{ltb-true, ltb-false}
+use Rattle.sheet_format.proofs.Bytes.{linesOf-other}
 use Rattle.sheet_format.specs.Limits.{tableNumbers}
 use Rattle.sheet_format.specs.Bytes.{lf, Lines, onLine, linesOf}
 use Rattle.sheet_format.specs.SheetLines.{parseLine}
@@ -25,7 +26,7 @@ use Rattle.table_decoding.proofs.Lines.{stands-empty, well-made, all-named}
 use Rattle.sheet_reader.specs.declared.sheet_lines.Read.{Read}
 use Rattle.sheet_reader.specs.declared.sheet_lines.Read.the-variants.{Done}
 use Rattle.sheet_reader.specs.Reader.{readOf, WellRead, NamedRead, nodesIn, nodeCount, goalOr, goalNamed, Counted, ReadContract, lineEnd, lineTaken, refusedRead, finished}
-use Rattle.sheet_reader.proofs.sheet_lines.Lines.{linesOf-lf, linesOf-other, line-at, open-at, end-within}
+use Rattle.sheet_reader.proofs.sheet_lines.Lines.{linesOf-lf, line-at, open-at, end-within}
 use Rattle.sheet_reader.proofs.sheet_lines.Steps.{between, next-adds, line-follows, EndsAt, line-last}
 
 -- the lines ahead

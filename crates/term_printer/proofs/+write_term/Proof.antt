@@ -30,7 +30,7 @@ use Rattle.machine_memory.proofs.words.name_of.Reads as name-of-reads
 use Rattle.machine_memory.proofs.words.node_of.Reads as node-of-reads
 use Rattle.machine_memory.proofs.words.tag_of.Reads as tag-of-reads
 use Rattle.machine_memory.proofs.words.word_of.Reads as word-of-reads
-use Rattle.term_printer.proofs.numbering.seek.Reads as seek-reads
+use Rattle.machine_memory.proofs.words.deref.Reads as deref-reads
 use Rattle.term_printer.proofs.cursor.show_constant_in.Reads as show-constant-in-reads
 use Rattle.term_printer.proofs.cursor.emit_in.Reads as emit-in-reads
 use Rattle.term_printer.proofs.cursor.write_name_in.Reads as write-name-in-reads
@@ -53,8 +53,8 @@ below t = and 7 kinds.ps (falls 7 kinds.ps _<_ μ t) own.Pre
 
 abbrev claims : ℕ → lts.Claims
 claims t = (
-  seek-reads.Asked,
-  seek-reads.Learnt,
+  deref-reads.Asked,
+  deref-reads.Learnt,
   tag-of-reads.Asked,
   tag-of-reads.Learnt,
   name-of-reads.Asked,
@@ -108,7 +108,7 @@ returns-3 t c =
     let at-if3 = at-show-variable-in .before .before .before .before .before in
     let at-if2 = at-if3 .before .before .before .before .before in (
       term-variable _ _ _ _ _ _ _ _ _ _ _ (at-if2 .before .before .before .if1 .left) (within _ (at-if2 .if2 .left))
-          (sought _ _ _ _ (at-if3 .before .before .seek .ensures)) (at-if3 .before .tag-of .ensures) _ _ (at-if3 .if3 .taken)
+          (sought _ _ _ _ (at-if3 .before .before .deref .ensures)) (at-if3 .before .tag-of .ensures) _ _ (at-if3 .if3 .taken)
           (at-show-variable-in .before .name-of .ensures) (at-show-variable-in .show-variable-in .ensures .0),
       at-show-variable-in .show-variable-in .ensures .1,
     )
@@ -119,7 +119,7 @@ returns-4 t c =
     let at-if4 = at-show-constant-in .before .before .before .before .before in
     let at-if2 = at-if4 .before .before .before .before .before .before in (
       term-constant _ _ _ _ _ _ _ _ _ _ _ (at-if2 .before .before .before .if1 .left) (within _ (at-if2 .if2 .left))
-          (sought _ _ _ _ (at-if4 .before .before .before .seek .ensures)) (at-if4 .before .before .tag-of .ensures) _ _
+          (sought _ _ _ _ (at-if4 .before .before .before .deref .ensures)) (at-if4 .before .before .tag-of .ensures) _ _
           (at-if4 .before .if3 .left) (at-if4 .if4 .taken) (at-show-constant-in .before .name-of2 .ensures)
           (at-show-constant-in .show-constant-in .ensures .0),
       at-show-constant-in .show-constant-in .ensures .1,
@@ -129,10 +129,10 @@ returns-5 : (t : ℕ) → lts.Need-returns-5 (claims t) (at t) own.Post Inv-loop
 returns-5 t c =
     let at-write-name-in = c .before .before .before .before .before in
     let at-node-of = at-write-name-in .before .before .before .before .before .before .before in
-    let at-seek = at-node-of .before .before .before .before in
-    let at-if1 = at-seek .before .before .before .before .before .before in (
-      term-bare _ _ _ _ _ _ _ _ _ _ _ (at-if1 .if1 .left) (within _ (at-seek .before .before .before .if2 .left))
-          (sought _ _ _ _ (at-seek .seek .ensures)) (at-node-of .before .before .before .tag-of .ensures) _ _ _ _
+    let at-deref = at-node-of .before .before .before .before in
+    let at-if1 = at-deref .before .before .before .before .before .before in (
+      term-bare _ _ _ _ _ _ _ _ _ _ _ (at-if1 .if1 .left) (within _ (at-deref .before .before .before .if2 .left))
+          (sought _ _ _ _ (at-deref .deref .ensures)) (at-node-of .before .before .before .tag-of .ensures) _ _ _ _
           (at-node-of .before .before .if3 .left) (at-node-of .before .if4 .left) (at-node-of .node-of .ensures)
           (at-write-name-in .before .label .ensures) (at-write-name-in .write-name-in .ensures .0 _) (c .before .child-count .ensures)
           (c .if5 .taken),
@@ -212,11 +212,11 @@ returns-6 t c =
     let at-child-count = at-loop-test .before .before .before .before in
     let at-write-name-in = at-child-count .before .before .before .before in
     let at-node-of = at-write-name-in .before .before .before .before .before .before .before in
-    let at-seek = at-node-of .before .before .before .before in
-    let at-if1 = at-seek .before .before .before .before .before .before in (
+    let at-deref = at-node-of .before .before .before .before in
+    let at-if1 = at-deref .before .before .before .before .before .before in (
       emit-same _ _ (at-loop-test .before .loop .inv .3) _ _ _ (c .before .before .emit-in2 .ensures .0 _)
-          ∙ sym (term-applied _ _ _ _ _ _ _ _ _ _ _ (at-if1 .if1 .left) (within _ (at-seek .before .before .before .if2 .left))
-          (sought _ _ _ _ (at-seek .seek .ensures)) (at-node-of .before .before .before .tag-of .ensures) _ _ _ _ _
+          ∙ sym (term-applied _ _ _ _ _ _ _ _ _ _ _ (at-if1 .if1 .left) (within _ (at-deref .before .before .before .if2 .left))
+          (sought _ _ _ _ (at-deref .deref .ensures)) (at-node-of .before .before .before .tag-of .ensures) _ _ _ _ _
           (at-node-of .before .before .if3 .left) (at-node-of .before .if4 .left) (at-node-of .node-of .ensures)
           (at-write-name-in .before .label .ensures) (at-write-name-in .write-name-in .ensures .0 _) (at-child-count .child-count .ensures)
           (at-loop-test .before .before .before .if5 .left) (at-loop-test .before .before .frame-of .ensures)

@@ -4,8 +4,9 @@ use native.Mathlib.Omega.{arith}
 use mathlib.Core.Path.{_≡_, _∙_, ap, subst}
 use mathlib.Core.List.{List, [], _∷_}
 use lib.ListN.{getD}
+use Rattle.machine.specs.Words.{deref}
 use Rattle.printing.specs.declared.Pen.{Pen}
-use Rattle.printing.specs.Marks.{Page, page, seek}
+use Rattle.printing.specs.Marks.{Page, page}
 use Rattle.printing.specs.WriteTerms.{emitTo, argumentsBy, writeTerm}
 use Rattle.term_printer.specs.State.{Bounds, stateOf, penIn, boundsIn}
 
@@ -38,7 +39,7 @@ module _ (s : List ℕ) where
   unfolding penIn boundsIn
   within h = h
 
-  pub sought : (w : List ℕ) (a b : ℕ) → b ≡ seek (getD s 3 0) w a → b ≡ seek (boundsIn s .turns) w a
+  pub sought : (w : List ℕ) (a b : ℕ) → b ≡ deref (getD s 3 0) w a → b ≡ deref (boundsIn s .turns) w a
   unfolding boundsIn
   sought w a b h = h
 

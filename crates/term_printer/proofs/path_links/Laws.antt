@@ -8,10 +8,11 @@ use mathlib.Core.List.{List}
 use borrow.Author.Tests.{eq-eqb, ne-eqb}
 use lib.Dec.{eqb}
 use Rattle.machine.specs.Fields as fields
-use Rattle.machine.specs.Records.{field, put, cellOf, putCell}
+use Rattle.machine.specs.Records.{cellOf, putCell}
 use Rattle.machine.specs.Words.{narrow, tagOf}
 use Rattle.printing.specs.Links.{linkWord, linked, linkPath, clearConstants, clearVariables, nextLineField}
 use Rattle.printing.specs.Marks.{constantNumberField}
+use Rattle.memory.specs.Records.{field, putField}
 
 -- Links.
 pub link-of : (p k a b r : ℕ) → a ≡ p → b ≡ k → r ≡ narrow (8 * a + b) → r ≡ linkWord p k
@@ -29,7 +30,7 @@ module _ (w : List ℕ) (p k e : ℕ) where
   link-first zero h = refl
   link-first (suc n) h = simp (linkPath, eq-eqb _ _ h)
 
-  pub link-on : (n u b l a : ℕ) (w′ : List ℕ) → 0 < n → (p ≡ 0 → ⊥) → u ≡ p - 1 → b ≡ field w u fields.pathBefore → l ≡ field w u fields.pathLine → w′ ≡ put w u nextLineField e → a ≡ linkWord p k → linkPath n w p k e ≡ linkPath (n - 1) w′ b l a
+  pub link-on : (n u b l a : ℕ) (w′ : List ℕ) → 0 < n → (p ≡ 0 → ⊥) → u ≡ p - 1 → b ≡ field w u fields.pathBefore → l ≡ field w u fields.pathLine → w′ ≡ putField w u nextLineField e → a ≡ linkWord p k → linkPath n w p k e ≡ linkPath (n - 1) w′ b l a
   unfolding linkPath
   link-on zero u b l a w′ h z eu eb el ew ea = absurd (omega arith)
   link-on (suc n) u b l a w′ h z eu eb el ew ea = rw (sub-one (suc n), ea, ew, el, eb, eu) (simp (linkPath, ne-eqb _ _ z))
@@ -40,7 +41,7 @@ unfolding clearConstants
 constants-end zero w h = refl
 constants-end (suc n) w h = absurd (omega arith)
 
-pub constants-on : (n : ℕ) (w w′ : List ℕ) → 0 < n → w′ ≡ put w (n - 1) constantNumberField 0 → clearConstants n w ≡ clearConstants (n - 1) w′
+pub constants-on : (n : ℕ) (w w′ : List ℕ) → 0 < n → w′ ≡ putField w (n - 1) constantNumberField 0 → clearConstants n w ≡ clearConstants (n - 1) w′
 unfolding clearConstants
 constants-on zero w w′ h e = absurd (omega arith)
 constants-on (suc n) w w′ h e = rw (e, sub-one (suc n))

@@ -1,5 +1,5 @@
+use Rattle.memory.proofs.Records.{and-put}
 use Rattle.line_checking.specs.Sequents.{putHypothesis}
-use Rattle.instances.proofs.frames.Laws.{and-put}
 use borrow.Author.Needs.{needs}
 use Rattle.checker_state.proofs.open_sequents.put_hypothesis.Statement.{statement}
 use Rattle.checker_state.proofs.open_sequents.put_hypothesis.Tie as tie

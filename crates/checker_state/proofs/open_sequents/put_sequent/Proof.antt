@@ -1,5 +1,5 @@
+use Rattle.memory.proofs.Records.{and-put}
 use Rattle.line_checking.specs.Sequents.{putSequent}
-use Rattle.instances.proofs.frames.Laws.{and-put}
 use borrow.Author.Needs.{needs}
 use Rattle.checker_state.proofs.open_sequents.put_sequent.Statement.{statement}
 use Rattle.checker_state.proofs.open_sequents.put_sequent.Tie as tie

@@ -6,7 +6,7 @@ use Rattle.clause_acts.proofs.backchaining.try_next.Tie as tie
 returns : tie.Need-returns
 unfolding tryNext
 returns c =
-    simp (tryNext, ← c .before .before .try-found .ensures, ← c .before .before .before .before .find-member .ensures, ← c .before .before .before .before .before .clause-of .ensures)
+    simp (tryNext, ← c .before .before .try-found .ensures, ← c .before .before .before .before .member .ensures, ← c .before .before .before .before .before .clause-of .ensures)
 
 pub try-next-spec : {M : Type 1} → statement M
 try-next-spec =

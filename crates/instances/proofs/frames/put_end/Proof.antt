@@ -1,11 +1,11 @@
-use Rattle.scanning.specs.Frames.{put}
 use borrow.Author.Needs.{needs}
+use Rattle.memory.specs.Records.{putField}
 use Rattle.instances.proofs.frames.put_end.Statement.{statement}
 use Rattle.instances.proofs.frames.put_end.Tie as tie
 
 returns : tie.Need-returns
-unfolding put
-returns c = simp (put, ← (c .before .before .put .ensures), ← (c .before .before .before .wide2 .ensures .0), ← (c .before .before .before .before .wide .ensures .0))
+unfolding putField
+returns c = simp (putField, ← (c .before .before .put .ensures), ← (c .before .before .before .wide2 .ensures .0), ← (c .before .before .before .before .wide .ensures .0))
 
 pub put-end-spec : {M : Type 1} → statement M
 put-end-spec =

@@ -1,4 +1,5 @@
-use Rattle.scanning.specs.Frames.{field, slotEnd}
+use Rattle.memory.specs.Records.{field}
+use Rattle.scanning.specs.Frames.{slotEnd}
 use borrow.Author.Needs.{needs}
 use Rattle.instances.proofs.frames.slot_end.Statement.{statement}
 use Rattle.instances.proofs.frames.slot_end.Tie as tie

@@ -1,4 +1,5 @@
-use Rattle.scanning.specs.Frames.{field, slotStart}
+use Rattle.memory.specs.Records.{field}
+use Rattle.scanning.specs.Frames.{slotStart}
 use borrow.Author.Needs.{needs}
 use Rattle.instances.proofs.frames.slot_start.Statement.{statement}
 use Rattle.instances.proofs.frames.slot_start.Tie as tie

@@ -1,12 +1,12 @@
-use Rattle.machine.specs.Records.{put}
 use borrow.Author.Needs.{needs}
+use Rattle.memory.specs.Records.{putField}
 use Rattle.machine_memory.proofs.cells.put_slot.Statement.{statement}
 use Rattle.machine_memory.proofs.cells.put_slot.Tie as tie
 
 returns : tie.Need-returns
-unfolding put
+unfolding putField
 returns c =
-    simp (put, ← c .before .before .put .ensures, ← c .before .before .before .wide2 .ensures .0, ← c .before .before .before .before .wide .ensures .0)
+    simp (putField, ← c .before .before .put .ensures, ← c .before .before .before .wide2 .ensures .0, ← c .before .before .before .before .wide .ensures .0)
 
 pub put-slot-spec : {M : Type 1} → statement M
 put-slot-spec =

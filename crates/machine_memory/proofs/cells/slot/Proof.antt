@@ -1,5 +1,5 @@
-use Rattle.machine.specs.Records.{field}
 use borrow.Author.Needs.{needs}
+use Rattle.memory.specs.Records.{field}
 use Rattle.machine_memory.proofs.cells.slot.Statement.{statement}
 use Rattle.machine_memory.proofs.cells.slot.Tie as tie
 

@@ -1,5 +1,5 @@
+use Rattle.memory.proofs.Records.{and-put}
 use Rattle.machine.specs.Records.{putChosen}
-use Rattle.machine_memory.proofs.records.Laws.{and-put}
 use borrow.Author.Needs.{needs}
 use Rattle.machine_memory.proofs.records.put_chosen.Statement.{statement}
 use Rattle.machine_memory.proofs.records.put_chosen.Tie as tie

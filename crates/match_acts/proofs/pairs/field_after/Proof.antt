@@ -1,5 +1,5 @@
 use borrow.Author.Needs.{needs}
-use Rattle.machine.specs.Records.{field}
+use Rattle.memory.specs.Records.{field}
 use Rattle.match_acts.proofs.pairs.field_after.Statement.{statement}
 use Rattle.match_acts.proofs.pairs.field_after.Tie as tie
 

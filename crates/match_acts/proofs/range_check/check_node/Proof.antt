@@ -6,7 +6,7 @@ use Rattle.match_acts.proofs.range_check.check_node.Tie as tie
 returns : tie.Need-returns
 unfolding checkNode
 returns c =
-    simp (checkNode, ← c .before .before .visit-word .ensures, ← c .before .before .before .before .look-word .ensures, ← c .before .before .before .before .before .due-word .ensures, ← c .before .before .before .before .before .before .before .nodes-after .ensures)
+    simp (checkNode, ← c .before .before .visit-word .ensures, ← c .before .before .before .before .deref .ensures, ← c .before .before .before .before .before .due-word .ensures, ← c .before .before .before .before .before .before .before .nodes-after .ensures)
 
 pub check-node-spec : {M : Type 1} → statement M
 check-node-spec =

@@ -1,0 +1,4 @@
+-- What is found in the table are the members of the clause that the table stands for.
+pub mod Prefixes
+pub mod Members
+pub mod Laws

@@ -1,0 +1,2 @@
+-- The members of a clause in the table, as the code finds them.
+pub mod Members

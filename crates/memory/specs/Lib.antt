@@ -1,0 +1,2 @@
+-- Records of 64 numbers in a lent work buffer.
+pub mod Records
