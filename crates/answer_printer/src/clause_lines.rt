@@ -15,32 +15,36 @@ ghost use Prim.Native.Nat.{_+_, _<_, _≤_};
 ghost use Rattle.printing.specs.Marks.{page};
 ghost use Rattle.printing.specs.WriteLines.{prefixTo, clauseTo};
 use memory::field;
+use term_printer::Bounds;
 
-// The terms of a prefix: n variables from x on.
+// So many variables, from the first on.
+pub struct Variables {
+    pub first: usize,
+    pub count: u32,
+}
+
+// The terms of a prefix.
 pub fn prefix_to(
     sheet: &[u8],
     t: &[u32],
-    turns: u32,
-    limit: u32,
-    n: u32,
+    bounds: Bounds,
     w: &mut [u32],
     out: &mut [u8],
     p: Pen,
-    x: usize,
+    prefix: Variables,
 ) -> Pen
-    requires { ⌜ (limit ≤ 65535) × (x + n < 8589934592) ⌝ }
-    ensures { λ q. ⌜ page (now (w .exit)) (now (out .exit)) q ≡ prefixTo (now (sheet .entry)) (now (t .entry)) turns limit n (page (now (w .entry)) (now (out .entry)) p) x ⌝ }
+    requires { ⌜ (bounds .limit ≤ 65535) × (prefix .first + prefix .count < 8589934592) ⌝ }
+    ensures { λ q. ⌜ page (now (w .exit)) (now (out .exit)) q ≡ prefixTo (now (sheet .entry)) (now (t .entry)) (bounds .turns) (bounds .limit) (prefix .count) (page (now (w .entry)) (now (out .entry)) p) (prefix .first) ⌝ }
 {
-    let mut left = n;
-    let mut next = x;
+    let mut left = prefix.count;
+    let mut next = prefix.first;
     let mut q = p;
     while 0 < left {
-        let e = emit_to(limit, out, q, b'\t');
+        let e = emit_to(bounds.limit, out, q, b'\t');
         q = term_to(
             sheet,
             t,
-            turns,
-            limit,
+            bounds,
             w,
             out,
             e,
@@ -56,21 +60,22 @@ pub fn prefix_to(
 pub fn clause_to(
     sheet: &[u8],
     t: &[u32],
-    turns: u32,
-    limit: u32,
+    bounds: Bounds,
     w: &mut [u32],
     out: &mut [u8],
     p: Pen,
     u: u32,
 ) -> Pen
-    requires { ⌜ limit ≤ 65535 ⌝ }
-    ensures { λ q. ⌜ page (now (w .exit)) (now (out .exit)) q ≡ clauseTo (now (sheet .entry)) (now (t .entry)) turns limit (page (now (w .entry)) (now (out .entry)) p) u ⌝ }
+    requires { ⌜ bounds .limit ≤ 65535 ⌝ }
+    ensures { λ q. ⌜ page (now (w .exit)) (now (out .exit)) q ≡ clauseTo (now (sheet .entry)) (now (t .entry)) (bounds .turns) (bounds .limit) (page (now (w .entry)) (now (out .entry)) p) u ⌝ }
 {
     let place = field(w, u, fields::USE_PLACE);
     let count = field(w, u, fields::USE_COUNT);
     let first = wide(field(w, u, fields::VARIABLES));
+    let prefix = Variables { first, count };
+    let limit = bounds.limit;
     let mut q = bytes_to(limit, out, p, b"D\tclause\t");
     q = number_to(limit, out, q, place);
-    q = prefix_to(sheet, t, turns, limit, count, w, out, q, first);
+    q = prefix_to(sheet, t, bounds, w, out, q, prefix);
     emit_to(limit, out, q, b'\n')
 }

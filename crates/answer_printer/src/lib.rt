@@ -24,38 +24,32 @@ ghost use Rattle.machine.specs.Records.{made};
 ghost use Rattle.printing.specs.Marks.{page};
 ghost use Rattle.printing.specs.Links.{linked};
 ghost use Rattle.printing.specs.Writer.{proofPass, prepare, firstLink, answered, writePass, writeProof};
+use term_printer::Bounds;
 
-// The text of a proved search: the path begins at link e.
+// A proved search: the node of its goal, the units, and the link to the first line of its path.
+pub struct Proved {
+    pub goal: u32,
+    pub units: u32,
+    pub path: u32,
+}
+
+// The text of a proved search.
 pub fn proof_pass(
     sheet: &[u8],
     t: &[u32],
-    turns: u32,
-    limit: u32,
-    goal: u32,
-    units: u32,
-    e: u32,
+    bounds: Bounds,
+    proved: Proved,
     w: &mut [u32],
     out: &mut [u8],
     p: Pen,
 ) -> Pen
-    requires { ⌜ limit ≤ 65535 ⌝ }
-    ensures { λ q. ⌜ page (now (w .exit)) (now (out .exit)) q ≡ proofPass (now (sheet .entry)) (now (t .entry)) turns limit goal units e (page (now (w .entry)) (now (out .entry)) p) ⌝ }
+    requires { ⌜ bounds .limit ≤ 65535 ⌝ }
+    ensures { λ q. ⌜ page (now (w .exit)) (now (out .exit)) q ≡ proofPass (now (sheet .entry)) (now (t .entry)) (bounds .turns) (bounds .limit) (proved .goal) (proved .units) (proved .path) (page (now (w .entry)) (now (out .entry)) p) ⌝ }
 {
-    let bits = mask(t, goal);
-    let mut q = result_to(limit, out, p, b"R\tproved\t", units);
-    q = bindings_to(
-        sheet,
-        t,
-        turns,
-        limit,
-        limits::VARIABLE_NAMES,
-        bits,
-        0,
-        w,
-        out,
-        q,
-    );
-    lines_to(sheet, t, turns, limit, turns, w, out, q, e)
+    let bits = mask(t, proved.goal);
+    let mut q = result_to(bounds.limit, out, p, b"R\tproved\t", proved.units);
+    q = bindings_to(sheet, t, bounds, bits, w, out, q);
+    lines_to(sheet, t, bounds, w, out, q, proved.path)
 }
 
 // Links the path in the order taken, and clears the numbers of constants; the result is the link to the first line.
@@ -72,19 +66,16 @@ pub fn prepare(w: &mut [u32], r: Registers) -> u32
 pub fn write_pass(
     sheet: &[u8],
     t: &[u32],
-    turns: u32,
-    limit: u32,
-    goal: u32,
-    units: u32,
-    e: u32,
+    bounds: Bounds,
+    proved: Proved,
     w: &mut [u32],
     p: Pen,
     out: &mut [u8],
 ) -> u32
-    requires { ⌜ limit ≤ 65535 ⌝ }
-    ensures { λ n. ⌜ ((b : List ℕ) → answered (now (w .exit)) (now (out .exit)) n ≡ writePass (now (sheet .entry)) (now (t .entry)) turns limit goal units e (page (now (w .entry)) b p) (now (out .entry))) ⌝ }
+    requires { ⌜ bounds .limit ≤ 65535 ⌝ }
+    ensures { λ n. ⌜ ((b : List ℕ) → answered (now (w .exit)) (now (out .exit)) n ≡ writePass (now (sheet .entry)) (now (t .entry)) (bounds .turns) (bounds .limit) (proved .goal) (proved .units) (proved .path) (page (now (w .entry)) b p) (now (out .entry))) ⌝ }
 {
-    let q = proof_pass(sheet, t, turns, limit, goal, units, e, w, out, on_at(p, 0));
+    let q = proof_pass(sheet, t, bounds, proved, w, out, on_at(p, 0));
     q.at
 }
 
@@ -101,16 +92,20 @@ pub fn write_proof(
     ensures { λ n. ⌜ answered (now (w .exit)) (now (out .exit)) n ≡ writeProof (now (sheet .entry)) (now (t .entry)) goal (made (now (w .entry)) r) units (now (out .entry)) ⌝ }
 {
     let limit = text_limit(out);
-    let acts = r.acts;
-    let e = prepare(w, r);
+    let bounds = Bounds {
+        turns: r.acts,
+        limit,
+    };
+    let path = prepare(w, r);
+    let proved = Proved { goal, units, path };
     let p = Pen {
         at: 0,
         variables: 0,
         constants: 0,
     };
-    let g = proof_pass(sheet, t, acts, limit, goal, units, e, w, &mut out[..0], p);
+    let g = proof_pass(sheet, t, bounds, proved, w, &mut out[..0], p);
     if limit < g.at {
         return printing::NO_ROOM;
     }
-    write_pass(sheet, t, acts, limit, goal, units, e, w, g, out)
+    write_pass(sheet, t, bounds, proved, w, g, out)
 }

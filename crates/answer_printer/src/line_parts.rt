@@ -1,6 +1,7 @@
 // The parts of the lines of an answer. Each function is a definition of the crate printing, and its contract says so; a
 // function that leaves the work buffer alone says so for any memory.
 use printing::Pen;
+use term_printer::Bounds;
 use term_printer::cursor::emit_to;
 use term_printer::numbering::on_at;
 use term_printer::output::write_bytes;
@@ -10,7 +11,9 @@ ghost use mathlib.Core.Path.{_≡_};
 ghost use mathlib.Core.List.{List};
 ghost use Prim.Native.Nat.{ℕ, _≤_};
 ghost use Rattle.printing.specs.Marks.{page};
-ghost use Rattle.printing.specs.WriteLines.{bytesTo, numberTo, resultTo, termLine};
+ghost use Rattle.sheet_format.specs.Bytes.{lf};
+ghost use Rattle.printing.specs.WriteTerms.{emitTo, termTo};
+ghost use Rattle.printing.specs.WriteLines.{bytesTo, numberTo, resultTo};
 
 pub fn bytes_to(limit: u32, out: &mut [u8], p: Pen, bs: &[u8]) -> Pen
     ensures { λ q. ⌜ ((m : List ℕ) → page m (now (out .exit)) q ≡ bytesTo limit (page m (now (out .entry)) p) (now (bs .entry))) ⌝ }
@@ -35,22 +38,19 @@ pub fn result_to(limit: u32, out: &mut [u8], p: Pen, bs: &[u8], units: u32) -> P
     emit_to(limit, out, q, b'\n')
 }
 
-// A line of these bytes and the term of word a.
-pub fn term_line(
+// The term of word a, which ends its line.
+pub fn last_term(
     sheet: &[u8],
     t: &[u32],
-    turns: u32,
-    limit: u32,
+    bounds: Bounds,
     w: &mut [u32],
     out: &mut [u8],
     p: Pen,
-    bs: &[u8],
     a: u32,
 ) -> Pen
-    requires { ⌜ limit ≤ 65535 ⌝ }
-    ensures { λ q. ⌜ page (now (w .exit)) (now (out .exit)) q ≡ termLine (now (sheet .entry)) (now (t .entry)) turns limit (page (now (w .entry)) (now (out .entry)) p) (now (bs .entry)) a ⌝ }
+    requires { ⌜ bounds .limit ≤ 65535 ⌝ }
+    ensures { λ q. ⌜ page (now (w .exit)) (now (out .exit)) q ≡ emitTo (bounds .limit) (termTo (now (sheet .entry)) (now (t .entry)) (bounds .turns) (bounds .limit) (page (now (w .entry)) (now (out .entry)) p) a) lf ⌝ }
 {
-    let mut q = bytes_to(limit, out, p, bs);
-    q = term_to(sheet, t, turns, limit, w, out, q, a);
-    emit_to(limit, out, q, b'\n')
+    let q = term_to(sheet, t, bounds, w, out, p, a);
+    emit_to(bounds.limit, out, q, b'\n')
 }

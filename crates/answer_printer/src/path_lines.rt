@@ -2,7 +2,6 @@
 // printing, and its contract says so.
 use super::clause_lines::clause_to;
 use super::line_parts::bytes_to;
-use super::line_parts::term_line;
 use machine::fields;
 use machine::lines;
 use machine_memory::cells::record_of;
@@ -14,7 +13,9 @@ ghost use mathlib.Core.List.{List};
 ghost use Prim.Native.Nat.{ℕ, _%_, _<_, _≤_};
 ghost use Rattle.printing.specs.Marks.{page};
 ghost use Rattle.printing.specs.WriteLines.{bytesTo, plainBytes, lineTo, linesTo};
+use super::line_parts::last_term;
 use memory::field;
+use term_printer::Bounds;
 
 // The five lines that have no term.
 pub fn plain_to(limit: u32, out: &mut [u8], p: Pen, k: u32) -> Pen
@@ -35,51 +36,58 @@ pub fn plain_to(limit: u32, out: &mut [u8], p: Pen, k: u32) -> Pen
     bytes_to(limit, out, p, b"D\tassume\n")
 }
 
-// The line of kind k in record u.
+// A line of the path: its record, and its kind.
+pub struct PathLine {
+    pub record: u32,
+    pub kind: u32,
+}
+
+// The line.
 pub fn line_to(
     sheet: &[u8],
     t: &[u32],
-    turns: u32,
-    limit: u32,
+    bounds: Bounds,
     w: &mut [u32],
     out: &mut [u8],
     p: Pen,
-    u: u32,
-    k: u32,
+    line: PathLine,
 ) -> Pen
-    requires { ⌜ limit ≤ 65535 ⌝ }
-    ensures { λ q. ⌜ page (now (w .exit)) (now (out .exit)) q ≡ lineTo (now (sheet .entry)) (now (t .entry)) turns limit (page (now (w .entry)) (now (out .entry)) p) u k ⌝ }
+    requires { ⌜ bounds .limit ≤ 65535 ⌝ }
+    ensures { λ q. ⌜ page (now (w .exit)) (now (out .exit)) q ≡ lineTo (now (sheet .entry)) (now (t .entry)) (bounds .turns) (bounds .limit) (page (now (w .entry)) (now (out .entry)) p) (line .record) (line .kind) ⌝ }
 {
+    let limit = bounds.limit;
+    let u = line.record;
+    let k = line.kind;
     if k < lines::SOME {
         return plain_to(limit, out, p, k);
     }
     if k == lines::SOME {
         let a = variable_word(field(w, u, fields::VARIABLES));
-        return term_line(sheet, t, turns, limit, w, out, p, b"D\tsome\t", a);
+        let q = bytes_to(limit, out, p, b"D\tsome\t");
+        return last_term(sheet, t, bounds, w, out, q, a);
     }
     if k == lines::ALL {
         let a = constant_word(u);
-        return term_line(sheet, t, turns, limit, w, out, p, b"D\tall\t", a);
+        let q = bytes_to(limit, out, p, b"D\tall\t");
+        return last_term(sheet, t, bounds, w, out, q, a);
     }
-    clause_to(sheet, t, turns, limit, w, out, p, u)
+    clause_to(sheet, t, bounds, w, out, p, u)
 }
 
-// The lines from link e on, at most n of them.
+// The lines from link e on, at most so many as bindings are looked through.
 pub fn lines_to(
     sheet: &[u8],
     t: &[u32],
-    turns: u32,
-    limit: u32,
-    n: u32,
+    bounds: Bounds,
     w: &mut [u32],
     out: &mut [u8],
     p: Pen,
     e: u32,
 ) -> Pen
-    requires { ⌜ limit ≤ 65535 ⌝ }
-    ensures { λ q. ⌜ page (now (w .exit)) (now (out .exit)) q ≡ linesTo (now (sheet .entry)) (now (t .entry)) turns limit n (page (now (w .entry)) (now (out .entry)) p) e ⌝ }
+    requires { ⌜ bounds .limit ≤ 65535 ⌝ }
+    ensures { λ q. ⌜ page (now (w .exit)) (now (out .exit)) q ≡ linesTo (now (sheet .entry)) (now (t .entry)) (bounds .turns) (bounds .limit) (bounds .turns) (page (now (w .entry)) (now (out .entry)) p) e ⌝ }
 {
-    let mut left = n;
+    let mut left = bounds.turns;
     let mut link = e;
     let mut q = p;
     while 0 < left {
@@ -89,17 +97,11 @@ pub fn lines_to(
         }
         let u = record_of(pointer);
         let next = field(w, u, printing::fields::NEXT_LINE);
-        q = line_to(
-            sheet,
-            t,
-            turns,
-            limit,
-            w,
-            out,
-            q,
-            u,
-            link % printing::LINE_CODES,
-        );
+        let line = PathLine {
+            record: u,
+            kind: link % printing::LINE_CODES,
+        };
+        q = line_to(sheet, t, bounds, w, out, q, line);
         link = next;
         left -= 1;
     }

@@ -17,6 +17,7 @@ ghost use Rattle.checker_spec.specs.CheckText.{countLf, checkSheet};
 ghost use Rattle.checker_spec.specs.Promises.{handedBack, CheckContract};
 ghost use Rattle.checker_spec.specs.Handed.{handed};
 ghost use Rattle.checker_spec.specs.Checking.{earlyNumber, refusedCheck, verdictAt};
+use checker_state::Shape;
 
 const MAX_BYTES: usize = limits::MAX_TEXT_BYTES as usize;
 
@@ -76,7 +77,12 @@ fn judge_sheet(sheet: &[u8], text: &[u8], t: &mut [u32], w: &mut [u32]) -> Verdi
     let read = sheet_reader::read_sheet(sheet, t);
     match read {
         Read::Done(k, goal) => {
-            let line = text_checker::judge_text(sheet, t, k.symbols, k.clauses, goal, text, w);
+            let shape = Shape {
+                symbols: k.symbols,
+                clauses: k.clauses,
+                goal,
+            };
+            let line = text_checker::judge_text(sheet, t, shape, text, w);
             verdict_at(line)
         }
         Read::Refused(f) => refused(f.number, f.line),

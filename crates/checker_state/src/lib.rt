@@ -2,3 +2,17 @@
 pub mod open_sequents;
 pub mod places;
 pub mod registers;
+
+// What the table of the sheet has: how many symbols and clauses, and the node of the goal.
+pub struct Shape {
+    pub symbols: u32,
+    pub clauses: u32,
+    pub goal: u32,
+}
+
+// A line of the text: its number, counted from 0, the position reached in it, and where it ends.
+pub struct Line {
+    pub number: u32,
+    pub at: usize,
+    pub end: usize,
+}

@@ -21,17 +21,24 @@ ghost use mathlib.Core.Bool.{cond};
 ghost use lib.Dec.{eqb};
 ghost use lib.ListN.{getD};
 ghost use Rattle.scanning.specs.Instances.{sameSlots, alongRange, alongName, alongSlot, along, isInstance};
+use super::Instance;
 
-// Whether the terms of the text from s to e and from i to j are the same.
-pub fn same_slots(text: &[u8], s: usize, e: usize, i: usize, j: usize) -> bool
-    ensures { λ r. ⌜ r ≡ sameSlots (now (text .entry)) s e i j ⌝ }
+// A range of the text.
+pub struct Range {
+    pub start: usize,
+    pub end: usize,
+}
+
+// Whether the terms in two ranges of the text are the same.
+pub fn same_slots(text: &[u8], a: Range, b: Range) -> bool
+    ensures { λ r. ⌜ r ≡ sameSlots (now (text .entry)) (a .start) (a .end) (b .start) (b .end) ⌝ }
 {
-    if s == i {
+    if a.start == b.start {
         return true;
     }
-    let n = monus(e, s);
-    if n == monus(j, i) {
-        return same_range(n, text, s, text, i);
+    let n = monus(a.end, a.start);
+    if n == monus(b.end, b.start) {
+        return same_range(n, text, a.start, text, b.start);
     }
     false
 }
@@ -76,25 +83,25 @@ fn along_close(text: &[u8], i: usize) -> Reach
     Reach::Differs
 }
 
-// Whether the instance of node m in frame g stands at place i, and where it ends. The rank is above the node's number.
+// Whether the instance stands at place i, and where it ends. The rank is above the node's number.
 fn along_instance(
     rank: u32,
     sheet: &[u8],
     t: &[u32],
     text: &[u8],
     w: &[u32],
-    g: u32,
-    m: u32,
+    instance: Instance,
     i: usize,
 ) -> Reach
-    ensures { λ r. ⌜ r ≡ along rank (now (sheet .entry)) (now (t .entry)) (now (text .entry)) (now (w .entry)) g m i ⌝ }
+    ensures { λ r. ⌜ r ≡ along rank (now (sheet .entry)) (now (t .entry)) (now (text .entry)) (now (w .entry)) (instance .frame) (instance .node) i ⌝ }
 {
     if rank == 0 {
         return Reach::Differs;
     }
+    let m = instance.node;
     let name = label(t, m);
     if kind(t, m) == kinds::VARIABLE {
-        return along_slot(text, w, g, name, i);
+        return along_slot(text, w, instance.frame, name, i);
     }
     let Reach::To(e) = along_name(sheet, t, name, text, i) else {
         return Reach::Differs;
@@ -108,16 +115,11 @@ fn along_instance(
     let mut mark = b'(';
     while 0 < left {
         if byte(text, at) == mark {
-            let Reach::To(p) = along_instance(
-                rank - 1,
-                sheet,
-                t,
-                text,
-                w,
-                g,
-                child(t, m, j),
-                at + 1,
-            ) else {
+            let part = Instance {
+                node: child(t, m, j),
+                frame: instance.frame,
+            };
+            let Reach::To(p) = along_instance(rank - 1, sheet, t, text, w, part, at + 1) else {
                 return Reach::Differs;
             };
             at = p;
@@ -131,21 +133,19 @@ fn along_instance(
     along_close(text, at)
 }
 
-// Whether the term of the text from s to e is the instance of node m in frame g.
+// Whether the term in the range of the text is the instance.
 pub fn is_instance(
     sheet: &[u8],
     t: &[u32],
     text: &[u8],
     w: &[u32],
-    s: usize,
-    e: usize,
-    g: u32,
-    m: u32,
+    range: Range,
+    instance: Instance,
 ) -> bool
-    ensures { λ r. ⌜ r ≡ isInstance (now (sheet .entry)) (now (t .entry)) (now (text .entry)) (now (w .entry)) s e g m ⌝ }
+    ensures { λ r. ⌜ r ≡ isInstance (now (sheet .entry)) (now (t .entry)) (now (text .entry)) (now (w .entry)) (range .start) (range .end) (instance .frame) (instance .node) ⌝ }
 {
-    let Reach::To(i) = along_instance(limits::MAX_NODES, sheet, t, text, w, g, m, s) else {
+    let Reach::To(i) = along_instance(limits::MAX_NODES, sheet, t, text, w, instance, range.start) else {
         return false;
     };
-    i == e
+    i == range.end
 }

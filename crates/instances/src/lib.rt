@@ -21,7 +21,21 @@ const NODES: usize = limits::MAX_NODES as usize;
 
 const OTHER_SIDE: u32 = class_elements::FIRST_APPLICATION + 1;
 
-// Whether the elements i and j have the same term; c has the classes. The rank is above the depth of the term. Each call goes down to an
+// An instance of a sheet term: a node of the table, with a frame for its names.
+pub struct Instance {
+    pub node: u32,
+    pub frame: u32,
+}
+
+// Two elements, with the frames of the two sides.
+pub struct Pair {
+    pub left: u32,
+    pub right: u32,
+    pub first: u32,
+    pub second: u32,
+}
+
+// Whether two elements have the same term; c has the classes. The rank is above the depth of the term. Each call goes down to an
 // argument, whose term is smaller, so no application is met twice on the way: at most 2,048 calls are open at a time.
 fn same_elements(
     rank: usize,
@@ -29,45 +43,51 @@ fn same_elements(
     t: &[u32],
     text: &[u8],
     w: &[u32],
-    f: u32,
-    g: u32,
     c: &mut [u32],
-    i: u32,
-    j: u32,
+    pair: Pair,
 ) -> bool
-    ensures { λ r. ⌜ compared (now (c .exit)) r ≡ sameElements rank (now (sheet .entry)) (now (t .entry)) (now (text .entry)) (now (w .entry)) f g (now (c .entry)) i j ⌝ }
+    ensures { λ r. ⌜ compared (now (c .exit)) r ≡ sameElements rank (now (sheet .entry)) (now (t .entry)) (now (text .entry)) (now (w .entry)) (pair .left) (pair .right) (now (c .entry)) (pair .first) (pair .second) ⌝ }
 {
     if rank == 0 {
         return false;
     }
-    let a = root_of(c, i);
-    let b = root_of(c, j);
+    let f = pair.left;
+    let g = pair.right;
+    let a = root_of(c, pair.first);
+    let b = root_of(c, pair.second);
     if a == b {
         return true;
     }
     if a < class_elements::FIRST_APPLICATION {
-        return join_name(sheet, t, text, w, f, g, c, a, b);
+        let named = Pair {
+            left: f,
+            right: g,
+            first: a,
+            second: b,
+        };
+        return join_name(sheet, t, text, w, c, named);
     }
     if b < class_elements::FIRST_APPLICATION {
-        return join_name(sheet, t, text, w, f, g, c, b, a);
+        let named = Pair {
+            left: f,
+            right: g,
+            first: b,
+            second: a,
+        };
+        return join_name(sheet, t, text, w, c, named);
     }
     let m = a / 2 % limits::MAX_NODES;
     if label(t, m) == label(t, b / 2 % limits::MAX_NODES) {
         let mut children = child_count(t, m);
         let mut k: u32 = 0;
         while 0 < children {
-            if same_elements(
-                rank - 1,
-                sheet,
-                t,
-                text,
-                w,
-                f,
-                g,
-                c,
-                child_of(t, a, k),
-                child_of(t, b, k),
-            ) {
+            let parts = Pair {
+                left: f,
+                right: g,
+                first: child_of(t, a, k),
+                second: child_of(t, b, k),
+            };
+            if same_elements(rank - 1, sheet, t, text, w, c, parts) {
                 k += 1;
                 children -= 1;
             } else {
@@ -80,30 +100,23 @@ fn same_elements(
     false
 }
 
-// Whether the atoms at the nodes k and m, in the frames f and g, are the same.
+// Whether two atoms, instances of the nodes of two atoms, are the same.
 pub fn same_atoms(
     sheet: &[u8],
     t: &[u32],
     text: &[u8],
     w: &[u32],
-    f: u32,
-    g: u32,
-    k: u32,
-    m: u32,
+    left: Instance,
+    right: Instance,
 ) -> bool
-    ensures { λ r. ⌜ r ≡ sameAtoms (now (sheet .entry)) (now (t .entry)) (now (text .entry)) (now (w .entry)) f g k m ⌝ }
+    ensures { λ r. ⌜ r ≡ sameAtoms (now (sheet .entry)) (now (t .entry)) (now (text .entry)) (now (w .entry)) (left .frame) (right .frame) (left .node) (right .node) ⌝ }
 {
     let mut c = [0u32; class_elements::COUNT];
-    same_elements(
-        NODES + text.len(),
-        sheet,
-        t,
-        text,
-        w,
-        f,
-        g,
-        &mut c,
-        2 * (k % limits::MAX_NODES) + class_elements::FIRST_APPLICATION,
-        2 * (m % limits::MAX_NODES) + OTHER_SIDE,
-    )
+    let atoms = Pair {
+        left: left.frame,
+        right: right.frame,
+        first: 2 * (left.node % limits::MAX_NODES) + class_elements::FIRST_APPLICATION,
+        second: 2 * (right.node % limits::MAX_NODES) + OTHER_SIDE,
+    };
+    same_elements(NODES + text.len(), sheet, t, text, w, &mut c, atoms)
 }

@@ -16,6 +16,9 @@ ghost use mathlib.Core.Path.{_≡_};
 ghost use Prim.Native.Nat.{_+_, _-_, _<_};
 ghost use Rattle.scanning.specs.Classes.{elementOf, elementChild, frameOn, rooted, rootOf};
 ghost use Rattle.scanning.specs.Instances.{compared, startOf, endOf, sameName, joinName};
+use super::Instance;
+use super::Pair;
+use super::instance_ranges::Range;
 
 // The element of node m on side s.
 fn element_of(t: &[u32], s: u32, m: u32) -> u32
@@ -80,52 +83,38 @@ fn end_of(w: &[u32], f: u32, g: u32, i: u32) -> usize
     wide(slot_end(w, frame_on(f, g, i % 2), i / 2 % limits::VARIABLE_NAMES))
 }
 
-// Whether the term of name i is that of element j.
-fn same_name(
-    sheet: &[u8],
-    t: &[u32],
-    text: &[u8],
-    w: &[u32],
-    f: u32,
-    g: u32,
-    i: u32,
-    j: u32,
-) -> bool
-    ensures { λ r. ⌜ r ≡ sameName (now (sheet .entry)) (now (t .entry)) (now (text .entry)) (now (w .entry)) f g i j ⌝ }
+// Whether the first element, a name, has the term of the second.
+fn same_name(sheet: &[u8], t: &[u32], text: &[u8], w: &[u32], pair: Pair) -> bool
+    ensures { λ r. ⌜ r ≡ sameName (now (sheet .entry)) (now (t .entry)) (now (text .entry)) (now (w .entry)) (pair .left) (pair .right) (pair .first) (pair .second) ⌝ }
 {
-    let s = start_of(w, f, g, i);
-    let e = end_of(w, f, g, i);
+    let f = pair.left;
+    let g = pair.right;
+    let i = pair.first;
+    let j = pair.second;
+    let range = Range {
+        start: start_of(w, f, g, i),
+        end: end_of(w, f, g, i),
+    };
     if j < class_elements::FIRST_APPLICATION {
-        return same_slots(text, s, e, start_of(w, f, g, j), end_of(w, f, g, j));
+        let other = Range {
+            start: start_of(w, f, g, j),
+            end: end_of(w, f, g, j),
+        };
+        return same_slots(text, range, other);
     }
-    is_instance(
-        sheet,
-        t,
-        text,
-        w,
-        s,
-        e,
-        frame_on(f, g, j % 2),
-        j / 2 % limits::MAX_NODES,
-    )
+    let instance = Instance {
+        node: j / 2 % limits::MAX_NODES,
+        frame: frame_on(f, g, j % 2),
+    };
+    is_instance(sheet, t, text, w, range, instance)
 }
 
-// The same; if so, name i joins the class of element j.
-pub fn join_name(
-    sheet: &[u8],
-    t: &[u32],
-    text: &[u8],
-    w: &[u32],
-    f: u32,
-    g: u32,
-    c: &mut [u32],
-    i: u32,
-    j: u32,
-) -> bool
-    ensures { λ r. ⌜ compared (now (c .exit)) r ≡ joinName (now (sheet .entry)) (now (t .entry)) (now (text .entry)) (now (w .entry)) f g (now (c .entry)) i j ⌝ }
+// The same; if so, the name joins the class of the second element.
+pub fn join_name(sheet: &[u8], t: &[u32], text: &[u8], w: &[u32], c: &mut [u32], pair: Pair) -> bool
+    ensures { λ r. ⌜ compared (now (c .exit)) r ≡ joinName (now (sheet .entry)) (now (t .entry)) (now (text .entry)) (now (w .entry)) (pair .left) (pair .right) (now (c .entry)) (pair .first) (pair .second) ⌝ }
 {
-    if same_name(sheet, t, text, w, f, g, i, j) {
-        put(c, wide(i), j);
+    if same_name(sheet, t, text, w, pair) {
+        put(c, wide(pair.first), pair.second);
         return true;
     }
     false

@@ -12,27 +12,28 @@ ghost use mathlib.Core.Path.{_≡_};
 ghost use Prim.Native.Nat.{_+_, _<_};
 ghost use Rattle.line_checking.specs.Sequents.{made};
 ghost use Rattle.line_checking.specs.Bindings.{bindWith, bindTerm, bindsVariable, bindLine};
+use checker_state::Line;
+use checker_state::Shape;
 
 const ZERO: usize = b'0' as usize;
 
-// The term of the variable that is due, from i to j, is of level k; line q ends at e.
+// The term of the variable that is due, up to j, is of level k.
 pub fn bind_with(
     t: &[u32],
     goal: u32,
     w: &mut [u32],
     r: Registers,
-    q: u32,
-    i: usize,
+    line: Line,
     j: usize,
     k: u32,
-    e: usize,
 ) -> Registers
-    requires { ⌜ (i < 4294967296) × (e < 4294967296) ⌝ }
-    ensures { λ s. ⌜ made (now (w .exit)) s ≡ bindWith (now (t .entry)) goal (now (w .entry)) r q i j k e ⌝ }
+    requires { ⌜ (line .at < 4294967296) × (line .end < 4294967296) ⌝ }
+    ensures { λ s. ⌜ made (now (w .exit)) s ≡ bindWith (now (t .entry)) goal (now (w .entry)) r (line .number) (line .at) j k (line .end) ⌝ }
 {
-    if j == e {
+    if j == line.end {
         if k == 0 {
-            bind_frame(w, q, r.frame, r.node, i as u32, j as u32);
+            let q = line.number;
+            bind_frame(w, q, r.frame, r.node, line.at as u32, j as u32);
             let next = wide(r.node) + 1;
             return bound(t, goal, r, next, q);
         }
@@ -41,24 +42,21 @@ pub fn bind_with(
     broken(r)
 }
 
-// The term at i.
+// The term.
 pub fn bind_term(
     sheet: &[u8],
     t: &[u32],
-    symbols: u32,
-    goal: u32,
+    shape: Shape,
     text: &[u8],
     w: &mut [u32],
     r: Registers,
-    q: u32,
-    i: usize,
-    e: usize,
+    line: Line,
 ) -> Registers
-    requires { ⌜ (i < 4294967296) × (e < 4294967296) ⌝ }
-    ensures { λ s. ⌜ made (now (w .exit)) s ≡ bindTerm (now (sheet .entry)) (now (t .entry)) symbols goal (now (text .entry)) (now (w .entry)) r q i e ⌝ }
+    requires { ⌜ (line .at < 4294967296) × (line .end < 4294967296) ⌝ }
+    ensures { λ s. ⌜ made (now (w .exit)) s ≡ bindTerm (now (sheet .entry)) (now (t .entry)) (shape .symbols) (shape .goal) (now (text .entry)) (now (w .entry)) r (line .number) (line .at) (line .end) ⌝ }
 {
-    match scan_term(text.len(), sheet, t, symbols, text, i) {
-        Scan::Term(j, k) => bind_with(t, goal, w, r, q, i, j, k, e),
+    match scan_term(text.len(), sheet, t, shape.symbols, text, line.at) {
+        Scan::Term(j, k) => bind_with(t, shape.goal, w, r, line, j, k),
         Scan::Malformed => broken(r),
     }
 }
@@ -78,24 +76,23 @@ pub fn binds_variable(text: &[u8], i: usize, v: u32) -> bool
     false
 }
 
-// The B line q, from i to e.
+// A B line.
 pub fn bind_line(
     sheet: &[u8],
     t: &[u32],
-    symbols: u32,
-    goal: u32,
+    shape: Shape,
     text: &[u8],
     w: &mut [u32],
     r: Registers,
-    q: u32,
-    i: usize,
-    e: usize,
+    line: Line,
 ) -> Registers
-    requires { ⌜ (i + 4 < 4294967296) × (e < 4294967296) ⌝ }
-    ensures { λ s. ⌜ made (now (w .exit)) s ≡ bindLine (now (sheet .entry)) (now (t .entry)) symbols goal (now (text .entry)) (now (w .entry)) r q i e ⌝ }
+    requires { ⌜ (line .at + 4 < 4294967296) × (line .end < 4294967296) ⌝ }
+    ensures { λ s. ⌜ made (now (w .exit)) s ≡ bindLine (now (sheet .entry)) (now (t .entry)) (shape .symbols) (shape .goal) (now (text .entry)) (now (w .entry)) r (line .number) (line .at) (line .end) ⌝ }
 {
-    if binds_variable(text, i, r.node) {
-        return bind_term(sheet, t, symbols, goal, text, w, r, q, i + 4, e);
+    if binds_variable(text, line.at, r.node) {
+        let mut term = line;
+        term.at += 4;
+        return bind_term(sheet, t, shape, text, w, r, term);
     }
     broken(r)
 }

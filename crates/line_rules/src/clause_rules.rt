@@ -18,13 +18,20 @@ use scanning::Scan;
 use scanning::fields;
 use term_scanner::tokens::read_number;
 ghost use mathlib.Core.Path.{_≡_};
-ghost use Prim.Native.Nat.{_+_, _<_};
+ghost use Prim.Native.Nat.{_+_, _<_, _-_};
 ghost use lib.ListN.{length};
 ghost use Rattle.line_checking.specs.Sequents.{made};
-ghost use Rattle.line_checking.specs.Clauses.{read, onBody, useMember, useTerms, useFound, usePlace, usePlaceAt, clauseFields, clauseLine};
+ghost use Rattle.line_checking.specs.Clauses.{onBody, useMember, clauseFields, clauseLine};
+use super::prefixes::Prefix;
+use checker_state::Line;
+use checker_state::Shape;
 use clause_members::Found;
 use clause_members::head_of;
 use clause_members::member;
+use instances::Instance;
+ghost use mathlib.Core.Bool.{cond};
+ghost use lib.Dec.{eqb};
+ghost use Rattle.line_checking.specs.Members.{hypothesisFrom};
 
 // The body of the member at node n, if any, is the new goal; its names stand for terms in frame q.
 pub fn on_body(t: &[u32], w: &[u32], r: Registers, q: u32, n: u32) -> Registers
@@ -48,157 +55,88 @@ pub fn use_member(
 ) -> Registers
     ensures { λ s. ⌜ made (now (w .entry)) s ≡ useMember (now (sheet .entry)) (now (t .entry)) (now (text .entry)) (now (w .entry)) r q n ⌝ }
 {
-    let head = head_of(t, n);
-    if same_atoms(sheet, t, text, w, r.frame, q, r.node, head) {
+    let goal = Instance {
+        node: r.node,
+        frame: r.frame,
+    };
+    let head = Instance {
+        node: head_of(t, n),
+        frame: q,
+    };
+    if same_atoms(sheet, t, text, w, goal, head) {
         return on_body(t, w, r, q, n);
     }
     broken(r)
 }
 
-// The terms have been read; the line ends after the last one.
-pub fn use_terms(
+// The member at place k, counted from 1: of the hypotheses from h on, then of the sheet's clauses.
+pub fn place_at(t: &[u32], clauses: u32, w: &[u32], h: u32, k: u32) -> Place
+    ensures { λ p. ⌜ p ≡ cond (eqb k 0) Place.Nowhere (hypothesisFrom h (now (t .entry)) clauses (now (w .entry)) h (k - 1)) ⌝ }
+{
+    if k == 0 {
+        return Place::Nowhere;
+    }
+    hypothesis_from(h, t, clauses, w, h, k - 1)
+}
+
+// The place of a member, then the terms of its prefix; the line ends after the last one.
+pub fn clause_fields(
     sheet: &[u8],
     t: &[u32],
+    shape: Shape,
     text: &[u8],
-    w: &[u32],
+    w: &mut [u32],
     r: Registers,
-    q: u32,
-    n: u32,
-    a: Scan,
-    e: usize,
+    line: Line,
 ) -> Registers
-    ensures { λ s. ⌜ made (now (w .entry)) s ≡ useTerms (now (sheet .entry)) (now (t .entry)) (now (text .entry)) r q n (read (now (w .entry)) a) e ⌝ }
+    requires { ⌜ (length (now text) < 4294967296) × (line .end < 4294967296) ⌝ }
+    ensures { λ s. ⌜ made (now (w .exit)) s ≡ clauseFields (now (sheet .entry)) (now (t .entry)) (shape .symbols) (shape .clauses) (now (text .entry)) (now (w .entry)) r (line .number) (line .at) (line .end) ⌝ }
 {
-    let Scan::Term(j, _) = a else {
+    let Number::Value(k, i) = read_number(text, line.at) else {
         return broken(r);
     };
-    if j == e {
-        return use_member(sheet, t, text, w, r, q, n);
+    let Place::At(n, f, c) = place_at(t, shape.clauses, w, r.hypotheses, k) else {
+        return broken(r);
+    };
+    let q = line.number;
+    copy_frame(fields::FRAME_NUMBERS, w, q, f, 0);
+    let m = member(t, n, c);
+    let terms = Line {
+        number: q,
+        at: i,
+        end: line.end,
+    };
+    let prefix = Prefix {
+        names: m.names,
+        count: m.count,
+        level: r.level,
+    };
+    let Scan::Term(j, _) = prefix_from(sheet, t, shape.symbols, text, w, terms, prefix) else {
+        return broken(r);
+    };
+    if j == line.end {
+        return use_member(sheet, t, text, w, r, q, m.leaf);
     }
     broken(r)
 }
 
-// A member of a clause with frame f; its terms from i on.
-pub fn use_found(
-    sheet: &[u8],
-    t: &[u32],
-    symbols: u32,
-    text: &[u8],
-    w: &mut [u32],
-    r: Registers,
-    q: u32,
-    m: Found,
-    f: u32,
-    i: usize,
-    e: usize,
-) -> Registers
-    requires { ⌜ (length (now text) < 4294967296) × (e < 4294967296) ⌝ }
-    ensures { λ s. ⌜ made (now (w .exit)) s ≡ useFound (now (sheet .entry)) (now (t .entry)) symbols (now (text .entry)) (now (w .entry)) r q m f i e ⌝ }
-{
-    copy_frame(fields::FRAME_NUMBERS, w, q, f, 0);
-    let a = prefix_from(
-        m.count,
-        sheet,
-        t,
-        symbols,
-        text,
-        w,
-        q,
-        m.names,
-        i,
-        r.level,
-        e,
-    );
-    use_terms(sheet, t, text, w, r, q, m.leaf, a, e)
-}
-
-// The member at the place that was found.
-pub fn use_place(
-    sheet: &[u8],
-    t: &[u32],
-    symbols: u32,
-    text: &[u8],
-    w: &mut [u32],
-    r: Registers,
-    q: u32,
-    p: Place,
-    i: usize,
-    e: usize,
-) -> Registers
-    requires { ⌜ (length (now text) < 4294967296) × (e < 4294967296) ⌝ }
-    ensures { λ s. ⌜ made (now (w .exit)) s ≡ usePlace (now (sheet .entry)) (now (t .entry)) symbols (now (text .entry)) (now (w .entry)) r q p i e ⌝ }
-{
-    match p {
-        Place::At(n, f, k) => use_found(sheet, t, symbols, text, w, r, q, member(t, n, k), f, i, e),
-        Place::Nowhere => broken(r),
-    }
-}
-
-// The place k counts from 1.
-pub fn use_place_at(
-    sheet: &[u8],
-    t: &[u32],
-    symbols: u32,
-    clauses: u32,
-    text: &[u8],
-    w: &mut [u32],
-    r: Registers,
-    q: u32,
-    k: u32,
-    i: usize,
-    e: usize,
-) -> Registers
-    requires { ⌜ (length (now text) < 4294967296) × (e < 4294967296) ⌝ }
-    ensures { λ s. ⌜ made (now (w .exit)) s ≡ usePlaceAt (now (sheet .entry)) (now (t .entry)) symbols clauses (now (text .entry)) (now (w .entry)) r q k i e ⌝ }
-{
-    if k == 0 {
-        return broken(r);
-    }
-    let hypotheses = r.hypotheses;
-    let p = hypothesis_from(hypotheses, t, clauses, w, hypotheses, k - 1);
-    use_place(sheet, t, symbols, text, w, r, q, p, i, e)
-}
-
-// The place at i, then terms.
-pub fn clause_fields(
-    sheet: &[u8],
-    t: &[u32],
-    symbols: u32,
-    clauses: u32,
-    text: &[u8],
-    w: &mut [u32],
-    r: Registers,
-    q: u32,
-    i: usize,
-    e: usize,
-) -> Registers
-    requires { ⌜ (length (now text) < 4294967296) × (e < 4294967296) ⌝ }
-    ensures { λ s. ⌜ made (now (w .exit)) s ≡ clauseFields (now (sheet .entry)) (now (t .entry)) symbols clauses (now (text .entry)) (now (w .entry)) r q i e ⌝ }
-{
-    match read_number(text, i) {
-        Number::Value(k, j) => use_place_at(sheet, t, symbols, clauses, text, w, r, q, k, j, e),
-        Number::Missing => broken(r),
-    }
-}
-
-// The line of an atom, line q, from i to e.
+// The line of an atom.
 pub fn clause_line(
     sheet: &[u8],
     t: &[u32],
-    symbols: u32,
-    clauses: u32,
+    shape: Shape,
     text: &[u8],
     w: &mut [u32],
     r: Registers,
-    q: u32,
-    i: usize,
-    e: usize,
+    line: Line,
 ) -> Registers
-    requires { ⌜ (length (now text) < 4294967296) × (i < 4294967296) × (e < 4294967296) ⌝ }
-    ensures { λ s. ⌜ made (now (w .exit)) s ≡ clauseLine (now (sheet .entry)) (now (t .entry)) symbols clauses (now (text .entry)) (now (w .entry)) r q i e ⌝ }
+    requires { ⌜ (length (now text) < 4294967296) × (line .at < 4294967296) × (line .end < 4294967296) ⌝ }
+    ensures { λ s. ⌜ made (now (w .exit)) s ≡ clauseLine (now (sheet .entry)) (now (t .entry)) (shape .symbols) (shape .clauses) (now (text .entry)) (now (w .entry)) r (line .number) (line .at) (line .end) ⌝ }
 {
-    if begins_with(b"D\tclause\t", text, i) {
-        return clause_fields(sheet, t, symbols, clauses, text, w, r, q, i + 9, e);
+    if begins_with(b"D\tclause\t", text, line.at) {
+        let mut place = line;
+        place.at += 9;
+        return clause_fields(sheet, t, shape, text, w, r, place);
     }
     broken(r)
 }

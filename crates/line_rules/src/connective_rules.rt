@@ -1,6 +1,7 @@
 // D lines for true, &, | and >: the right rule is done to the sequent that is due. Each function is a definition of the crate
 // line_checking, and its contract says so.
 use super::result_lines::is_line;
+use checker_state::Line;
 use checker_state::open_sequents::proceed;
 use checker_state::open_sequents::put_hypothesis;
 use checker_state::open_sequents::put_sequent;
@@ -29,29 +30,22 @@ pub fn on_child(t: &[u32], r: Registers, j: u32) -> Registers
 }
 
 // Y: the next sequent is due.
-pub fn true_line(text: &[u8], w: &[u32], r: Registers, i: usize, e: usize) -> Registers
-    ensures { λ s. ⌜ made (now (w .entry)) s ≡ trueLine (now (text .entry)) (now (w .entry)) r i e ⌝ }
+pub fn true_line(text: &[u8], w: &[u32], r: Registers, line: Line) -> Registers
+    ensures { λ s. ⌜ made (now (w .entry)) s ≡ trueLine (now (text .entry)) (now (w .entry)) r (line .at) (line .end) ⌝ }
 {
-    if is_line(b"D\ttrue", text, i, e) {
+    if is_line(b"D\ttrue", text, line) {
         return proceed(w, r);
     }
     broken(r)
 }
 
 // &: the left side is due, the right side after it.
-pub fn and_line(
-    t: &[u32],
-    text: &[u8],
-    w: &mut [u32],
-    r: Registers,
-    q: u32,
-    i: usize,
-    e: usize,
-) -> Registers
-    requires { ⌜ q + 1 < 4294967296 ⌝ }
-    ensures { λ s. ⌜ made (now (w .exit)) s ≡ andLine (now (t .entry)) (now (text .entry)) (now (w .entry)) r q i e ⌝ }
+pub fn and_line(t: &[u32], text: &[u8], w: &mut [u32], r: Registers, line: Line) -> Registers
+    requires { ⌜ line .number + 1 < 4294967296 ⌝ }
+    ensures { λ s. ⌜ made (now (w .exit)) s ≡ andLine (now (t .entry)) (now (text .entry)) (now (w .entry)) r (line .number) (line .at) (line .end) ⌝ }
 {
-    if is_line(b"D\tand", text, i, e) {
+    if is_line(b"D\tand", text, line) {
+        let q = line.number;
         let left = child(t, r.node, 0);
         let right = child(t, r.node, 1);
         put_sequent(w, q, right, r.frame, r.hypotheses, r.level, r.rest);
@@ -61,32 +55,25 @@ pub fn and_line(
 }
 
 // |: the side that the line says is due.
-pub fn or_line(t: &[u32], text: &[u8], r: Registers, i: usize, e: usize) -> Registers
-    ensures { λ s. ⌜ ((w : List ℕ) → made w s ≡ orLine (now (t .entry)) (now (text .entry)) w r i e) ⌝ }
+pub fn or_line(t: &[u32], text: &[u8], r: Registers, line: Line) -> Registers
+    ensures { λ s. ⌜ ((w : List ℕ) → made w s ≡ orLine (now (t .entry)) (now (text .entry)) w r (line .at) (line .end)) ⌝ }
 {
-    if is_line(b"D\tleft", text, i, e) {
+    if is_line(b"D\tleft", text, line) {
         return on_child(t, r, 0);
     }
-    if is_line(b"D\tright", text, i, e) {
+    if is_line(b"D\tright", text, line) {
         return on_child(t, r, 1);
     }
     broken(r)
 }
 
 // >: the clause is the latest hypothesis.
-pub fn assume_line(
-    t: &[u32],
-    text: &[u8],
-    w: &mut [u32],
-    r: Registers,
-    q: u32,
-    i: usize,
-    e: usize,
-) -> Registers
-    requires { ⌜ q + 1 < 4294967296 ⌝ }
-    ensures { λ s. ⌜ made (now (w .exit)) s ≡ assumeLine (now (t .entry)) (now (text .entry)) (now (w .entry)) r q i e ⌝ }
+pub fn assume_line(t: &[u32], text: &[u8], w: &mut [u32], r: Registers, line: Line) -> Registers
+    requires { ⌜ line .number + 1 < 4294967296 ⌝ }
+    ensures { λ s. ⌜ made (now (w .exit)) s ≡ assumeLine (now (t .entry)) (now (text .entry)) (now (w .entry)) r (line .number) (line .at) (line .end) ⌝ }
 {
-    if is_line(b"D\tassume", text, i, e) {
+    if is_line(b"D\tassume", text, line) {
+        let q = line.number;
         let clause = child(t, r.node, 0);
         let goal = child(t, r.node, 1);
         put_hypothesis(w, q, clause, r.frame, r.hypotheses);

@@ -12,6 +12,7 @@ ghost use mathlib.Core.List.{List};
 ghost use Prim.Native.Nat.{ℕ, _+_, _<_};
 ghost use Rattle.line_checking.specs.Sequents.{made};
 ghost use Rattle.line_checking.specs.Bindings.{beginsWith, isLine, openWith, openUnits, openLine};
+use checker_state::Line;
 
 // Whether the text has the bytes a at place i.
 pub fn begins_with(a: &[u8], text: &[u8], i: usize) -> bool
@@ -20,21 +21,21 @@ pub fn begins_with(a: &[u8], text: &[u8], i: usize) -> bool
     same_range(a.len(), a, 0, text, i)
 }
 
-// Whether the line from i to e is just the bytes a.
-pub fn is_line(a: &[u8], text: &[u8], i: usize, e: usize) -> bool
-    ensures { λ r. ⌜ r ≡ isLine (now (a .entry)) (now (text .entry)) i e ⌝ }
+// Whether the line is just the bytes a.
+pub fn is_line(a: &[u8], text: &[u8], line: Line) -> bool
+    ensures { λ r. ⌜ r ≡ isLine (now (a .entry)) (now (text .entry)) (line .at) (line .end) ⌝ }
 {
-    if monus(e, i) == a.len() {
-        return begins_with(a, text, i);
+    if monus(line.end, line.at) == a.len() {
+        return begins_with(a, text, line.at);
     }
     false
 }
 
-// The units n end at j, the line at e.
-pub fn open_with(t: &[u32], goal: u32, r: Registers, n: u32, j: usize, e: usize) -> Registers
-    ensures { λ s. ⌜ ((w : List ℕ) → made w s ≡ openWith (now (t .entry)) goal w r n j e) ⌝ }
+// The units n have been read.
+pub fn open_with(t: &[u32], goal: u32, r: Registers, line: Line, n: u32) -> Registers
+    ensures { λ s. ⌜ ((w : List ℕ) → made w s ≡ openWith (now (t .entry)) goal w r n (line .at) (line .end)) ⌝ }
 {
-    if j == e {
+    if line.at == line.end {
         if 1 <= n {
             if n <= limits::MAX_BUDGET {
                 return bound(t, goal, r, 0, 0);
@@ -46,23 +47,29 @@ pub fn open_with(t: &[u32], goal: u32, r: Registers, n: u32, j: usize, e: usize)
     broken(r)
 }
 
-// The units at i.
-pub fn open_units(t: &[u32], goal: u32, text: &[u8], i: usize, r: Registers, e: usize) -> Registers
-    ensures { λ s. ⌜ ((w : List ℕ) → made w s ≡ openUnits (now (t .entry)) goal (now (text .entry)) i w r e) ⌝ }
+// The units.
+pub fn open_units(t: &[u32], goal: u32, text: &[u8], r: Registers, line: Line) -> Registers
+    ensures { λ s. ⌜ ((w : List ℕ) → made w s ≡ openUnits (now (t .entry)) goal (now (text .entry)) (line .at) w r (line .end)) ⌝ }
 {
-    match read_number(text, i) {
-        Number::Value(n, j) => open_with(t, goal, r, n, j, e),
+    match read_number(text, line.at) {
+        Number::Value(n, j) => {
+            let mut rest = line;
+            rest.at = j;
+            open_with(t, goal, r, rest, n)
+        }
         Number::Missing => broken(r),
     }
 }
 
-// The R line from i to e.
-pub fn open_line(t: &[u32], goal: u32, text: &[u8], r: Registers, i: usize, e: usize) -> Registers
-    requires { ⌜ i < 4294967296 ⌝ }
-    ensures { λ s. ⌜ ((w : List ℕ) → made w s ≡ openLine (now (t .entry)) goal (now (text .entry)) w r i e) ⌝ }
+// The R line.
+pub fn open_line(t: &[u32], goal: u32, text: &[u8], r: Registers, line: Line) -> Registers
+    requires { ⌜ line .at < 4294967296 ⌝ }
+    ensures { λ s. ⌜ ((w : List ℕ) → made w s ≡ openLine (now (t .entry)) goal (now (text .entry)) w r (line .at) (line .end)) ⌝ }
 {
-    if begins_with(b"R\tproved\t", text, i) {
-        return open_units(t, goal, text, i + 9, r, e);
+    if begins_with(b"R\tproved\t", text, line.at) {
+        let mut units = line;
+        units.at += 9;
+        return open_units(t, goal, text, r, units);
     }
     broken(r)
 }

@@ -11,6 +11,8 @@ ghost use lib.ListN.{length};
 ghost use Rattle.sheet_format.specs.Limits.{maxSheetBytes};
 ghost use Rattle.table_builder.specs.Making.{made};
 ghost use Rattle.sheet_reader.specs.Reader.{lineEnd, FormedNode, takeNode, FormedLine, takeLine, lineTaken};
+use table_builder::applications::Arguments;
+use table_builder::applications::take_application;
 
 pub enum Read {
     // how many symbols, nodes and clauses there are, and the goal's node
@@ -39,16 +41,16 @@ fn take_node(t: &mut [u32], k: Counts, l: NodeLine) -> Taken
 {
     match l {
         NodeLine::Variable(v) => table_builder::node_lines::take_variable(t, k, v),
-        NodeLine::Apply(f, ns) => table_builder::applications::take_application(
-            t,
-            k,
-            f,
-            ns.count,
-            ns.a,
-            ns.b,
-            ns.c,
-            ns.d,
-        ),
+        NodeLine::Apply(f, ns) => {
+            let args = Arguments {
+                count: ns.count,
+                first: ns.a,
+                second: ns.b,
+                third: ns.c,
+                fourth: ns.d,
+            };
+            take_application(t, k, f, args)
+        }
         NodeLine::True => table_builder::node_lines::take_true(t, k),
         NodeLine::And(n, m) => table_builder::node_lines::take_and(t, k, n, m),
         NodeLine::Or(n, m) => table_builder::node_lines::take_or(t, k, n, m),

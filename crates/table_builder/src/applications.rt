@@ -15,19 +15,19 @@ ghost use Prim.Native.Nat.{_+_, _*_, _<_, _≤_};
 ghost use Rattle.table_builder.specs.Making.{made};
 ghost use Rattle.table_builder.specs.Symbols.{takeApplication};
 
-// A symbol and its arguments, `count` of them.
-pub fn take_application(
-    t: &mut [u32],
-    k: Counts,
-    f: u32,
-    count: u32,
-    a: u32,
-    b: u32,
-    c: u32,
-    d: u32,
-) -> Taken
-    requires { ⌜ count ≤ 4 ⌝ }
-    ensures { λ r. ⌜ made (now (t .exit)) r ≡ takeApplication (now (t .entry)) k f count a b c d ⌝ }
+// The nodes of the arguments, the first `count` of the four.
+pub struct Arguments {
+    pub count: u32,
+    pub first: u32,
+    pub second: u32,
+    pub third: u32,
+    pub fourth: u32,
+}
+
+// A symbol and its arguments.
+pub fn take_application(t: &mut [u32], k: Counts, f: u32, a: Arguments) -> Taken
+    requires { ⌜ a .count ≤ 4 ⌝ }
+    ensures { λ r. ⌜ made (now (t .exit)) r ≡ takeApplication (now (t .entry)) k f (a .count) (a .first) (a .second) (a .third) (a .fourth) ⌝ }
 {
     if limits::MAX_NODES <= k.nodes {
         return Taken::Stop(refusals::TOO_MANY);
@@ -35,21 +35,21 @@ pub fn take_application(
     if k.symbols <= f {
         return Taken::Stop(refusals::UNKNOWN);
     }
-    let args = [a, b, c, d];
-    let n = wide(count);
+    let args = [a.first, a.second, a.third, a.fourth];
+    let n = wide(a.count);
     if all_there(k.nodes, &args[..n]) {
         let info = application_info(t, f, &args[..n]);
-        let head = applied_kind(t, f) + layout::CHILD_UNIT * count;
+        let head = applied_kind(t, f) + layout::CHILD_UNIT * a.count;
         return add_node(
             t,
             k,
             NodeRecord {
                 head,
                 label: f,
-                first: a,
-                second: b,
-                third: c,
-                fourth: d,
+                first: a.first,
+                second: a.second,
+                third: a.third,
+                fourth: a.fourth,
                 info,
             },
         );

@@ -3,15 +3,11 @@ use Prim.Native.Nat.{ℕ}
 use mathlib.Core.List.{List, [], _∷_}
 use lib.ListN.{getD}
 use Rattle.printing.specs.declared.Pen.{Pen}
+use Rattle.term_printer.specs.declared.Bounds.{Bounds}
 
 -- The pen is the first three.
 unfoldable pub penIn : List ℕ → Pen
 penIn s = record { at = getD s 0 0; variables = getD s 1 0; constants = getD s 2 0 }
-
--- How many bindings are looked through at a time, and the last position that is written.
-pub record Bounds : Type 0 where
-  pub turns : ℕ
-  pub limit : ℕ
 
 -- The bounds are the last two.
 unfoldable pub boundsIn : List ℕ → Bounds

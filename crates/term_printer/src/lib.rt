@@ -34,6 +34,12 @@ ghost use Rattle.printing.specs.WriteTerms.{separator, writeTerm, termTo};
 ghost use Rattle.term_printer.specs.State.{penIn, boundsIn};
 use machine_memory::words::deref;
 
+// How many bindings are looked through at a time, and the last position that is written.
+pub struct Bounds {
+    pub turns: u32,
+    pub limit: u32,
+}
+
 // The term of word a: its name, and its arguments in brackets by calls of itself. It ends since the remaining answer bytes plus the
 // rank fall. The sheet and the table are lent as references to slices: a slice itself is a pair, which each level would copy.
 pub fn write_term(
@@ -85,17 +91,16 @@ pub fn write_term(
 pub fn term_to(
     sheet: &[u8],
     t: &[u32],
-    turns: u32,
-    limit: u32,
+    bounds: Bounds,
     w: &mut [u32],
     out: &mut [u8],
     p: Pen,
     a: u32,
 ) -> Pen
-    requires { ⌜ limit ≤ 65535 ⌝ }
-    ensures { λ q. ⌜ page (now (w .exit)) (now (out .exit)) q ≡ termTo (now (sheet .entry)) (now (t .entry)) turns limit (page (now (w .entry)) (now (out .entry)) p) a ⌝ }
+    requires { ⌜ bounds .limit ≤ 65535 ⌝ }
+    ensures { λ q. ⌜ page (now (w .exit)) (now (out .exit)) q ≡ termTo (now (sheet .entry)) (now (t .entry)) (bounds .turns) (bounds .limit) (page (now (w .entry)) (now (out .entry)) p) a ⌝ }
 {
-    let mut s = [p.at, p.variables, p.constants, turns, limit];
-    write_term(up(limit), &sheet, &t, w, out, &mut s, a);
+    let mut s = [p.at, p.variables, p.constants, bounds.turns, bounds.limit];
+    write_term(up(bounds.limit), &sheet, &t, w, out, &mut s, a);
     pen_in(&s)
 }

@@ -15,78 +15,73 @@ ghost use Prim.Native.Nat.{_+_, _<_};
 ghost use lib.ListN.{length};
 ghost use Rattle.line_checking.specs.Sequents.{made};
 ghost use Rattle.line_checking.specs.Judging.{quantifierLine, connectiveLine, sequentLine};
+use checker_state::Line;
+use checker_state::Shape;
 
 // The goal is E or U.
 pub fn quantifier_line(
     sheet: &[u8],
     t: &[u32],
-    symbols: u32,
+    shape: Shape,
     text: &[u8],
     w: &mut [u32],
     r: Registers,
-    q: u32,
-    i: usize,
-    e: usize,
+    line: Line,
 ) -> Registers
-    requires { ⌜ (i + 7 < 4294967296) × (e < 4294967296) ⌝ }
-    ensures { λ s. ⌜ made (now (w .exit)) s ≡ quantifierLine (now (sheet .entry)) (now (t .entry)) symbols (now (text .entry)) (now (w .entry)) r q i e ⌝ }
+    requires { ⌜ (line .at + 7 < 4294967296) × (line .end < 4294967296) ⌝ }
+    ensures { λ s. ⌜ made (now (w .exit)) s ≡ quantifierLine (now (sheet .entry)) (now (t .entry)) (shape .symbols) (now (text .entry)) (now (w .entry)) r (line .number) (line .at) (line .end) ⌝ }
 {
     if kind(t, r.node) == kinds::EXISTS {
-        return some_line(sheet, t, symbols, text, w, r, q, i, e);
+        return some_line(sheet, t, shape, text, w, r, line);
     }
-    all_line(t, text, w, r, q, i, e)
+    all_line(t, text, w, r, line)
 }
 
 // The goal is no atom and not Y.
 pub fn connective_line(
     sheet: &[u8],
     t: &[u32],
-    symbols: u32,
+    shape: Shape,
     text: &[u8],
     w: &mut [u32],
     r: Registers,
-    q: u32,
-    i: usize,
-    e: usize,
+    line: Line,
 ) -> Registers
-    requires { ⌜ (q + 1 < 4294967296) × (i + 7 < 4294967296) × (e < 4294967296) ⌝ }
-    ensures { λ s. ⌜ made (now (w .exit)) s ≡ connectiveLine (now (sheet .entry)) (now (t .entry)) symbols (now (text .entry)) (now (w .entry)) r q i e ⌝ }
+    requires { ⌜ (line .number + 1 < 4294967296) × (line .at + 7 < 4294967296) × (line .end < 4294967296) ⌝ }
+    ensures { λ s. ⌜ made (now (w .exit)) s ≡ connectiveLine (now (sheet .entry)) (now (t .entry)) (shape .symbols) (now (text .entry)) (now (w .entry)) r (line .number) (line .at) (line .end) ⌝ }
 {
     let sort = kind(t, r.node);
     if sort == kinds::AND {
-        return and_line(t, text, w, r, q, i, e);
+        return and_line(t, text, w, r, line);
     }
     if sort == kinds::OR {
-        return or_line(t, text, r, i, e);
+        return or_line(t, text, r, line);
     }
     if sort == kinds::IMPLIES {
-        return assume_line(t, text, w, r, q, i, e);
+        return assume_line(t, text, w, r, line);
     }
-    quantifier_line(sheet, t, symbols, text, w, r, q, i, e)
+    quantifier_line(sheet, t, shape, text, w, r, line)
 }
 
 // A D line, by the kind of the goal that is due.
 pub fn sequent_line(
     sheet: &[u8],
     t: &[u32],
-    symbols: u32,
-    clauses: u32,
+    shape: Shape,
     text: &[u8],
     w: &mut [u32],
     r: Registers,
-    q: u32,
-    i: usize,
-    e: usize,
+    line: Line,
 ) -> Registers
-    requires { ⌜ (length (now text) < 4294967296) × (q + 1 < 4294967296) × (i + 7 < 4294967296) × (e < 4294967296) ⌝ }
-    ensures { λ s. ⌜ made (now (w .exit)) s ≡ sequentLine (now (sheet .entry)) (now (t .entry)) symbols clauses (now (text .entry)) (now (w .entry)) r q i e ⌝ }
+    requires { ⌜ (length (now text) < 4294967296) × (line .number + 1 < 4294967296) × (line .at + 7 < 4294967296) × (line .end < 4294967296) ⌝ }
+    ensures { λ s. ⌜ made (now (w .exit)) s ≡ sequentLine (now (sheet .entry)) (now (t .entry)) (shape .symbols) (shape .clauses) (now (text .entry)) (now (w .entry)) r (line .number) (line .at) (line .end) ⌝ }
 {
     let sort = kind(t, r.node);
     if sort == kinds::ATOM {
-        return clause_line(sheet, t, symbols, clauses, text, w, r, q, i, e);
+        return clause_line(sheet, t, shape, text, w, r, line);
     }
     if sort == kinds::TRUE {
-        return true_line(text, w, r, i, e);
+        return true_line(text, w, r, line);
     }
-    connective_line(sheet, t, symbols, text, w, r, q, i, e)
+    connective_line(sheet, t, shape, text, w, r, line)
 }

@@ -19,77 +19,71 @@ ghost use Prim.Native.Nat.{ℕ, _+_, _<_, _≤_};
 ghost use lib.ListN.{length};
 ghost use Rattle.line_checking.specs.Sequents.{made};
 ghost use Rattle.line_checking.specs.Judging.{stageLine, countLine, orderLine, judgeLine, judged, endVerdict, judgeText};
+use checker_state::Line;
+use checker_state::Shape;
 
 // A line, by the stage; where no line is due it is a surplus one.
 pub fn stage_line(
     sheet: &[u8],
     t: &[u32],
-    symbols: u32,
-    clauses: u32,
-    goal: u32,
+    shape: Shape,
     text: &[u8],
     w: &mut [u32],
     r: Registers,
-    q: u32,
-    i: usize,
-    e: usize,
+    line: Line,
 ) -> Registers
-    requires { ⌜ (length (now text) < 4294967296) × (q + 1 < 4294967296) × (i + 7 < 4294967296) × (e < 4294967296) ⌝ }
-    ensures { λ s. ⌜ made (now (w .exit)) s ≡ stageLine (now (sheet .entry)) (now (t .entry)) symbols clauses goal (now (text .entry)) (now (w .entry)) r q i e ⌝ }
+    requires { ⌜ (length (now text) < 4294967296) × (line .number + 1 < 4294967296) × (line .at + 7 < 4294967296) × (line .end < 4294967296) ⌝ }
+    ensures { λ s. ⌜ made (now (w .exit)) s ≡ stageLine (now (sheet .entry)) (now (t .entry)) (shape .symbols) (shape .clauses) (shape .goal) (now (text .entry)) (now (w .entry)) r (line .number) (line .at) (line .end) ⌝ }
 {
     let stage = r.stage;
     if stage == text_stages::OPENING {
-        return open_line(t, goal, text, r, i, e);
+        return open_line(t, shape.goal, text, r, line);
     }
     if stage == text_stages::BINDING {
-        return bind_line(sheet, t, symbols, goal, text, w, r, q, i, e);
+        return bind_line(sheet, t, shape, text, w, r, line);
     }
     if stage == text_stages::SEQUENT {
-        return sequent_line(sheet, t, symbols, clauses, text, w, r, q, i, e);
+        return sequent_line(sheet, t, shape, text, w, r, line);
     }
     broken(r)
 }
 
 // The symbols in the line are numbered by first showing.
-pub fn count_line(text: &[u8], r: Registers, i: usize, e: usize) -> Registers
-    ensures { λ s. ⌜ ((w : List ℕ) → made w s ≡ countLine (now (text .entry)) (made w r) i e) ⌝ }
+pub fn count_line(text: &[u8], r: Registers, line: Line) -> Registers
+    ensures { λ s. ⌜ ((w : List ℕ) → made w s ≡ countLine (now (text .entry)) (made w r) (line .at) (line .end)) ⌝ }
 {
-    match show_from(text, i, e, r.made, r.leftover) {
+    match show_from(text, line.at, line.end, r.made, r.leftover) {
         Shown::Counts(m, l) => on_counts(r, m, l),
         Shown::Misnumbered => broken(r),
     }
 }
 
 // Unless the line has broken already.
-pub fn order_line(text: &[u8], r: Registers, i: usize, e: usize) -> Registers
-    ensures { λ s. ⌜ ((w : List ℕ) → made w s ≡ orderLine (now (text .entry)) (made w r) i e) ⌝ }
+pub fn order_line(text: &[u8], r: Registers, line: Line) -> Registers
+    ensures { λ s. ⌜ ((w : List ℕ) → made w s ≡ orderLine (now (text .entry)) (made w r) (line .at) (line .end)) ⌝ }
 {
     let stage = r.stage;
     if stage == text_stages::BROKEN {
         return r;
     }
-    count_line(text, r, i, e)
+    count_line(text, r, line)
 }
 
-// Line q, from i to e: at its stage, then its numbering.
+// A line: at its stage, then its numbering.
 pub fn judge_line(
     sheet: &[u8],
     t: &[u32],
-    symbols: u32,
-    clauses: u32,
-    goal: u32,
+    shape: Shape,
     text: &[u8],
     w: &mut [u32],
     r: Registers,
-    q: u32,
-    i: usize,
-    e: usize,
+    line: Line,
 ) -> Registers
-    requires { ⌜ (length (now text) < 4294967296) × (q + 1 < 4294967296) × (i + 7 < 4294967296) × (e < 4294967296) ⌝ }
-    ensures { λ s. ⌜ made (now (w .exit)) s ≡ judgeLine (now (sheet .entry)) (now (t .entry)) symbols clauses goal (now (text .entry)) (now (w .entry)) r q i e ⌝ }
+    requires { ⌜ (length (now text) < 4294967296) × (line .number + 1 < 4294967296) × (line .at + 7 < 4294967296) × (line .end < 4294967296) ⌝ }
+    ensures { λ s. ⌜ made (now (w .exit)) s ≡ judgeLine (now (sheet .entry)) (now (t .entry)) (shape .symbols) (shape .clauses) (shape .goal) (now (text .entry)) (now (w .entry)) r (line .number) (line .at) (line .end) ⌝ }
 {
-    let s = stage_line(sheet, t, symbols, clauses, goal, text, w, r, q, i, e);
-    order_line(text, s, i, e)
+    let s = stage_line(sheet, t, shape, text, w, r, line);
+    order_line(text, s, line)
 }
 
 // No LF from i on: right if no byte is left and no line is due.
@@ -107,24 +101,21 @@ pub fn end_verdict(text: &[u8], r: Registers, q: u32, i: usize) -> u32
 }
 
 // The verdict on the whole text: 0 for valid, or the number of the line that breaks, counted from 1.
-pub fn judge_text(
-    sheet: &[u8],
-    t: &[u32],
-    symbols: u32,
-    clauses: u32,
-    goal: u32,
-    text: &[u8],
-    w: &mut [u32],
-) -> u32
+pub fn judge_text(sheet: &[u8], t: &[u32], shape: Shape, text: &[u8], w: &mut [u32]) -> u32
     requires { ⌜ length (now text) + 7 ≤ 4294967296 ⌝ }
-    ensures { λ v. ⌜ judged (now (w .exit)) v ≡ judgeText (now (sheet .entry)) (now (t .entry)) symbols clauses goal (now (text .entry)) (now (w .entry)) ⌝ }
+    ensures { λ v. ⌜ judged (now (w .exit)) v ≡ judgeText (now (sheet .entry)) (now (t .entry)) (shape .symbols) (shape .clauses) (shape .goal) (now (text .entry)) (now (w .entry)) ⌝ }
 {
     let mut r = start();
     let mut q: u32 = 0;
     let mut i: usize = 0;
     let mut e = line_end(text, 0);
     while e < text.len() {
-        r = judge_line(sheet, t, symbols, clauses, goal, text, w, r, q, i, e);
+        let line = Line {
+            number: q,
+            at: i,
+            end: e,
+        };
+        r = judge_line(sheet, t, shape, text, w, r, line);
         let stage = r.stage;
         if stage == text_stages::BROKEN {
             return q + 1;

@@ -7,9 +7,10 @@ use mathlib.Core.Bool.{Bool, true, false, cond}
 use mathlib.Core.List.{List}
 use borrow.Author.Tests.{eq-eqb, ne-eqb}
 use lib.Dec.{eqb}
-use Rattle.sheet_format.specs.Bytes.{ascii}
+use Rattle.sheet_format.specs.Bytes.{ascii, lf}
 use Rattle.machine.specs.Words.{variableWord}
 use Rattle.printing.specs.Marks.{Page}
+use Rattle.printing.specs.WriteTerms.{emitTo, termTo}
 use Rattle.printing.specs.WriteLines.{bytesTo, numberTo, termLine, bindingsTo}
 
 pub binding-none : (g x : Page) (bits : ℕ) → (bits % 2 ≡ 1 → ⊥) → g ≡ cond (eqb (bits % 2) 1) x g
@@ -22,19 +23,25 @@ then-either f x y false = refl
 
 module _ (sheet t : List ℕ) (turns limit : ℕ) where
   -- the line of a free variable
-  bindingLine : Page → ℕ → Page
+  abbrev pub bindingLine : Page → ℕ → Page
   bindingLine g v = termLine sheet t turns limit (numberTo limit (bytesTo limit g (ascii "B\t")) v) (ascii "\t") (variableWord v)
 
   module _ (g : Page) (bits v : ℕ) where
-    pub binding-some : (s g₁ g₂ : Page) (a : ℕ) → bits % 2 ≡ 1 → g₁ ≡ bytesTo limit g (ascii "B\t") → g₂ ≡ numberTo limit g₁ v → a ≡ variableWord v → s ≡ termLine sheet t turns limit g₂ (ascii "\t") a → s ≡ cond (eqb (bits % 2) 1) (termLine sheet t turns limit (numberTo limit (bytesTo limit g (ascii "B\t")) v) (ascii "\t") (variableWord v)) g
-    binding-some s g₁ g₂ a e e₁ e₂ ea es = rw (es, ea, e₂, e₁) (simp (eq-eqb _ _ e))
+    pub binding-some : (s g₁ g₂ g₃ : Page) (a : ℕ) → bits % 2 ≡ 1 → g₁ ≡ bytesTo limit g (ascii "B\t") → g₂ ≡ numberTo limit g₁ v
+        → g₃ ≡ bytesTo limit g₂ (ascii "\t") → a ≡ variableWord v → s ≡ emitTo limit (termTo sheet t turns limit g₃ a) lf
+        → s ≡ cond (eqb (bits % 2) 1) (bindingLine g v) g
+    unfolding termLine
+    binding-some s g₁ g₂ g₃ a e e₁ e₂ e₃ ea es = rw (es, ea, e₃, e₂, e₁) (simp (termLine, eq-eqb _ _ e))
 
     pub bindings-end : (n : ℕ) → n ≤ 0 → bindingsTo sheet t turns limit n bits v g ≡ g
     unfolding bindingsTo
     bindings-end zero h = refl
     bindings-end (suc n) h = absurd (omega arith)
 
-    pub bindings-on : (n : ℕ) (s : Page) → 0 < n → s ≡ cond (eqb (bits % 2) 1) (termLine sheet t turns limit (numberTo limit (bytesTo limit g (ascii "B\t")) v) (ascii "\t") (variableWord v)) g → bindingsTo sheet t turns limit n bits v g ≡ bindingsTo sheet t turns limit (n - 1) (bits / 2) (v + 1) s
-    unfolding bindingsTo bindingLine
+    pub bindings-on : (n : ℕ) (s : Page) → 0 < n → s ≡ cond (eqb (bits % 2) 1) (bindingLine g v) g
+        → bindingsTo sheet t turns limit n bits v g ≡ bindingsTo sheet t turns limit (n - 1) (bits / 2) (v + 1) s
+    unfolding bindingsTo
     bindings-on zero s h e = absurd (omega arith)
-    bindings-on (suc n) s h e = rw (sub-one (suc n), add-one v, e) (then-either (bindingsTo sheet t turns limit n (bits / 2) (suc v)) (bindingLine g v) g (eqb (bits % 2) 1))
+    bindings-on (suc n) s h e =
+        rw (sub-one (suc n), add-one v, e)
+        (then-either (bindingsTo sheet t turns limit n (bits / 2) (suc v)) (bindingLine g v) g (eqb (bits % 2) 1))

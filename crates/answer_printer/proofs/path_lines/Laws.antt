@@ -5,7 +5,7 @@ use native.Mathlib.Omega.{arith}
 use mathlib.Core.Path.{_≡_, refl}
 use mathlib.Core.List.{List}
 use borrow.Author.Tests.{lt-ltb, le-ltb, eq-eqb, ne-eqb}
-use Rattle.sheet_format.specs.Bytes.{ascii}
+use Rattle.sheet_format.specs.Bytes.{ascii, lf}
 use Rattle.machine.specs.Fields as fields
 use Rattle.machine.specs.Words.{variableWord, constantWord}
 use Rattle.printing.specs.declared.Pen.{Pen}
@@ -13,6 +13,7 @@ use Rattle.printing.specs.Marks.{Page, page}
 use Rattle.printing.specs.WriteLines.{bytesTo, plainBytes, termLine, clauseTo, lineTo, linesTo}
 use Rattle.printing.specs.Links.{nextLineField}
 use Rattle.memory.specs.Records.{field}
+use Rattle.printing.specs.WriteTerms.{emitTo, termTo}
 
 module _ (limit : ℕ) (g s : Page) where
   module _ (k : ℕ) where
@@ -28,11 +29,13 @@ module _ (limit : ℕ) (g s : Page) where
     unfolding plainBytes
     plain-left n₀ n₁ e es = rw es (simp (plainBytes, ne-eqb _ _ n₀, ne-eqb _ _ n₁, eq-eqb _ _ e))
 
-    pub plain-right : (k ≡ 0 → ⊥) → (k ≡ 1 → ⊥) → (k ≡ 2 → ⊥) → k ≡ 3 → s ≡ bytesTo limit g (ascii "D\tright\n") → s ≡ bytesTo limit g (plainBytes k)
+    pub plain-right : (k ≡ 0 → ⊥) → (k ≡ 1 → ⊥) → (k ≡ 2 → ⊥) → k ≡ 3 → s ≡ bytesTo limit g (ascii "D\tright\n")
+        → s ≡ bytesTo limit g (plainBytes k)
     unfolding plainBytes
     plain-right n₀ n₁ n₂ e es = rw es (simp (plainBytes, ne-eqb _ _ n₀, ne-eqb _ _ n₁, ne-eqb _ _ n₂, eq-eqb _ _ e))
 
-    pub plain-assume : (k ≡ 0 → ⊥) → (k ≡ 1 → ⊥) → (k ≡ 2 → ⊥) → (k ≡ 3 → ⊥) → s ≡ bytesTo limit g (ascii "D\tassume\n") → s ≡ bytesTo limit g (plainBytes k)
+    pub plain-assume : (k ≡ 0 → ⊥) → (k ≡ 1 → ⊥) → (k ≡ 2 → ⊥) → (k ≡ 3 → ⊥) → s ≡ bytesTo limit g (ascii "D\tassume\n")
+        → s ≡ bytesTo limit g (plainBytes k)
     unfolding plainBytes
     plain-assume n₀ n₁ n₂ n₃ es = rw es (simp (plainBytes, ne-eqb _ _ n₀, ne-eqb _ _ n₁, ne-eqb _ _ n₂, ne-eqb _ _ n₃))
 
@@ -42,15 +45,20 @@ module _ (sheet t : List ℕ) (turns limit : ℕ) where
     unfolding lineTo
     line-plain k h es = rw es (simp (lineTo, lt-ltb _ _ h))
 
-    pub line-some : (k f a : ℕ) → 5 ≤ k → k ≡ 5 → f ≡ field w u fields.variables → a ≡ variableWord f → s ≡ termLine sheet t turns limit (page w out p) (ascii "D\tsome\t") a → s ≡ lineTo sheet t turns limit (page w out p) u k
-    unfolding lineTo
-    line-some k f a h e ef ea es = rw (es, ea, ef) (simp (lineTo, le-ltb _ _ h, eq-eqb _ _ e))
+    pub line-some : (k f a : ℕ) (g : Page) → 5 ≤ k → k ≡ 5 → f ≡ field w u fields.variables → a ≡ variableWord f
+        → g ≡ bytesTo limit (page w out p) (ascii "D\tsome\t") → s ≡ emitTo limit (termTo sheet t turns limit g a) lf
+        → s ≡ lineTo sheet t turns limit (page w out p) u k
+    unfolding lineTo termLine
+    line-some k f a g h e ef ea eg es = rw (es, eg, ea, ef) (simp (lineTo, termLine, le-ltb _ _ h, eq-eqb _ _ e))
 
-    pub line-all : (k a : ℕ) → 5 ≤ k → (k ≡ 5 → ⊥) → k ≡ 6 → a ≡ constantWord u → s ≡ termLine sheet t turns limit (page w out p) (ascii "D\tall\t") a → s ≡ lineTo sheet t turns limit (page w out p) u k
-    unfolding lineTo
-    line-all k a h n e ea es = rw (es, ea) (simp (lineTo, le-ltb _ _ h, ne-eqb _ _ n, eq-eqb _ _ e))
+    pub line-all : (k a : ℕ) (g : Page) → 5 ≤ k → (k ≡ 5 → ⊥) → k ≡ 6 → a ≡ constantWord u
+        → g ≡ bytesTo limit (page w out p) (ascii "D\tall\t") → s ≡ emitTo limit (termTo sheet t turns limit g a) lf
+        → s ≡ lineTo sheet t turns limit (page w out p) u k
+    unfolding lineTo termLine
+    line-all k a g h n e ea eg es = rw (es, eg, ea) (simp (lineTo, termLine, le-ltb _ _ h, ne-eqb _ _ n, eq-eqb _ _ e))
 
-    pub line-clause : (k : ℕ) → 5 ≤ k → (k ≡ 5 → ⊥) → (k ≡ 6 → ⊥) → s ≡ clauseTo sheet t turns limit (page w out p) u → s ≡ lineTo sheet t turns limit (page w out p) u k
+    pub line-clause : (k : ℕ) → 5 ≤ k → (k ≡ 5 → ⊥) → (k ≡ 6 → ⊥) → s ≡ clauseTo sheet t turns limit (page w out p) u
+        → s ≡ lineTo sheet t turns limit (page w out p) u k
     unfolding lineTo
     line-clause k h n₅ n₆ es = rw es (simp (lineTo, le-ltb _ _ h, ne-eqb _ _ n₅, ne-eqb _ _ n₆))
 
@@ -64,7 +72,9 @@ module _ (sheet t : List ℕ) (turns limit : ℕ) where
   lines-last g e zero z = refl
   lines-last g e (suc n) z = simp (linesTo, eq-eqb _ _ z)
 
-  pub lines-on : (w out : List ℕ) (p : Pen) (e n u l : ℕ) (s : Page) → 0 < n → (e / 8 ≡ 0 → ⊥) → u ≡ e / 8 - 1 → l ≡ field w u nextLineField → s ≡ lineTo sheet t turns limit (page w out p) u (e % 8) → linesTo sheet t turns limit n (page w out p) e ≡ linesTo sheet t turns limit (n - 1) s l
+  pub lines-on : (w out : List ℕ) (p : Pen) (e n u l : ℕ) (s : Page) → 0 < n → (e / 8 ≡ 0 → ⊥) → u ≡ e / 8 - 1
+      → l ≡ field w u nextLineField → s ≡ lineTo sheet t turns limit (page w out p) u (e % 8)
+      → linesTo sheet t turns limit n (page w out p) e ≡ linesTo sheet t turns limit (n - 1) s l
   unfolding linesTo
   lines-on w out p e zero u l s h z eu el es = absurd (omega arith)
   lines-on w out p e (suc n) u l s h z eu el es = rw (sub-one (suc n), es, el, eu) (simp (linesTo, ne-eqb _ _ z))

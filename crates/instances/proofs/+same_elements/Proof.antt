@@ -1,19 +1,6 @@
 use Prim.Native.Nat.{ℕ, _+_, _<_}
 use Rattle.instances.proofs.+same_elements.Tie.{close}
 use Rattle.instances.proofs.+same_elements.{statement}
-use Rattle.instances.proofs.Laws.{
-  rest,
-  children-end,
-  children-on,
-  children-off,
-  elements-rank,
-  inner,
-  elements-one,
-  elements-first,
-  elements-second,
-  elements-other,
-  elements-same,
-}
 use borrow.Author.Needs.{needs}
 use borrow.Fn.Kinds.{In}
 use borrow.Fn.PlainCycle.{Measures, is, falls, and}
@@ -30,6 +17,19 @@ use Rattle.memory.proofs.put.Reads as put-reads
 use Rattle.memory.proofs.wide.Reads as wide-reads
 use Rattle.node_table.proofs.child_count.Reads as child-count-reads
 use Rattle.node_table.proofs.label.Reads as label-reads
+use Rattle.instances.proofs.Laws.{
+  rest,
+  children-end,
+  children-on,
+  children-off,
+  elements-rank,
+  inner,
+  elements-one,
+  elements-first,
+  elements-second,
+  elements-other,
+  elements-same,
+}
 
 abbrev μ : Measures 5 kinds.ps ℕ
 μ κs a = a .0
@@ -61,12 +61,12 @@ claims t = (
 )
 
 abbrev Inv-loop : lts.InvT-loop
-Inv-loop rank sheet t text w f g c₀ i j a b m children₀ k₀ c children k =
+Inv-loop rank sheet t text w c₀ f g a b m children₀ k₀ c children k =
     (k + children ≡ children₀) × (length c ≡ length c₀)
     × (rest (inner sheet t text w f g rank) t a b children₀ 0 c₀ ≡ rest (inner sheet t text w f g rank) t a b children k c)
 
 abbrev μ-loop : lts.MeasureT-loop
-μ-loop rank sheet t text w f g c₀ i j a b m children₀ k₀ c children k = children
+μ-loop rank sheet t text w c₀ f g a b m children₀ k₀ c children k = children
 
 returns : (t : ℕ) → lts.Need-returns (claims t) (at t) own.Post Inv-loop μ-loop
 returns t c = elements-rank _ _ _ _ _ _ _ _ _ _ (c .if1 .taken)
@@ -99,9 +99,9 @@ loop-holds t c = (omega arith, refl, refl)
 
 loop-again : (t : ℕ) → lts.Need-loop-again (claims t) (at t) own.Post Inv-loop μ-loop
 loop-again t c =
-    let at-child-of2 = c .before .before .before .before in
-    let at-loop = at-child-of2 .before .before .before .before in
-    let h : 0 < at-loop .loop .children = omega (arith, at-child-of2 .before .before .before .loop-test .taken) in (
+    let at-child-of2 = c .before .before .before .before .before in
+    let at-loop = at-child-of2 .before .before .before in
+    let h : 0 < at-loop .loop .children = omega (arith, at-child-of2 .before .before .loop-test .taken) in (
       omega arith,
       search needs,
       at-loop .loop .inv .2
@@ -111,12 +111,12 @@ loop-again t c =
 
 returns-5 : (t : ℕ) → lts.Need-returns-5 (claims t) (at t) own.Post Inv-loop μ-loop
 returns-5 t c =
-    let at-child-of2 = c .before .before .before .before in
-    let at-loop = at-child-of2 .before .before .before .before in
+    let at-child-of2 = c .before .before .before .before .before in
+    let at-loop = at-child-of2 .before .before .before in
     let at-label = at-loop .before .before .before .before in
     let at-root-of2 = at-label .before .before .before .before .before .before in
     let at-root-of = at-root-of2 .before .before .before .before in
-    let h : 0 < at-loop .loop .children = omega (arith, at-child-of2 .before .before .before .loop-test .taken) in
+    let h : 0 < at-loop .loop .children = omega (arith, at-child-of2 .before .before .loop-test .taken) in
     sym (elements-same _ _ _ _ _ _ _ _ _ _ _ _ _ (at-root-of .root-of .ensures) (at-root-of2 .root-of2 .ensures) _
     (at-root-of .before .before .if1 .left) (at-label .before .before .before .if2 .left) (at-label .before .before .if3 .left)
     (at-label .before .if4 .left) _ _ (at-label .label .ensures) (at-loop .before .before .before .label2 .ensures) _
@@ -151,7 +151,7 @@ pub +same-elements-spec : {M : Type 1} → statement M
     (at t) own.Post Inv-loop μ-loop (returns t)
     (λ c κs. search needs) (λ c κs. search needs) (λ c. search needs) (returns-2 t) (λ c κs. search needs)
     (λ c. search needs) (returns-3 t) (λ c κs. search needs) (λ c. search needs) (returns-4 t)
-    (λ c κs. search needs) (λ c κs. search needs) (λ c κs. search needs) (loop-holds t) (λ c. search needs)
-    (λ c κs. search needs) (λ c κs. search needs) (λ c κs. search needs) (λ c. search needs) (λ c. search needs)
+    (λ c κs. search needs) (λ c κs. search needs) (λ c κs. search needs) (loop-holds t) (λ c κs. search needs)
+    (λ c κs. search needs) (λ c. search needs) (λ c κs. search needs) (λ c. search needs) (λ c. search needs)
     (λ c. search needs) (loop-again t) (λ c. search needs) (returns-5 t) (λ c κs. search needs)
     (λ c κs. search needs) (λ c. search needs) (returns-6 t) (λ c. search needs) (returns-7 t)

@@ -1,7 +1,7 @@
 -- One law for each way through a turn of the loop or through a call; the hypotheses are the facts on the code's path.
 use Prim.Native.Nat.{ℕ, _+_, _-_}
-use mathlib.Core.Path.{_≡_}
-use mathlib.Core.Bool.{Bool, true, false}
+use mathlib.Core.Path.{_≡_, refl, _∙_}
+use mathlib.Core.Bool.{Bool, true, false, cond}
 use mathlib.Core.List.{List}
 use borrow.Author.Tests.{eq-eqb, ne-eqb}
 use Rattle.sheet_format.specs.Bytes.{ascii}
@@ -23,11 +23,13 @@ use Rattle.line_checking.specs.Bindings.{beginsWith}
 use Rattle.line_checking.specs.Clauses.{read, prefixFrom, onBody, useMember, useTerms, useFound, usePlace, usePlaceAt, clauseFields, clauseLine}
 use Rattle.clause_members.specs.declared.Found.{Found}
 use Rattle.clause_members.specs.Members.{member, headOf}
+use lib.Dec.{eqb}
 
 -- the member
 
 module _ (t w : List ℕ) (r : Registers) (q n k : ℕ) (ek : k ≡ kindOf t n) where
-  pub body-due : (a : ℕ) (s : Registers) → k ≡ 6 → a ≡ childOf t n 0 → s ≡ onSequent r a q (r .hypotheses) (r .level) (r .rest) → s ≡ onBody t w r q n
+  pub body-due : (a : ℕ) (s : Registers) → k ≡ 6 → a ≡ childOf t n 0 → s ≡ onSequent r a q (r .hypotheses) (r .level) (r .rest)
+      → s ≡ onBody t w r q n
   unfolding onBody
   body-due a s h ea es = rw (es, ea, ← ek, eq-eqb _ _ h)
 
@@ -45,52 +47,56 @@ module _ (b t x w : List ℕ) (r : Registers) (q n : ℕ) where
     unfolding useMember
     member-other m h em = rw (← ea, ← ez, h) em
 
-  module _ (o : Scan) (e : ℕ) (m : Made) where
-    pub terms-used : (j k : ℕ) → o ≡ Term j k → j ≡ e → m ≡ useMember b t x w r q n → m ≡ useTerms b t x r q n (read w o) e
-    unfolding useTerms
-    terms-used j k h f em = rw (useTerms, h, eq-eqb _ _ f) em
-
-    pub terms-more : (j k : ℕ) → o ≡ Term j k → (j ≡ e → ⊥) → m ≡ broken w r → m ≡ useTerms b t x r q n (read w o) e
-    unfolding useTerms
-    terms-more j k h f em = rw (useTerms, h, ne-eqb _ _ f) em
-
-    pub terms-none : o ≡ Malformed → m ≡ broken w r → m ≡ useTerms b t x r q n (read w o) e
-    unfolding useTerms
-    terms-none h em = rw (useTerms, h) em
+-- the place, then the terms
 
 module _ (b t : List ℕ) (symbols : ℕ) (x w : List ℕ) (r : Registers) (q i e : ℕ) (m : Made) where
-  pub found-used : (a : Found) (f : ℕ) (w₁ w₂ : List ℕ) (o : Scan) → w₁ ≡ copyFrame fields.frameNumbers w q f 0 → read w₂ o ≡ prefixFrom (a .count) b t symbols x w₁ q (a .names) i (r .level) e → m ≡ useTerms b t x r q (a .leaf) (read w₂ o) e → m ≡ useFound b t symbols x w r q a f i e
-  unfolding useFound
-  found-used a f w₁ w₂ o e₁ e₂ em = rw (em, e₂, e₁)
-
-  pub place-found : (p : Place) (n f k : ℕ) (a : Found) → p ≡ At n f k → a ≡ member t n k → m ≡ useFound b t symbols x w r q a f i e → m ≡ usePlace b t symbols x w r q p i e
-  unfolding usePlace
-  place-found p n f k a h ea em = rw (usePlace, h, ← ea) em
-
-  pub place-nowhere : (p : Place) → p ≡ Nowhere → m ≡ broken w r → m ≡ usePlace b t symbols x w r q p i e
-  unfolding usePlace
-  place-nowhere p h em = rw (usePlace, h) em
-
   module _ (clauses : ℕ) where
-    pub place-none : (k : ℕ) → k ≡ 0 → m ≡ broken w r → m ≡ usePlaceAt b t symbols clauses x w r q k i e
-    unfolding usePlaceAt
-    place-none k h em = rw (eq-eqb _ _ h) em
-
-    pub place-some : (k : ℕ) (p : Place) → (k ≡ 0 → ⊥) → p ≡ hypothesisFrom (r .hypotheses) t clauses w (r .hypotheses) (k - 1) → m ≡ usePlace b t symbols x w r q p i e → m ≡ usePlaceAt b t symbols clauses x w r q k i e
-    unfolding usePlaceAt
-    place-some k p h ep em = rw (ne-eqb _ _ h, ← ep) em
-
     module _ (o : Number) (eo : o ≡ readNumber x i) where
-      pub place-read : (k j : ℕ) → o ≡ Value k j → m ≡ usePlaceAt b t symbols clauses x w r q k j e → m ≡ clauseFields b t symbols clauses x w r q i e
-      unfolding clauseFields
-      place-read k j h em = rw (clauseFields, ← eo, h) em
-
       pub place-missing : o ≡ Missing → m ≡ broken w r → m ≡ clauseFields b t symbols clauses x w r q i e
       unfolding clauseFields
       place-missing h em = rw (clauseFields, ← eo, h) em
 
+      module _ (k j : ℕ) (h : o ≡ Value k j) (p : Place)
+          (ep : p ≡ cond (eqb k 0) Nowhere (hypothesisFrom (r .hypotheses) t clauses w (r .hypotheses) (k - 1))) where
+        place-read : m ≡ usePlace b t symbols x w r q p j e → m ≡ clauseFields b t symbols clauses x w r q i e
+        unfolding clauseFields usePlaceAt usePlace
+        place-read em =
+            rw (clauseFields, ← eo, h, usePlaceAt)
+            (em ∙ rw ep (go (eqb k 0) (hypothesisFrom (r .hypotheses) t clauses w (r .hypotheses) (k - 1))))
+          where
+            go : (z : Bool) (u : Place)
+                → usePlace b t symbols x w r q (cond z Nowhere u) j e ≡ cond z (broken w r) (usePlace b t symbols x w r q u j e)
+            go true u = refl
+            go false u = refl
+
+        pub place-nowhere : p ≡ Nowhere → m ≡ broken w r → m ≡ clauseFields b t symbols clauses x w r q i e
+        unfolding usePlace
+        place-nowhere f em = place-read (rw (usePlace, f) em)
+
+        module _ (n f c : ℕ) (ef : p ≡ At n f c) (a : Found) (w₁ w₂ : List ℕ) (s : Scan) (ea : a ≡ member t n c)
+            (e₁ : w₁ ≡ copyFrame 16 w q f 0)
+            (e₂ : read w₂ s ≡ prefixFrom (a .count) b t symbols x w₁ q (a .names) j (r .level) e) where
+          terms-read : m ≡ useTerms b t x r q (a .leaf) (read w₂ s) e → m ≡ clauseFields b t symbols clauses x w r q i e
+          unfolding usePlace useFound
+          terms-read em = place-read (rw (usePlace, ef, ← ea, useFound, ← e₁, ← e₂) em)
+
+          pub terms-wrong : s ≡ Malformed → m ≡ broken w₂ r → m ≡ clauseFields b t symbols clauses x w r q i e
+          unfolding useTerms
+          terms-wrong g em = terms-read (rw (useTerms, g) em)
+
+          pub terms-used : (z l : ℕ) → s ≡ Term z l → z ≡ e → m ≡ useMember b t x w₂ r q (a .leaf)
+              → m ≡ clauseFields b t symbols clauses x w r q i e
+          unfolding useTerms
+          terms-used z l g d em = terms-read (rw (useTerms, g, eq-eqb _ _ d) em)
+
+          pub terms-more : (z l : ℕ) → s ≡ Term z l → (z ≡ e → ⊥) → m ≡ broken w₂ r
+              → m ≡ clauseFields b t symbols clauses x w r q i e
+          unfolding useTerms
+          terms-more z l g d em = terms-read (rw (useTerms, g, ne-eqb _ _ d) em)
+
     module _ (z : Bool) (ez : z ≡ beginsWith (ascii "D\tclause\t") x i) where
-      pub clause-begun : z ≡ true → m ≡ clauseFields b t symbols clauses x w r q (i + 9) e → m ≡ clauseLine b t symbols clauses x w r q i e
+      pub clause-begun : z ≡ true → m ≡ clauseFields b t symbols clauses x w r q (i + 9) e
+          → m ≡ clauseLine b t symbols clauses x w r q i e
       unfolding clauseLine
       clause-begun h em = rw (← ez, h) em
 

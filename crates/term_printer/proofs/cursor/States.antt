@@ -8,11 +8,13 @@ use Rattle.machine.specs.Words.{deref}
 use Rattle.printing.specs.declared.Pen.{Pen}
 use Rattle.printing.specs.Marks.{Page, page}
 use Rattle.printing.specs.WriteTerms.{emitTo, argumentsBy, writeTerm}
-use Rattle.term_printer.specs.State.{Bounds, stateOf, penIn, boundsIn}
+use Rattle.term_printer.specs.State.{stateOf, penIn, boundsIn}
+use Rattle.term_printer.specs.declared.Bounds.{Bounds}
 
 -- A call took the pen, and its pen was put back.
 module _ (s s′ : List ℕ) (q : Pen) (e : s′ ≡ stateOf q (boundsIn s)) where
-  pub pen-put : (f : ℕ → Page → Page) (w w′ out out′ : List ℕ) (p : Pen) → p ≡ penIn s → page w′ out′ q ≡ f (getD s 4 0) (page w out p) → page w′ out′ (penIn s′) ≡ f (boundsIn s .limit) (page w out (penIn s))
+  pub pen-put : (f : ℕ → Page → Page) (w w′ out out′ : List ℕ) (p : Pen) → p ≡ penIn s
+      → page w′ out′ q ≡ f (getD s 4 0) (page w out p) → page w′ out′ (penIn s′) ≡ f (boundsIn s .limit) (page w out (penIn s))
   unfolding penIn boundsIn stateOf
   pen-put f w w′ out out′ p ep ef = ap (λ (l : List ℕ). page w′ out′ (penIn l)) e ∙ ef ∙ ap (λ (x : Pen). f (getD s 4 0) (page w out x)) ep
 
@@ -25,7 +27,10 @@ pub pen-taken : (w out s : List ℕ) (q : Pen) (u : Page) → q ≡ penIn s → 
 pen-taken w out s q u e h = ap (λ (x : Pen). page w out x) e ∙ h
 
 -- The state is made of a pen and bounds.
-pub state-made : (p : Pen) (turns limit rank : ℕ) (sheet t w out : List ℕ) (a : ℕ) (u : Page) → (let s : List ℕ = p .at ∷ p .variables ∷ p .constants ∷ turns ∷ limit ∷ [] in u ≡ writeTerm rank sheet t (boundsIn s .turns) (boundsIn s .limit) (page w out (penIn s)) a) → u ≡ writeTerm rank sheet t turns limit (page w out p) a
+pub state-made : (p : Pen) (turns limit rank : ℕ) (sheet t w out : List ℕ) (a : ℕ) (u : Page)
+    → (let s : List ℕ = p .at ∷ p .variables ∷ p .constants ∷ turns ∷ limit ∷ [] in
+    u ≡ writeTerm rank sheet t (boundsIn s .turns) (boundsIn s .limit) (page w out (penIn s)) a)
+    → u ≡ writeTerm rank sheet t turns limit (page w out p) a
 unfolding boundsIn penIn
 state-made p turns limit rank sheet t w out a u h = h
 
@@ -48,11 +53,15 @@ module _ (k k′ : Bounds) (e : k ≡ k′) where
   pub emit-same : (g u : Page) (b : ℕ) → u ≡ emitTo (k .limit) g b → u ≡ emitTo (k′ .limit) g b
   emit-same g u b h = subst (λ (i : Bounds). u ≡ emitTo (i .limit) g b) e h
 
-  pub term-same : (rank : ℕ) (sheet t : List ℕ) (g u : Page) (a : ℕ) → u ≡ writeTerm rank sheet t (k .turns) (k .limit) g a → u ≡ writeTerm rank sheet t (k′ .turns) (k′ .limit) g a
+  pub term-same : (rank : ℕ) (sheet t : List ℕ) (g u : Page) (a : ℕ) → u ≡ writeTerm rank sheet t (k .turns) (k .limit) g a
+      → u ≡ writeTerm rank sheet t (k′ .turns) (k′ .limit) g a
   term-same rank sheet t g u a h = subst (λ (i : Bounds). u ≡ writeTerm rank sheet t (i .turns) (i .limit) g a) e h
 
-  pub arguments-same : (rank : ℕ) (sheet t : List ℕ) (c n f j : ℕ) (g : Page) → argumentsBy (writeTerm rank sheet t (k .turns) (k .limit)) t (k .limit) c n f j g ≡ argumentsBy (writeTerm rank sheet t (k′ .turns) (k′ .limit)) t (k′ .limit) c n f j g
-  arguments-same rank sheet t c n f j g = ap (λ (i : Bounds). argumentsBy (writeTerm rank sheet t (i .turns) (i .limit)) t (i .limit) c n f j g) e
+  pub arguments-same : (rank : ℕ) (sheet t : List ℕ) (c n f j : ℕ) (g : Page)
+      → argumentsBy (writeTerm rank sheet t (k .turns) (k .limit)) t (k .limit) c n f j g
+      ≡ argumentsBy (writeTerm rank sheet t (k′ .turns) (k′ .limit)) t (k′ .limit) c n f j g
+  arguments-same rank sheet t c n f j g =
+      ap (λ (i : Bounds). argumentsBy (writeTerm rank sheet t (i .turns) (i .limit)) t (i .limit) c n f j g) e
 
   pub small-same : k .limit ≤ 65535 → k′ .limit ≤ 65535
   small-same h = subst (λ (i : Bounds). i .limit ≤ 65535) e h

@@ -10,28 +10,51 @@ use Rattle.text_checker.proofs.judge_text.Statement.{statement}
 use Rattle.text_checker.proofs.judge_text.Tie as tie
 
 abbrev Inv-loop : tie.InvT-loop
-Inv-loop sheet t symbols clauses goal text w₀ r₀ q₀ i₀ e₀ w r q i e = (length w ≡ length w₀) × (i ≤ length text) × (q ≤ i) × (e ≡ lineEnd text i) × Rest (judgeText sheet t symbols clauses goal text w₀) sheet t symbols clauses goal text w r q i
+Inv-loop sheet t shape text w₀ r₀ q₀ i₀ e₀ w r q i e =
+    (length w ≡ length w₀) × (i ≤ length text) × (q ≤ i) × (e ≡ lineEnd text i)
+    × Rest (judgeText sheet t (shape .symbols) (shape .clauses) (shape .goal) text w₀) sheet t (shape .symbols) (shape .clauses)
+    (shape .goal) text w r q i
 
 abbrev μ-loop : tie.MeasureT-loop
-μ-loop sheet t symbols clauses goal text w₀ r₀ q₀ i₀ e₀ w r q i e = length text - i
+μ-loop sheet t shape text w₀ r₀ q₀ i₀ e₀ w r q i e = length text - i
 
 loop-holds : tie.Need-loop-holds Inv-loop μ-loop
 loop-holds c = (search needs, search needs, search needs, (c .line-end .ensures), text-start _ _ _ _ _ _ _ _ (c .before .start .ensures))
 
 judge-line-requires : tie.Need-judge-line-requires Inv-loop μ-loop
-judge-line-requires c κs = (search needs, omega (arith, end-after (c .before .before .before .before .before .before .before .before .before .args .text .now) _ _ (c .before .before .loop .inv .3)), omega (arith, end-after (c .before .before .before .before .before .before .before .before .before .args .text .now) _ _ (c .before .before .loop .inv .3)), search needs)
+judge-line-requires c κs =
+    let l = c .before .before in
+    let h = end-after (l .before .before .before .before .before .before .before .args .text .now) _ _ (l .loop .inv .3) in
+    (search needs, omega arith, omega arith, search needs)
 
 returns : tie.Need-returns Inv-loop μ-loop
-returns c = sym (text-breaks _ _ _ _ _ _ _ _ _ _ _ _ (c .before .before .before .before .before .before .loop .inv .1) (c .before .before .before .before .before .before .loop .inv .3) _ _ (c .before .before .before .judge-line .ensures) (c .before .before .before .before .before .loop-test .taken) (c .before .before .before .before .before .before .loop .inv .4) (c .if1 .taken))
+returns c =
+    sym (text-breaks _ _ _ _ _ _ _ _ _ _ _ _ (c .before .before .before .before .before .before .loop .inv .1)
+    (c .before .before .before .before .before .before .loop .inv .3) _ _ (c .before .before .before .judge-line .ensures)
+    (c .before .before .before .before .before .loop-test .taken)
+    (c .before .before .before .before .before .before .loop .inv .4) (c .if1 .taken))
 
 loop-less : tie.Need-loop-less Inv-loop μ-loop
-loop-less c = omega (arith, end-after (c .before .before .before .before .before .before .before .before .before .before .before .before .before .before .args .text .now) _ _ (c .before .before .before .before .before .before .before .loop .inv .3))
+loop-less c =
+    let l = c .before .before .before .before .before .before .before in
+    omega (arith, end-after (l .before .before .before .before .before .before .before .args .text .now) _ _ (l .loop .inv .3))
 
 loop-again : tie.Need-loop-again Inv-loop μ-loop
-loop-again c = (search needs, search needs, omega (arith, end-after (c .before .before .before .before .before .before .before .before .before .before .before .before .before .before .args .text .now) _ _ (c .before .before .before .before .before .before .before .loop .inv .3)), (c .line-end2 .ensures), text-on _ _ _ _ _ _ _ _ _ _ _ _ (c .before .before .before .before .before .before .before .loop .inv .1) (c .before .before .before .before .before .before .before .loop .inv .3) _ _ (c .before .before .before .before .judge-line .ensures) (c .before .before .before .before .before .before .loop-test .taken) (c .before .before .before .before .before .before .before .loop .inv .4) (c .before .if1 .left))
+loop-again c =
+    let l = c .before .before .before .before .before .before .before in
+    let h = end-after (l .before .before .before .before .before .before .before .args .text .now) _ _ (l .loop .inv .3) in (
+      search needs,
+      search needs,
+      omega arith,
+      c .line-end2 .ensures,
+      text-on _ _ _ _ _ _ _ _ _ _ _ _ (l .loop .inv .1) (l .loop .inv .3) _ _ (c .before .before .before .before .judge-line .ensures)
+          (c .before .before .before .before .before .before .loop-test .taken) (l .loop .inv .4) (c .before .if1 .left),
+    )
 
 returns-2 : tie.Need-returns-2 Inv-loop μ-loop
-returns-2 c = sym (text-ends _ _ _ _ _ _ _ _ _ _ _ _ (c .before .before .loop .inv .1) (c .before .before .loop .inv .3) _ (c .before .before .loop .inv .4) (c .before .loop-test .left) (c .end-verdict .ensures))
+returns-2 c =
+    sym (text-ends _ _ _ _ _ _ _ _ _ _ _ _ (c .before .before .loop .inv .1) (c .before .before .loop .inv .3) _
+    (c .before .before .loop .inv .4) (c .before .loop-test .left) (c .end-verdict .ensures))
 
 pub judge-text-spec : {M : Type 1} → statement M
 judge-text-spec =

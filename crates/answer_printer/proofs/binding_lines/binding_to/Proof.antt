@@ -10,10 +10,19 @@ returns c = binding-none _ _ _ (c .if1 .taken)
 
 returns-2 : tie.Need-returns-2
 unfolding ascii
-returns-2 c = binding-some _ _ _ _ _ _ _ _ _ _ _ (c .before .before .before .before .before .before .before .before .before .before .before .before .before .before .before .before .before .before .if1 .left) (c .before .before .before .before .before .before .before .before .before .before .before .before .before .before .before .bytes-to .ensures _) (c .before .before .before .before .before .before .before .before .before .before .before .number-to .ensures _) (c .before .before .before .before .before .variable-word .ensures) (c .before .before .before .before .term-line .ensures)
+returns-2 c =
+    binding-some _ _ _ _ _ _ _ _ _ _ _ _
+    (c .before .before .before .before .before .before .before .before .before .before .before .before
+    .before .before .before .before .before .before .before .before .before .before .if1 .left)
+    (c .before .before .before .before .before .before .before .before .before .before
+    .before .before .before .before .before .before .before .before .before .bytes-to .ensures _)
+    (c .before .before .before .before .before .before .before .before .before .before .before .before .before .before .before
+    .number-to .ensures _)
+    (c .before .before .before .before .before .before .before .before .before .before .bytes-to2 .ensures _)
+    (c .before .before .before .before .before .variable-word .ensures) (c .before .before .before .before .last-term .ensures)
 
 pub binding-to-spec : {M : Type 1} → statement M
 binding-to-spec =
     tie.close
     (tie.spec returns (λ c. search needs) (λ c κs. search needs) (λ c κs. search needs) (λ c. search needs)
-    (λ c κs. search needs) (λ c κs. search needs) (λ c. search needs) (λ c. search needs) returns-2)
+    (λ c κs. search needs) (λ c κs. search needs) (λ c κs. search needs) (λ c. search needs) (λ c. search needs) returns-2)

@@ -10,13 +10,24 @@ use Rattle.answer_printer.proofs.binding_lines.bindings_to.Statement.{s
 use Rattle.answer_printer.proofs.binding_lines.bindings_to.Tie as tie
 
 abbrev Inv-loop : tie.InvT-loop
-Inv-loop sheet t turns limit n bits v w₀ out₀ left₀ rest₀ name₀ q₀ w out left rest name q = (length w ≡ length w₀) × (length out ≡ length out₀) × (name + left ≡ v + n) × (bindingsTo sheet t turns limit n bits v (page w₀ out₀ q₀) ≡ bindingsTo sheet t turns limit left rest name (page w out q))
+Inv-loop sheet t bounds bits w₀ out₀ left₀ rest₀ name₀ q₀ w out left rest name q =
+    (length w ≡ length w₀) × (length out ≡ length out₀) × (name + left ≡ 8)
+    × (bindingsTo sheet t (bounds .turns) (bounds .limit) 8 bits 0 (page w₀ out₀ q₀)
+    ≡ bindingsTo sheet t (bounds .turns) (bounds .limit) left rest name (page w out q))
 
 abbrev μ-loop : tie.MeasureT-loop
-μ-loop sheet t turns limit n bits v w₀ out₀ left₀ rest₀ name₀ q₀ w out left rest name q = left
+μ-loop sheet t bounds bits w₀ out₀ left₀ rest₀ name₀ q₀ w out left rest name q = left
 
 loop-again : tie.Need-loop-again Inv-loop μ-loop
-loop-again c = (c .before .before .before .before .binding-to .kept .1 .1 .1 .1 .1 .1 .0 ∙ c .before .before .before .before .before .before .before .before .loop .inv .0, c .before .before .before .before .binding-to .kept .1 .1 .1 .1 .1 .1 .1 .0 ∙ c .before .before .before .before .before .before .before .before .loop .inv .1, omega (arith, c .before .before .before .before .before .before .before .before .loop .inv .2, c .before .before .before .before .before .before .before .loop-test .taken), c .before .before .before .before .before .before .before .before .loop .inv .3 ∙ bindings-on _ _ _ _ _ _ _ _ _ (c .before .before .before .before .before .before .before .loop-test .taken) (c .before .before .before .before .binding-to .ensures))
+loop-again c =
+    let b = c .before .before .before .before in
+    let l = b .before .before .before .before in (
+      b .binding-to .kept .1 .1 .1 .1 .0 ∙ l .loop .inv .0,
+      b .binding-to .kept .1 .1 .1 .1 .1 .0 ∙ l .loop .inv .1,
+      omega (arith, l .loop .inv .2, b .before .before .before .loop-test .taken),
+      c .before .before .before .before .before .before .before .before .loop .inv .3 ∙ bindings-on _ _ _ _ _ _ _ _ _
+          (c .before .before .before .before .before .before .before .loop-test .taken) (c .before .before .before .before .binding-to .ensures),
+    )
 
 returns : tie.Need-returns Inv-loop μ-loop
 returns c = sym (c .before .loop .inv .3 ∙ bindings-end _ _ _ _ _ _ _ _ (c .loop-test .left))

@@ -10,13 +10,25 @@ use Rattle.answer_printer.proofs.clause_lines.prefix_to.Statement.{stat
 use Rattle.answer_printer.proofs.clause_lines.prefix_to.Tie as tie
 
 abbrev Inv-loop : tie.InvT-loop
-Inv-loop sheet t turns limit n w₀ out₀ x left₀ next₀ q₀ w out left next q = (length w ≡ length w₀) × (length out ≡ length out₀) × (next + left ≡ x + n) × (prefixTo sheet t turns limit n (page w₀ out₀ q₀) x ≡ prefixTo sheet t turns limit left (page w out q) next)
+Inv-loop sheet t bounds w₀ out₀ left₀ next₀ q₀ w out left next q =
+    (length w ≡ length w₀) × (length out ≡ length out₀) × (next + left ≡ next₀ + left₀)
+    × (prefixTo sheet t (bounds .turns) (bounds .limit) left₀ (page w₀ out₀ q₀) next₀
+    ≡ prefixTo sheet t (bounds .turns) (bounds .limit) left (page w out q) next)
 
 abbrev μ-loop : tie.MeasureT-loop
-μ-loop sheet t turns limit n w₀ out₀ x left₀ next₀ q₀ w out left next q = left
+μ-loop sheet t bounds w₀ out₀ left₀ next₀ q₀ w out left next q = left
 
 loop-again : tie.Need-loop-again Inv-loop μ-loop
-loop-again c = (c .before .before .before .before .term-to .kept .1 .1 .1 .1 .0 ∙ c .before .before .before .before .before .before .before .before .before .before .before .before .before .loop .inv .0, c .before .before .before .before .term-to .kept .1 .1 .1 .1 .1 .0 ∙ c .before .before .before .before .before .before .before .before .before .before .emit-to .kept .1 .0 ∙ c .before .before .before .before .before .before .before .before .before .before .before .before .before .loop .inv .1, omega (arith, c .before .before .before .before .before .before .before .before .before .before .before .before .before .loop .inv .2, c .before .before .before .before .before .before .before .before .before .before .before .before .loop-test .taken), c .before .before .before .before .before .before .before .before .before .before .before .before .before .loop .inv .3 ∙ prefix-on _ _ _ _ _ _ _ _ _ _ (c .before .before .before .before .before .before .before .before .before .before .before .before .loop-test .taken) (c .before .before .before .before .before .before .before .before .before .before .emit-to .ensures _) (c .before .before .before .before .before .narrow .ensures) (c .before .before .before .before .term-to .ensures))
+loop-again c =
+    let c₁ = c .before .before .before .before .before .before .before .before in (
+      c .before .before .before .before .term-to .kept .1 .1 .1 .0 ∙ c₁ .before .before .before .before .before .loop .inv .0,
+      c .before .before .before .before .term-to .kept .1 .1 .1 .1 .0 ∙ c₁ .before .before .emit-to .kept .1 .0 ∙ c₁ .before .before
+          .before .before .before .loop .inv .1,
+      omega (arith, c₁ .before .before .before .before .before .loop .inv .2, c₁ .before .before .before .before .loop-test .taken),
+      c₁ .before .before .before .before .before .loop .inv .3 ∙ prefix-on _ _ _ _ _ _ _ _ _ _
+          (c₁ .before .before .before .before .loop-test .taken) (c₁ .before .before .emit-to .ensures _)
+          (c .before .before .before .before .before .narrow .ensures) (c .before .before .before .before .term-to .ensures),
+    )
 
 returns : tie.Need-returns Inv-loop μ-loop
 returns c = sym (c .before .loop .inv .3 ∙ prefix-end _ _ _ _ _ _ _ (c .loop-test .left))

@@ -9,19 +9,33 @@ returns c = line-plain _ _ _ _ _ _ _ _ _ _ (c .before .before .before .before .i
 
 returns-2 : tie.Need-returns-2
 unfolding ascii
-returns-2 c = line-some _ _ _ _ _ _ _ _ _ _ _ _ (c .before .before .before .before .before .before .before .before .before .before .before .before .if1 .left) (c .before .before .before .before .before .before .before .before .before .before .before .if2 .taken) (c .before .before .before .before .before .before .before .before .before .field .ensures) (c .before .before .before .before .before .before .before .before .variable-word .ensures) (c .before .before .before .before .term-line .ensures)
+returns-2 c =
+    let c₁ = c .before .before .before .before .before .before .before .before in
+    let c₂ = c₁ .before .before .before .before .before .before .before .before in
+    line-some _ _ _ _ _ _ _ _ _ _ _ _ _ (c₂ .if1 .left) (c₁ .before .before .before .before .before .before .before .if2 .taken)
+    (c₁ .before .before .before .before .before .field .ensures) (c₁ .before .before .before .before .variable-word .ensures)
+    (c₁ .before .bytes-to .ensures _) (c .before .before .before .before .last-term .ensures)
 
 returns-3 : tie.Need-returns-3
 unfolding ascii
-returns-3 c = line-all _ _ _ _ _ _ _ _ _ _ _ (c .before .before .before .before .before .before .before .before .before .before .before .if1 .left) (c .before .before .before .before .before .before .before .before .before .before .if2 .left) (c .before .before .before .before .before .before .before .before .before .if3 .taken) (c .before .before .before .before .before .before .before .before .constant-word .ensures) (c .before .before .before .before .term-line2 .ensures)
+returns-3 c =
+    let c₁ = c .before .before .before .before .before .before .before .before in
+    line-all _ _ _ _ _ _ _ _ _ _ _ _ (c₁ .before .before .before .before .before .before .before .if1 .left)
+    (c₁ .before .before .before .before .before .before .if2 .left) (c₁ .before .before .before .before .before .if3 .taken)
+    (c₁ .before .before .before .before .constant-word .ensures) (c₁ .before .bytes-to2 .ensures _)
+    (c .before .before .before .before .last-term2 .ensures)
 
 returns-4 : tie.Need-returns-4
-returns-4 c = line-clause _ _ _ _ _ _ _ _ _ _ (c .before .before .before .before .before .before .before .before .before .if1 .left) (c .before .before .before .before .before .before .before .before .if2 .left) (c .before .before .before .before .before .before .before .if3 .left) (c .before .before .before .before .clause-to .ensures)
+returns-4 c =
+    line-clause _ _ _ _ _ _ _ _ _ _ (c .before .before .before .before .before .before .before .before .before .if1 .left)
+    (c .before .before .before .before .before .before .before .before .if2 .left)
+    (c .before .before .before .before .before .before .before .if3 .left)
+    (c .before .before .before .before .clause-to .ensures)
 
 pub line-to-spec : {M : Type 1} → statement M
 line-to-spec =
     tie.close
     (tie.spec (λ c κs. search needs) (λ c. search needs) returns (λ c κs. search needs) (λ c κs. search needs)
-    (λ c. search needs) (λ c κs. search needs) (λ c. search needs) (λ c. search needs) returns-2 (λ c κs. search needs)
-    (λ c. search needs) (λ c κs. search needs) (λ c. search needs) (λ c. search needs) returns-3 (λ c κs. search needs)
-    (λ c. search needs) (λ c. search needs) returns-4)
+    (λ c. search needs) (λ c κs. search needs) (λ c κs. search needs) (λ c. search needs) (λ c. search needs) returns-2
+    (λ c κs. search needs) (λ c. search needs) (λ c κs. search needs) (λ c κs. search needs) (λ c. search needs)
+    (λ c. search needs) returns-3 (λ c κs. search needs) (λ c. search needs) (λ c. search needs) returns-4)

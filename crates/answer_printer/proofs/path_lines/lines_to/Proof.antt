@@ -8,16 +8,26 @@ use Rattle.answer_printer.proofs.path_lines.lines_to.Statement.{stateme
 use Rattle.answer_printer.proofs.path_lines.lines_to.Tie as tie
 
 abbrev Inv-loop : tie.InvT-loop
-Inv-loop sheet t turns limit n w₀ out₀ e left₀ link₀ q₀ w out left link q = (length w ≡ length w₀) × (length out ≡ length out₀) × (linesTo sheet t turns limit n (page w₀ out₀ q₀) e ≡ linesTo sheet t turns limit left (page w out q) link)
+Inv-loop sheet t bounds w₀ out₀ e left₀ link₀ q₀ w out left link q =
+    (length w ≡ length w₀) × (length out ≡ length out₀)
+    × (linesTo sheet t (bounds .turns) (bounds .limit) (bounds .turns) (page w₀ out₀ q₀) e
+    ≡ linesTo sheet t (bounds .turns) (bounds .limit) left (page w out q) link)
 
 abbrev μ-loop : tie.MeasureT-loop
-μ-loop sheet t turns limit n w₀ out₀ e left₀ link₀ q₀ w out left link q = left
+μ-loop sheet t bounds w₀ out₀ e left₀ link₀ q₀ w out left link q = left
 
 returns : tie.Need-returns Inv-loop μ-loop
 returns c = sym (c .before .before .loop .inv .2 ∙ lines-last _ _ _ _ _ _ _ (c .if1 .taken))
 
 loop-again : tie.Need-loop-again Inv-loop μ-loop
-loop-again c = (c .before .before .before .before .line-to .kept .1 .1 .1 .1 .0 ∙ c .before .before .before .before .before .before .before .before .before .before .before .before .loop .inv .0, c .before .before .before .before .line-to .kept .1 .1 .1 .1 .1 .0 ∙ c .before .before .before .before .before .before .before .before .before .before .before .before .loop .inv .1, c .before .before .before .before .before .before .before .before .before .before .before .before .loop .inv .2 ∙ lines-on _ _ _ _ _ _ _ _ _ _ _ _ (c .before .before .before .before .before .before .before .before .before .before .before .loop-test .taken) (c .before .before .before .before .before .before .before .before .before .before .if1 .left) (c .before .before .before .before .before .before .before .before .before .record-of .ensures) (c .before .before .before .before .before .before .before .field .ensures) (c .before .before .before .before .line-to .ensures))
+loop-again c =
+    let c₁ = c .before .before .before .before .before .before .before .before in (
+      c .before .before .before .before .line-to .kept .1 .1 .1 .0 ∙ c₁ .before .before .before .before .loop .inv .0,
+      c .before .before .before .before .line-to .kept .1 .1 .1 .1 .0 ∙ c₁ .before .before .before .before .loop .inv .1,
+      c₁ .before .before .before .before .loop .inv .2 ∙ lines-on _ _ _ _ _ _ _ _ _ _ _ _ (c₁ .before .before .before .loop-test .taken)
+          (c₁ .before .before .if1 .left) (c₁ .before .record-of .ensures)
+          (c .before .before .before .before .before .before .before .field .ensures) (c .before .before .before .before .line-to .ensures),
+    )
 
 returns-2 : tie.Need-returns-2 Inv-loop μ-loop
 returns-2 c = sym (c .before .loop .inv .2 ∙ lines-end _ _ _ _ _ _ _ (c .loop-test .left))

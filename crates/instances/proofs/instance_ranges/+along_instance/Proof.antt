@@ -1,17 +1,6 @@
 use Prim.Native.Nat.{ℕ, _+_, _-_, _<_}
 use Rattle.instances.proofs.instance_ranges.+along_instance.Tie.{close}
 use Rattle.instances.proofs.instance_ranges.+along_instance.{statement}
-use Rattle.instances.proofs.instance_ranges.Laws.{
-  along-rank,
-  along-variable,
-  along-differs,
-  along-constant,
-  along-applied,
-  more-end,
-  more-other,
-  more-differs,
-  more-on,
-}
 use Rattle.term_scanner.proofs.ranges.Laws.{inside}
 use Rattle.scanning.specs.Instances.{alongMore, along}
 use borrow.Author.Needs.{needs}
@@ -30,6 +19,17 @@ use Rattle.node_table.proofs.child.Reads as child-reads
 use Rattle.node_table.proofs.child_count.Reads as child-count-reads
 use Rattle.node_table.proofs.kind.Reads as kind-reads
 use Rattle.node_table.proofs.label.Reads as label-reads
+use Rattle.instances.proofs.instance_ranges.Laws.{
+  along-rank,
+  along-variable,
+  along-differs,
+  along-constant,
+  along-applied,
+  more-end,
+  more-other,
+  more-differs,
+  more-on,
+}
 
 abbrev μ : Measures 4 kinds.ps ℕ
 μ κs a = a .0
@@ -63,12 +63,12 @@ claims t = (
 )
 
 abbrev Inv-loop : lts.InvT-loop
-Inv-loop rank sheet t text w g m i name e left₀ at₀ j₀ mark₀ left at j mark =
-    (0 < mark) × (j + left ≡ left₀) × (along rank sheet t text w g m i
-    ≡ alongMore (along (rank - 1) sheet t text w g) left t m j text mark at)
+Inv-loop rank sheet t text w instance i m name e left₀ at₀ j₀ mark₀ left at j mark =
+    (0 < mark) × (j + left ≡ left₀) × (along rank sheet t text w (instance .frame) m i
+    ≡ alongMore (along (rank - 1) sheet t text w (instance .frame)) left t m j text mark at)
 
 abbrev μ-loop : lts.MeasureT-loop
-μ-loop rank sheet t text w g m i name e left₀ at₀ j₀ mark₀ left at j mark = left
+μ-loop rank sheet t text w instance i m name e left₀ at₀ j₀ mark₀ left at j mark = left
 
 returns : (t : ℕ) → lts.Need-returns (claims t) (at t) own.Post Inv-loop μ-loop
 returns t c = along-rank _ _ _ _ _ _ _ _ (c .if1 .taken)
@@ -142,7 +142,7 @@ pub +along-instance-spec : {M : Type 1} → statement M
     (at t) own.Post Inv-loop μ-loop (returns t)
     (λ c κs. search needs) (λ c κs. search needs) (λ c κs. search needs) (returns-2 t) (λ c κs. search needs)
     (λ c. search needs) (λ c. search needs) (returns-3 t) (λ c κs. search needs) (returns-4 t)
-    (loop-holds t) (λ c κs. search needs) (λ c. search needs) (λ c κs. search needs)
+    (loop-holds t) (λ c κs. search needs) (λ c κs. search needs) (λ c. search needs)
     (add-along-instance t) (λ c κs. search needs) (λ c. search needs) (λ c. search needs)
     (returns-5 t) (λ c. search needs) (λ c. search needs) (λ c. search needs) (loop-again t)
     (returns-6 t) (λ c κs. search needs) (returns-7 t)

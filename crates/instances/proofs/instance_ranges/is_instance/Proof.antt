@@ -7,8 +7,9 @@ returns : tie.Need-returns
 returns c = instance-differs _ _ _ _ _ _ _ _ _ (c .before .before .along-instance .ensures) (c .enum-told .given .1)
 
 returns-2 : tie.Need-returns-2
-returns-2 c = instance-ends _ _ _ _ _ _ _ _ _ _ (c .before .before .before .along-instance .ensures) (c .before .i .given .1)
+returns-2 c =
+    instance-ends _ _ _ _ _ _ _ _ _ _ (c .before .before .before .before .along-instance .ensures)
+    (c .before .before .i .given .1)
 
 pub is-instance-spec : {M : Type 1} → statement M
-is-instance-spec =
-    tie.close (tie.spec (λ c κs. search needs) (λ c. search needs) (λ c. search needs) returns returns-2)
+is-instance-spec = tie.close (tie.spec (λ c κs. search needs) (λ c. search needs) (λ c. search needs) returns returns-2)

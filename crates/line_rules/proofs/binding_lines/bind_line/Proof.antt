@@ -4,7 +4,9 @@ use Rattle.line_rules.proofs.binding_lines.bind_line.Statement.{stateme
 use Rattle.line_rules.proofs.binding_lines.bind_line.Tie as tie
 
 returns : tie.Need-returns
-returns c = binds _ _ _ _ _ _ _ _ _ _ _ _ (c .before .before .before .before .before .binds-variable .ensures) (c .before .before .before .before .if1 .taken) (c .before .before .bind-term .ensures)
+returns c =
+    binds _ _ _ _ _ _ _ _ _ _ _ _ (c .before .before .before .before .before .before .binds-variable .ensures)
+    (c .before .before .before .before .before .if1 .taken) (c .before .before .bind-term .ensures)
 
 returns-2 : tie.Need-returns-2
 returns-2 c = binds-not _ _ _ _ _ _ _ _ _ _ _ _ (c .before .before .binds-variable .ensures) (c .before .if1 .left) ((c .broken .ensures) _)

@@ -6,7 +6,9 @@ use Rattle.line_rules.proofs.clause_rules.clause_line.Tie as tie
 
 returns : tie.Need-returns
 unfolding ascii
-returns c = clause-begun _ _ _ _ _ _ _ _ _ _ _ _ (c .before .before .before .before .before .begins-with .ensures) (c .before .before .before .before .if1 .taken) (c .before .before .clause-fields .ensures)
+returns c =
+    clause-begun _ _ _ _ _ _ _ _ _ _ _ _ (c .before .before .before .before .before .before .begins-with .ensures)
+    (c .before .before .before .before .before .if1 .taken) (c .before .before .clause-fields .ensures)
 
 returns-2 : tie.Need-returns-2
 unfolding ascii
@@ -15,5 +17,5 @@ returns-2 c = clause-wrong _ _ _ _ _ _ _ _ _ _ _ _ (c .before .before .begins-wi
 pub clause-line-spec : {M : Type 1} → statement M
 clause-line-spec =
     tie.close
-    (tie.spec (λ c. search needs) (λ c κs. search needs) (λ c. search needs) (λ c κs. search needs) (λ c. search needs) returns
-    (λ c κs. search needs) returns-2)
+    (tie.spec (λ c. search needs) (λ c κs. search needs) (λ c. search needs) (λ c κs. search needs) (λ c. search needs)
+    returns (λ c κs. search needs) returns-2)

@@ -7,23 +7,33 @@ use Rattle.line_rules.proofs.prefixes.prefix_at.Tie as tie
 returns : tie.Need-returns
 returns c = term-none _ _ _ _ _ _ _ _ _ _ _ (c .before .byte .ensures) (c .if1 .taken)
 
-add-scan-term : tie.Need-add-scan-term
-add-scan-term c = omega (arith, tab-inside (c .before .before .before .before .before .before .args .text .now) _ _ (c .before .byte .ensures) (c .if1 .left))
-
-add-prefix-term : tie.Need-add-prefix-term
-add-prefix-term c = omega (arith, tab-inside (c .before .before .before .before .before .before .before .before .before .before .before .args .text .now) _ _ (c .before .before .before .before .before .before .byte .ensures) (c .before .before .before .before .before .if1 .left))
+add-term : tie.Need-add-term
+add-term c =
+    let l = c .before in
+    let h = tab-inside (l .before .before .before .before .before .before .args .text .now) _ _ (l .before .byte .ensures) (l .if1 .left) in
+    omega arith
 
 prefix-term-requires : tie.Need-prefix-term-requires
-prefix-term-requires c κs = (omega (arith, tab-inside (c .before .before .before .before .before .before .before .before .before .before .before .args .text .now) _ _ (c .before .before .before .before .before .before .byte .ensures) (c .before .before .before .before .before .if1 .left)), search needs)
+prefix-term-requires c κs =
+    let l = c .before .before .before .before .before .before in
+    let h = tab-inside (l .before .before .before .before .before .before .args .text .now) _ _ (l .before .byte .ensures) (l .if1 .left) in
+    (omega arith, search needs)
 
 returns-2 : tie.Need-returns-2
-returns-2 c = term-read _ _ _ _ _ _ _ _ _ _ _ (c .before .before .before .before .before .before .before .before .before .byte .ensures) (c .before .before .before .before .before .before .before .before .if1 .left) _ (c .before .before .before .before .before .before .before .scan-term .ensures) _ _ _ (c .before .before .before .before .before .j .given .1) (c .before .before .prefix-term .ensures)
+returns-2 c =
+    term-read _ _ _ _ _ _ _ _ _ _ _
+    (c .before .before .before .before .before .before .before .before .before .before .byte .ensures)
+    (c .before .before .before .before .before .before .before .before .before .if1 .left) _
+    (c .before .before .before .before .before .before .before .scan-term .ensures) _ _ _
+    (c .before .before .before .before .before .j .given .1) (c .before .before .prefix-term .ensures)
 
 returns-3 : tie.Need-returns-3
-returns-3 c = term-wrong _ _ _ _ _ _ _ _ _ _ _ (c .before .before .before .before .byte .ensures) (c .before .before .before .if1 .left) _ (c .before .before .scan-term .ensures) (c .enum-told .given .1)
+returns-3 c =
+    term-wrong _ _ _ _ _ _ _ _ _ _ _ (c .before .before .before .before .before .byte .ensures)
+    (c .before .before .before .before .if1 .left) _ (c .before .before .scan-term .ensures) (c .enum-told .given .1)
 
 pub prefix-at-spec : {M : Type 1} → statement M
 prefix-at-spec =
     tie.close
-    (tie.spec (λ c κs. search needs) returns add-scan-term (λ c κs. search needs) (λ c. search needs) add-prefix-term
-    prefix-term-requires (λ c. search needs) (λ c. search needs) returns-2 returns-3)
+    (tie.spec (λ c κs. search needs) returns add-term (λ c κs. search needs) (λ c. search needs) prefix-term-requires
+    (λ c. search needs) (λ c. search needs) returns-2 returns-3)

@@ -7,16 +7,26 @@ use Rattle.line_rules.proofs.prefixes.prefix_from.Statement.{statement}
 use Rattle.line_rules.proofs.prefixes.prefix_from.Tie as tie
 
 abbrev Inv-loop : tie.InvT-loop
-Inv-loop n sheet t symbols text w₀ q vs i m e left₀ names₀ at₀ w left names at = (length w ≡ length w₀) × (prefixFrom n sheet t symbols text w₀ q vs i m e ≡ prefixFrom left sheet t symbols text w q names at m e)
+Inv-loop sheet t symbols text w₀ line prefix left₀ names₀ at₀ w left names at =
+    (length w ≡ length w₀) × (prefixFrom (prefix .count) sheet t symbols text w₀ (line .number) (prefix .names) (line .at)
+    (prefix .level) (line .end) ≡ prefixFrom left sheet t symbols text w (line .number) names at (prefix .level) (line .end))
 
 abbrev μ-loop : tie.MeasureT-loop
-μ-loop n sheet t symbols text w₀ q vs i m e left₀ names₀ at₀ w left names at = left
+μ-loop sheet t symbols text w₀ line prefix left₀ names₀ at₀ w left names at = left
 
 returns : tie.Need-returns Inv-loop μ-loop
-returns c = sym ((c .before .before .before .before .before .before .before .loop .inv .1) ∙ terms-wrong _ _ _ _ _ _ _ _ _ _ _ _ (c .before .before .before .before .prefix-at .ensures) _ (c .before .before .before .before .before .before .loop-test .taken) (c .enum-told .given .1))
+returns c =
+    sym ((c .before .before .before .before .before .before .before .loop .inv .1) ∙ terms-wrong _ _ _ _ _ _ _ _ _ _ _ _
+    (c .before .before .before .before .prefix-at .ensures) _
+    (c .before .before .before .before .before .before .loop-test .taken) (c .enum-told .given .1))
 
 loop-again : tie.Need-loop-again Inv-loop μ-loop
-loop-again c = (search needs, (c .before .before .before .before .before .before .before .before .loop .inv .1) ∙ terms-on _ _ _ _ _ _ _ _ _ _ _ _ (c .before .before .before .before .before .prefix-at .ensures) _ _ _ (c .before .before .before .before .before .before .before .loop-test .taken) (c .before .a .given .1))
+loop-again c =
+    let p = c .before .before .before .before .before in (
+      search needs,
+      p .before .before .before .loop .inv .1
+          ∙ terms-on _ _ _ _ _ _ _ _ _ _ _ _ (p .prefix-at .ensures) _ _ _ (p .before .before .loop-test .taken) (c .before .a .given .1),
+    )
 
 returns-2 : tie.Need-returns-2 Inv-loop μ-loop
 returns-2 c = sym ((c .before .loop .inv .1) ∙ terms-end _ _ _ _ _ _ _ _ _ _ _ (c .loop-test .left))

@@ -4,10 +4,12 @@ use Rattle.line_rules.proofs.prefixes.prefix_term.Statement.{statement}
 use Rattle.line_rules.proofs.prefixes.prefix_term.Tie as tie
 
 returns : tie.Need-returns
-returns c = prefix-right _ _ _ _ _ _ _ _ _ (c .before .before .before .before .before .if1 .taken) (c .before .before .before .before .if2 .taken) (c .before .before .put-slot .ensures)
+returns c =
+    prefix-right _ _ _ _ _ _ _ _ _ (c .before .before .before .before .before .before .before .before .if1 .taken)
+    (c .before .before .before .before .before .before .if2 .taken) (c .before .before .put-slot .ensures)
 
 returns-2 : tie.Need-returns-2
-returns-2 c = prefix-high _ _ _ _ _ _ _ _ (c .before .if1 .taken) (c .if2 .left)
+returns-2 c = prefix-high _ _ _ _ _ _ _ _ (c .before .before .if1 .taken) (c .if2 .left)
 
 returns-3 : tie.Need-returns-3
 returns-3 c = prefix-long _ _ _ _ _ _ _ _ (c .if1 .left)

@@ -6,7 +6,9 @@ use Rattle.line_rules.proofs.result_lines.open_line.Tie as tie
 
 returns : tie.Need-returns
 unfolding ascii
-returns c = λ w. opens _ _ _ _ _ _ _ _ _ (c .before .before .begins-with .ensures) (c .before .if1 .taken) ((c .open-units .ensures) w)
+returns c =
+    λ w. opens _ _ _ _ _ _ _ _ _ (c .before .before .before .begins-with .ensures) (c .before .before .if1 .taken)
+    ((c .open-units .ensures) w)
 
 returns-2 : tie.Need-returns-2
 unfolding ascii

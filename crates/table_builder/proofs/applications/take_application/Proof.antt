@@ -18,21 +18,48 @@ returns-2 c =
     simp (takeApplication, le-leb _ _ (c .if2 .taken), lt-leb _ _ (c .before .before .if1 .left))
 
 slice-aggregate-all-there : tie.Need-slice-aggregate-all-there
-slice-aggregate-all-there c = first-length (c .before .wide .result) (c .before .before .before .before .before .before .before .args .count) (c .before .before .before .before .before .before .before .args .a) (c .before .before .before .before .before .before .before .args .b) (c .before .before .before .before .before .before .before .args .c) (c .before .before .before .before .before .before .before .args .d) (c .before .before .before .before .before .before .before .pre) (c .before .wide .ensures .0)
+slice-aggregate-all-there c =
+    let s = c .before .before .before .before .before .before .before in
+    first-length (c .before .wide .result) (s .args .a .count) (s .args .a .first) (s .args .a .second) (s .args .a .third)
+    (s .args .a .fourth) (s .pre) (c .before .wide .ensures .0)
 
 slice-aggregate-application-info : tie.Need-slice-aggregate-application-info
-slice-aggregate-application-info c = first-length (c .before .before .before .before .before .wide .result) (c .before .before .before .before .before .before .before .before .before .before .before .args .count) (c .before .before .before .before .before .before .before .before .before .before .before .args .a) (c .before .before .before .before .before .before .before .before .before .before .before .args .b) (c .before .before .before .before .before .before .before .before .before .before .before .args .c) (c .before .before .before .before .before .before .before .before .before .before .before .args .d) (c .before .before .before .before .before .before .before .before .before .before .before .pre) (c .before .before .before .before .before .wide .ensures .0)
+slice-aggregate-application-info c =
+    let w = c .before .before .before .before .before in
+    let s = w .before .before .before .before .before .before in
+    first-length (w .wide .result) (s .args .a .count) (s .args .a .first) (s .args .a .second) (s .args .a .third)
+    (s .args .a .fourth) (s .pre) (w .wide .ensures .0)
 
 application-info-requires : tie.Need-application-info-requires
-application-info-requires c κs = let e = first-length (c .before .before .before .before .before .wide .result) (c .before .before .before .before .before .before .before .before .before .before .before .args .count) (c .before .before .before .before .before .before .before .before .before .before .before .args .a) (c .before .before .before .before .before .before .before .before .before .before .before .args .b) (c .before .before .before .before .before .before .before .before .before .before .before .args .c) (c .before .before .before .before .before .before .before .before .before .before .before .args .d) (c .before .before .before .before .before .before .before .before .before .before .before .pre) (c .before .before .before .before .before .wide .ensures .0) in omega arith
+application-info-requires c κs =
+    let w = c .before .before .before .before .before in
+    let s = w .before .before .before .before .before .before in
+    let e = first-length (w .wide .result) (s .args .a .count) (s .args .a .first) (s .args .a .second) (s .args .a .third)
+    (s .args .a .fourth) (s .pre) (w .wide .ensures .0) in
+    omega arith
 
 returns-3 : tie.Need-returns-3
-returns-3 c = application-taken _ _ _ _ _ _ _ _ _ _ _ _ _ _ (c .before .before .before .before .before .before .before .before .before .before .before .before .before .before .before .if1 .left) (c .before .before .before .before .before .before .before .before .before .before .before .before .before .if2 .left) (c .before .before .before .before .before .before .before .before .before .before .before .before .wide .ensures .0) (c .before .before .before .before .before .before .before .before .before .before .all-there .ensures) (c .before .before .before .before .before .before .before .before .before .if3 .taken) (c .before .before .before .before .before .before .application-info .ensures) (c .before .before .before .before .applied-kind .ensures .0) (c .before .before .add-node .ensures)
+returns-3 c =
+    application-taken _ _ _ _ _ _ _ _ _ _ _ _ _ _ (c .before .before .before .before .before .before .before .before .before
+    .before .before .before .before .before .before .before .if1 .left) (c .before .before .before .before .before .before
+    .before .before .before .before .before .before .before .before .if2 .left) (c .before .before .before .before .before
+    .before .before .before .before .before .before .before .before .wide .ensures .0)
+    (c .before .before .before .before .before .before .before .before .before .before .before .all-there .ensures)
+    (c .before .before .before .before .before .before .before .before .before .before .if3 .taken)
+    (c .before .before .before .before .before .before .before .application-info .ensures)
+    (c .before .before .before .before .before .applied-kind .ensures .0) (c .before .before .add-node .ensures)
 
 returns-4 : tie.Need-returns-4
 unfolding takeApplication
 returns-4 c =
-    simp (takeApplication, c .if3 .left, ← c .before .all-there .ensures, ← c .before .before .before .wide .ensures .0, lt-leb _ _ (c .before .before .before .before .if2 .left), lt-leb _ _ (c .before .before .before .before .before .before .if1 .left))
+    simp (
+      takeApplication,
+      c .if3 .left,
+      ← c .before .all-there .ensures,
+      ← c .before .before .before .wide .ensures .0,
+      lt-leb _ _ (c .before .before .before .before .if2 .left),
+      lt-leb _ _ (c .before .before .before .before .before .before .if1 .left),
+    )
 
 pub take-application-spec : {M : Type 1} → statement M
 take-application-spec =

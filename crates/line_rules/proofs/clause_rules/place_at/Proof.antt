@@ -1,0 +1,13 @@
+use borrow.Author.Tests.{eq-eqb, ne-eqb}
+use borrow.Author.Needs.{needs}
+use Rattle.line_rules.proofs.clause_rules.place_at.Statement.{statement}
+use Rattle.line_rules.proofs.clause_rules.place_at.Tie as tie
+
+returns : tie.Need-returns
+returns c = rw (eq-eqb _ _ (c .if1 .taken))
+
+returns-2 : tie.Need-returns-2
+returns-2 c = rw (ne-eqb _ _ (c .before .if1 .left)) (c .hypothesis-from .ensures)
+
+pub place-at-spec : {M : Type 1} → statement M
+place-at-spec = tie.close (tie.spec returns (λ c. search needs) (λ c κs. search needs) returns-2)
