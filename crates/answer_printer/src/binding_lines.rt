@@ -3,7 +3,7 @@ use super::line_parts::bytes_to;
 use super::line_parts::last_term;
 use super::line_parts::number_to;
 use machine_memory::words::variable_word;
-use printing::Pen;
+use printing::Cursor;
 use sheet_format::limits;
 use term_printer::Bounds;
 ghost use mathlib.Core.Path.{_≡_};
@@ -12,7 +12,7 @@ ghost use Prim.Native.Nat.{_%_, _≤_};
 ghost use lib.Dec.{eqb};
 ghost use Rattle.sheet_format.specs.Bytes.{ascii};
 ghost use Rattle.machine.specs.Words.{variableWord};
-ghost use Rattle.printing.specs.Marks.{page};
+ghost use Rattle.printing.specs.Numbering.{printer};
 ghost use Rattle.printing.specs.WriteLines.{bytesTo, numberTo, termLine, bindingsTo};
 
 // Names of variables, from the first on: a bit for each says whether it stands free, the lowest for the first.
@@ -29,10 +29,13 @@ fn binding_to(
     names: Names,
     w: &mut [u32],
     out: &mut [u8],
-    p: Pen,
-) -> Pen
+    p: Cursor,
+) -> Cursor
     requires { ⌜ bounds .limit ≤ 65535 ⌝ }
-    ensures { λ q. ⌜ page (now (w .exit)) (now (out .exit)) q ≡ cond (eqb (names .bits % 2) 1) (termLine (now (sheet .entry)) (now (t .entry)) (bounds .turns) (bounds .limit) (numberTo (bounds .limit) (bytesTo (bounds .limit) (page (now (w .entry)) (now (out .entry)) p) (ascii "B\t")) (names .first)) (ascii "\t") (variableWord (names .first))) (page (now (w .entry)) (now (out .entry)) p) ⌝ }
+    ensures { λ q. ⌜ printer (now (w .exit)) (now (out .exit)) q ≡ cond (eqb (names .bits % 2) 1)
+        (termLine (now (sheet .entry)) (now (t .entry)) (bounds .turns) (bounds .limit)
+        (numberTo (bounds .limit) (bytesTo (bounds .limit) (printer (now (w .entry)) (now (out .entry)) p) (ascii "B\t")) (names .first))
+        (ascii "\t") (variableWord (names .first))) (printer (now (w .entry)) (now (out .entry)) p) ⌝ }
 {
     let bit = names.bits % 2;
     if bit != 1 {
@@ -54,10 +57,11 @@ pub fn bindings_to(
     bits: u32,
     w: &mut [u32],
     out: &mut [u8],
-    p: Pen,
-) -> Pen
+    p: Cursor,
+) -> Cursor
     requires { ⌜ bounds .limit ≤ 65535 ⌝ }
-    ensures { λ q. ⌜ page (now (w .exit)) (now (out .exit)) q ≡ bindingsTo (now (sheet .entry)) (now (t .entry)) (bounds .turns) (bounds .limit) 8 bits 0 (page (now (w .entry)) (now (out .entry)) p) ⌝ }
+    ensures { λ q. ⌜ printer (now (w .exit)) (now (out .exit)) q ≡ bindingsTo (now (sheet .entry)) (now (t .entry)) (bounds .turns)
+        (bounds .limit) 8 bits 0 (printer (now (w .entry)) (now (out .entry)) p) ⌝ }
 {
     let mut left: u32 = limits::VARIABLE_NAMES;
     let mut rest = bits;

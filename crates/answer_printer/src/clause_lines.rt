@@ -5,17 +5,17 @@ use super::line_parts::number_to;
 use machine::fields;
 use machine_memory::words::TAGS;
 use machine_memory::words::VARIABLE_TAG;
-use machine_memory::words::narrow;
-use memory::wide;
-use printing::Pen;
+use machine_memory::words::truncate;
+use memory::field;
+use memory::widen;
+use printing::Cursor;
+use term_printer::Bounds;
 use term_printer::cursor::emit_to;
 use term_printer::term_to;
 ghost use mathlib.Core.Path.{_≡_};
 ghost use Prim.Native.Nat.{_+_, _<_, _≤_};
-ghost use Rattle.printing.specs.Marks.{page};
+ghost use Rattle.printing.specs.Numbering.{printer};
 ghost use Rattle.printing.specs.WriteLines.{prefixTo, clauseTo};
-use memory::field;
-use term_printer::Bounds;
 
 // So many variables, from the first on.
 pub struct Variables {
@@ -30,11 +30,12 @@ pub fn prefix_to(
     bounds: Bounds,
     w: &mut [u32],
     out: &mut [u8],
-    p: Pen,
+    p: Cursor,
     prefix: Variables,
-) -> Pen
+) -> Cursor
     requires { ⌜ (bounds .limit ≤ 65535) × (prefix .first + prefix .count < 8589934592) ⌝ }
-    ensures { λ q. ⌜ page (now (w .exit)) (now (out .exit)) q ≡ prefixTo (now (sheet .entry)) (now (t .entry)) (bounds .turns) (bounds .limit) (prefix .count) (page (now (w .entry)) (now (out .entry)) p) (prefix .first) ⌝ }
+    ensures { λ q. ⌜ printer (now (w .exit)) (now (out .exit)) q ≡ prefixTo (now (sheet .entry)) (now (t .entry)) (bounds .turns)
+        (bounds .limit) (prefix .count) (printer (now (w .entry)) (now (out .entry)) p) (prefix .first) ⌝ }
 {
     let mut left = prefix.count;
     let mut next = prefix.first;
@@ -48,7 +49,7 @@ pub fn prefix_to(
             w,
             out,
             e,
-            narrow(TAGS * next + VARIABLE_TAG),
+            truncate(TAGS * next + VARIABLE_TAG),
         );
         next += 1;
         left -= 1;
@@ -63,15 +64,16 @@ pub fn clause_to(
     bounds: Bounds,
     w: &mut [u32],
     out: &mut [u8],
-    p: Pen,
+    p: Cursor,
     u: u32,
-) -> Pen
+) -> Cursor
     requires { ⌜ bounds .limit ≤ 65535 ⌝ }
-    ensures { λ q. ⌜ page (now (w .exit)) (now (out .exit)) q ≡ clauseTo (now (sheet .entry)) (now (t .entry)) (bounds .turns) (bounds .limit) (page (now (w .entry)) (now (out .entry)) p) u ⌝ }
+    ensures { λ q. ⌜ printer (now (w .exit)) (now (out .exit)) q ≡ clauseTo (now (sheet .entry)) (now (t .entry)) (bounds .turns)
+        (bounds .limit) (printer (now (w .entry)) (now (out .entry)) p) u ⌝ }
 {
     let place = field(w, u, fields::USE_PLACE);
     let count = field(w, u, fields::USE_COUNT);
-    let first = wide(field(w, u, fields::VARIABLES));
+    let first = widen(field(w, u, fields::VARIABLES));
     let prefix = Variables { first, count };
     let limit = bounds.limit;
     let mut q = bytes_to(limit, out, p, b"D\tclause\t");

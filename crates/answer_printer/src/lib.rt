@@ -1,4 +1,4 @@
-// The engine's writer: the text of a proof in two passes over the lent buffers, the first to see that it fits.
+// The answer printer: the text of a proof in two passes over the lent buffers, the first to see that it fits.
 // Each function is a definition of the crate printing, and its contract says so.
 mod binding_lines;
 mod clause_lines;
@@ -11,20 +11,19 @@ use line_parts::result_to;
 use machine::Registers;
 use node_table::mask;
 use path_lines::lines_to;
-use printing::Pen;
-use sheet_format::limits;
+use printing::Cursor;
 use short_texts::text_limit;
-use term_printer::numbering::on_at;
+use term_printer::Bounds;
+use term_printer::numbering::with_position;
 use term_printer::path_links::clear_constants;
 use term_printer::path_links::link_path;
 ghost use mathlib.Core.Path.{_≡_};
 ghost use mathlib.Core.List.{List};
 ghost use Prim.Native.Nat.{ℕ, _<_, _≤_};
 ghost use Rattle.machine.specs.Records.{made};
-ghost use Rattle.printing.specs.Marks.{page};
-ghost use Rattle.printing.specs.Links.{linked};
+ghost use Rattle.printing.specs.Numbering.{printer};
+ghost use Rattle.printing.specs.PathLinks.{linked};
 ghost use Rattle.printing.specs.Writer.{proofPass, prepare, firstLink, answered, writePass, writeProof};
-use term_printer::Bounds;
 
 // A proved search: the node of its goal, the units, and the link to the first line of its path.
 pub struct Proved {
@@ -41,10 +40,11 @@ pub fn proof_pass(
     proved: Proved,
     w: &mut [u32],
     out: &mut [u8],
-    p: Pen,
-) -> Pen
+    p: Cursor,
+) -> Cursor
     requires { ⌜ bounds .limit ≤ 65535 ⌝ }
-    ensures { λ q. ⌜ page (now (w .exit)) (now (out .exit)) q ≡ proofPass (now (sheet .entry)) (now (t .entry)) (bounds .turns) (bounds .limit) (proved .goal) (proved .units) (proved .path) (page (now (w .entry)) (now (out .entry)) p) ⌝ }
+    ensures { λ q. ⌜ printer (now (w .exit)) (now (out .exit)) q ≡ proofPass (now (sheet .entry)) (now (t .entry)) (bounds .turns)
+        (bounds .limit) (proved .goal) (proved .units) (proved .path) (printer (now (w .entry)) (now (out .entry)) p) ⌝ }
 {
     let bits = mask(t, proved.goal);
     let mut q = result_to(bounds.limit, out, p, b"R\tproved\t", proved.units);
@@ -69,13 +69,15 @@ pub fn write_pass(
     bounds: Bounds,
     proved: Proved,
     w: &mut [u32],
-    p: Pen,
+    p: Cursor,
     out: &mut [u8],
 ) -> u32
     requires { ⌜ bounds .limit ≤ 65535 ⌝ }
-    ensures { λ n. ⌜ ((b : List ℕ) → answered (now (w .exit)) (now (out .exit)) n ≡ writePass (now (sheet .entry)) (now (t .entry)) (bounds .turns) (bounds .limit) (proved .goal) (proved .units) (proved .path) (page (now (w .entry)) b p) (now (out .entry))) ⌝ }
+    ensures { λ n.
+        ⌜ ((b : List ℕ) → answered (now (w .exit)) (now (out .exit)) n ≡ writePass (now (sheet .entry)) (now (t .entry)) (bounds .turns)
+        (bounds .limit) (proved .goal) (proved .units) (proved .path) (printer (now (w .entry)) b p) (now (out .entry))) ⌝ }
 {
-    let q = proof_pass(sheet, t, bounds, proved, w, out, on_at(p, 0));
+    let q = proof_pass(sheet, t, bounds, proved, w, out, with_position(p, 0));
     q.at
 }
 
@@ -89,7 +91,8 @@ pub fn write_proof(
     units: u32,
     out: &mut [u8],
 ) -> u32
-    ensures { λ n. ⌜ answered (now (w .exit)) (now (out .exit)) n ≡ writeProof (now (sheet .entry)) (now (t .entry)) goal (made (now (w .entry)) r) units (now (out .entry)) ⌝ }
+    ensures { λ n. ⌜ answered (now (w .exit)) (now (out .exit)) n ≡ writeProof (now (sheet .entry)) (now (t .entry)) goal
+        (made (now (w .entry)) r) units (now (out .entry)) ⌝ }
 {
     let limit = text_limit(out);
     let bounds = Bounds {
@@ -98,7 +101,7 @@ pub fn write_proof(
     };
     let path = prepare(w, r);
     let proved = Proved { goal, units, path };
-    let p = Pen {
+    let p = Cursor {
         at: 0,
         variables: 0,
         constants: 0,

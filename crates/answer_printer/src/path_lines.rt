@@ -2,24 +2,24 @@
 // printing, and its contract says so.
 use super::clause_lines::clause_to;
 use super::line_parts::bytes_to;
+use super::line_parts::last_term;
 use machine::fields;
 use machine::lines;
 use machine_memory::cells::record_of;
 use machine_memory::words::constant_word;
 use machine_memory::words::variable_word;
-use printing::Pen;
+use memory::field;
+use printing::Cursor;
+use term_printer::Bounds;
 ghost use mathlib.Core.Path.{_≡_};
 ghost use mathlib.Core.List.{List};
 ghost use Prim.Native.Nat.{ℕ, _%_, _<_, _≤_};
-ghost use Rattle.printing.specs.Marks.{page};
+ghost use Rattle.printing.specs.Numbering.{printer};
 ghost use Rattle.printing.specs.WriteLines.{bytesTo, plainBytes, lineTo, linesTo};
-use super::line_parts::last_term;
-use memory::field;
-use term_printer::Bounds;
 
 // The five lines that have no term.
-pub fn plain_to(limit: u32, out: &mut [u8], p: Pen, k: u32) -> Pen
-    ensures { λ q. ⌜ ((m : List ℕ) → page m (now (out .exit)) q ≡ bytesTo limit (page m (now (out .entry)) p) (plainBytes k)) ⌝ }
+pub fn plain_to(limit: u32, out: &mut [u8], p: Cursor, k: u32) -> Cursor
+    ensures { λ q. ⌜ ((m : List ℕ) → printer m (now (out .exit)) q ≡ bytesTo limit (printer m (now (out .entry)) p) (plainBytes k)) ⌝ }
 {
     if k == lines::TRUE {
         return bytes_to(limit, out, p, b"D\ttrue\n");
@@ -49,11 +49,12 @@ pub fn line_to(
     bounds: Bounds,
     w: &mut [u32],
     out: &mut [u8],
-    p: Pen,
+    p: Cursor,
     line: PathLine,
-) -> Pen
+) -> Cursor
     requires { ⌜ bounds .limit ≤ 65535 ⌝ }
-    ensures { λ q. ⌜ page (now (w .exit)) (now (out .exit)) q ≡ lineTo (now (sheet .entry)) (now (t .entry)) (bounds .turns) (bounds .limit) (page (now (w .entry)) (now (out .entry)) p) (line .record) (line .kind) ⌝ }
+    ensures { λ q. ⌜ printer (now (w .exit)) (now (out .exit)) q ≡ lineTo (now (sheet .entry)) (now (t .entry)) (bounds .turns)
+        (bounds .limit) (printer (now (w .entry)) (now (out .entry)) p) (line .record) (line .kind) ⌝ }
 {
     let limit = bounds.limit;
     let u = line.record;
@@ -81,11 +82,12 @@ pub fn lines_to(
     bounds: Bounds,
     w: &mut [u32],
     out: &mut [u8],
-    p: Pen,
+    p: Cursor,
     e: u32,
-) -> Pen
+) -> Cursor
     requires { ⌜ bounds .limit ≤ 65535 ⌝ }
-    ensures { λ q. ⌜ page (now (w .exit)) (now (out .exit)) q ≡ linesTo (now (sheet .entry)) (now (t .entry)) (bounds .turns) (bounds .limit) (bounds .turns) (page (now (w .entry)) (now (out .entry)) p) e ⌝ }
+    ensures { λ q. ⌜ printer (now (w .exit)) (now (out .exit)) q ≡ linesTo (now (sheet .entry)) (now (t .entry)) (bounds .turns)
+        (bounds .limit) (bounds .turns) (printer (now (w .entry)) (now (out .entry)) p) e ⌝ }
 {
     let mut left = bounds.turns;
     let mut link = e;

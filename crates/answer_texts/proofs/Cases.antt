@@ -15,7 +15,7 @@ use Rattle.answer_texts.specs.TextLines.{TextLine, bindingLine, derivati
 use Rattle.answer_texts.specs.Judging.{Judgement, valid, invalid}
 use Rattle.answer_texts.proofs.Computing.{computeText, computeJudgement}
 
--- p/2, f/2, a/0
+-- The symbols are p/2, f/2 and a/0.
 abbrev symbols : List Declaration
 symbols =
     record { function = false; name = ascii "p"; arity = 2 } ∷
@@ -26,18 +26,20 @@ unfoldable text : List TextLine → List ℕ
 unfolding computeText
 text xs = computeText symbols xs
 
--- one count for each kind over all levels; a symbol keeps its number; the same number at another level is another symbol
-numbers : text (derivationLine (Dsome (leaf (leftover 5 0))) ∷ derivationLine (Dall (leaf (made 3 1))) ∷ derivationLine (Dsome (leaf (leftover 5 1)))
+-- Each kind has one count over all levels; a symbol keeps its number, and that number at another level is another symbol.
+numbers : text (derivationLine (Dsome (leaf (leftover 5 0))) ∷ derivationLine (Dall (leaf (made 3 1))) ∷ derivationLine
+    (Dsome (leaf (leftover 5 1)))
     ∷ derivationLine (Dsome (leaf (leftover 5 0))) ∷ []) ≡ ascii "D\tsome\t_0@0\nD\tall\t!0@1\nD\tsome\t_1@1\nD\tsome\t_0@0\n"
 unfolding text ascii
 numbers = refl
 
--- names, brackets, commas; a constant as the bare name
-spelling : text (bindingLine 3 (app 1 (cons (app 2 nil) (cons (app 1 (cons (leaf (leftover 0 0)) (cons (app 2 nil) nil))) nil))) ∷ []) ≡ ascii "B\t3\tf(a,f(_0@0,a))\n"
+-- A term is spelled with names, brackets and commas, and a constant as the bare name.
+spelling : text (bindingLine 3 (app 1 (cons (app 2 nil) (cons (app 1 (cons (leaf (leftover 0 0)) (cons (app 2 nil) nil))) nil))) ∷ [])
+    ≡ ascii "B\t3\tf(a,f(_0@0,a))\n"
 unfolding text ascii
 spelling = refl
 
--- every z p(z,z); goal every b some a p(a,b)
+-- The sheet has the clause every z p(z,z) and the goal every b some a p(a,b).
 abbrev sheet : Sheet
 sheet = record {
   symbols = symbols;
@@ -49,7 +51,7 @@ unfoldable says : String → Judgement
 unfolding computeJudgement ascii
 says t = computeJudgement sheet (ascii t)
 
--- the engine's text, and another one of the same derivation with other units
+-- The engine's text is valid, and so is a text of that derivation with other units.
 right : says "R\tproved\t8\nD\tall\t!0@1\nD\tsome\t!0@1\nD\tclause\t1\t!0@1\n" ≡ valid
 unfolding says
 right = refl
@@ -58,7 +60,7 @@ other-units : says "R\tproved\t50000\nD\tall\t!0@1\nD\tsome\t!0@1\nD\tclause\t1\
 unfolding says
 other-units = refl
 
--- a wrong witness in range breaks where the atom is not the head; a witness above the level breaks its own line
+-- A wrong witness in range breaks where the atom is not the head; a witness above the level breaks its own line.
 witness : says "R\tproved\t8\nD\tall\t!0@1\nD\tsome\t!1@1\nD\tclause\t1\t!0@1\n" ≡ invalid 4
 unfolding says
 witness = refl
@@ -67,7 +69,7 @@ high : says "R\tproved\t8\nD\tall\t!0@1\nD\tsome\t!1@2\n" ≡ invalid 3
 unfolding says
 high = refl
 
--- the constant's level, its number, its kind
+-- A constant of a wrong level, number or kind breaks its line.
 constant-level : says "R\tproved\t8\nD\tall\t!0@2\n" ≡ invalid 2
 unfolding says
 constant-level = refl
@@ -80,7 +82,7 @@ constant-kind : says "R\tproved\t8\nD\tall\t_0@1\n" ≡ invalid 2
 unfolding says
 constant-kind = refl
 
--- place, number of prefix terms
+-- A wrong place or a wrong number of prefix terms breaks its line.
 place : says "R\tproved\t8\nD\tall\t!0@1\nD\tsome\t!0@1\nD\tclause\t2\t!0@1\n" ≡ invalid 4
 unfolding says
 place = refl
@@ -89,7 +91,7 @@ few : says "R\tproved\t8\nD\tall\t!0@1\nD\tsome\t!0@1\nD\tclause\t1\n" ≡ inval
 unfolding says
 few = refl
 
--- missing lines, a surplus one, no LF at the end, the empty text, another outcome, units 0
+-- A text with missing or surplus lines, no LF at the end, no byte, another outcome or wrong units is not valid.
 missing : says "R\tproved\t8\nD\tall\t!0@1\n" ≡ invalid 3
 unfolding says
 missing = refl
@@ -122,7 +124,7 @@ units-50001 : says "R\tproved\t50001\n" ≡ invalid 1
 unfolding says
 units-50001 = refl
 
--- some z q(z), as a clause every z (q(z) implies p) with q(a): a prefix term of the body alone is wanted too
+-- The clauses are every z (q(z) implies p) and q(a); a prefix term that only the body uses is needed too.
 abbrev inBody : Sheet
 inBody = record {
   symbols = record { function = false; name = ascii "p"; arity = 0 } ∷ record { function = false; name = ascii "q"; arity = 1 }

@@ -19,30 +19,34 @@ use Rattle.sheet_format.proofs.Names.{Names}
 use Rattle.answer_texts.specs.TextLines.{answerLines}
 use Rattle.answer_texts.specs.Numbering.{numberingOf, shown, numbered}
 use Rattle.answer_texts.specs.Spelling.{spell, proofText}
-use Rattle.answer_texts.specs.Spelled.{opening, sequents, Proceeds, Writable, SpellsDerivation, Beginning, unlines, firstLines, BreaksAfter}
+use Rattle.answer_texts.specs.Spelled.{opening, sequents, Proceeds, Writable, SpellsDerivation, Beginning, unlines, firstLines}
+use Rattle.answer_texts.specs.Spelled.{BreaksAfter}
 use Rattle.answer_texts.specs.Judging.{Progress, valid, invalid, judgeEnd, judgeFrom, judge}
 use Rattle.answer_texts.specs.Promises.{Exact}
 use Rattle.answer_texts.proofs.Splitting.{linesOf-split}
 use Rattle.answer_texts.proofs.Reading.{lineBytes, spell-unlines, linesOf-spell}
 use Rattle.answer_texts.proofs.Numbering.{shows-numbered, numbered-shows}
 use Rattle.answer_texts.proofs.Stages.{InstanceLines, proceeds-instance, instance-proceeds}
-use Rattle.answer_texts.proofs.Judge.{start, Passed, passed-append, passed-judges, judges-valid, judges-invalid, judges-stop, passed-beginning, beginning-passed}
+use Rattle.answer_texts.proofs.Judge.{start, Passed, passed-append, passed-judges, judges-valid, judges-invalid, judges-stop}
+use Rattle.answer_texts.proofs.Judge.{passed-beginning, beginning-passed}
 
--- where l stands after the first n elements, it is one more to take
-next-taken : {A : Type 0} (n : ℕ) (ls : List A) (l : A) (ms : List A) → drop n ls ≡ l ∷ ms → (suc n ≤ length ls) × (take (suc n) ls ≡ take n ls ++ (l ∷ []))
+-- Where l stands after the first n elements, the first n + 1 elements end with l.
+next-taken : {A : Type 0} (n : ℕ) (ls : List A) (l : A) (ms : List A) → drop n ls ≡ l ∷ ms → (suc n ≤ length ls)
+    × (take (suc n) ls ≡ take n ls ++ (l ∷ []))
 next-taken zero [] l ms h = absurd (let z : _≡_ {A = ℕ} 0 1 = cc in omega arith)
 next-taken zero (a ∷ ls) l ms h = (omega arith, ap (_∷ []) (let q : a ≡ l = cc in q))
 next-taken (suc n) [] l ms h = absurd (let z : _≡_ {A = ℕ} 0 1 = cc in omega arith)
 next-taken (suc n) (a ∷ ls) l ms h = let r = next-taken n ls l ms h in (omega (arith, r .0), ap (a ∷_) (r .1))
 
--- what holds of a list holds of its first elements
+-- What holds of all elements of a list holds of its first n elements.
 all-take : {A : Type 0} (P : A → Type 0) (n : ℕ) (l : List A) → All P l → All P (take n l)
 all-take P zero l h = tt
 all-take P (suc n) [] h = tt
 all-take P (suc n) (a ∷ l) h = (h .0, all-take P n l (h .1))
 
-module _ (s : Sheet) (names : Names (s .symbols)) (closed : All Closed (s .clauses)) (small : (v : ℕ) → freeG (s .goal) v ≡ true → v < variableNames) where
-  -- a valid text spells a derivation
+module _ (s : Sheet) (names : Names (s .symbols)) (closed : All Closed (s .clauses)) (small : (v : ℕ) → freeG (s .goal) v ≡ true
+    → v < variableNames) where
+  -- A valid text spells a derivation.
   valid-spells : (text : List ℕ) → judge s text ≡ valid → SpellsDerivation s text
   unfolding judge proofText
   valid-spells text h =
@@ -57,11 +61,12 @@ module _ (s : Sheet) (names : Names (s .symbols)) (closed : All Closed (s .claus
         environment = i .environment;
         proof = i .proof;
         writable = subst (All (Writable (s .symbols))) e (r .1 .writable);
-        spelled = sym (linesOf-split text .joined) ∙ ap (unlines (linesOf text .whole) ++_) (r .3) ∙ append-nil (unlines (linesOf text .whole))
+        spelled =
+            sym (linesOf-split text .joined) ∙ ap (unlines (linesOf text .whole) ++_) (r .3) ∙ append-nil (unlines (linesOf text .whole))
             ∙ ap unlines (sym (r .1 .spelled)) ∙ sym (spell-unlines (s .symbols) xs) ∙ ap (spell (s .symbols)) e;
       }
 
-  -- and a text that does is valid
+  -- A text that spells a derivation is valid.
   spells-valid : (text : List ℕ) → SpellsDerivation s text → judge s text ≡ valid
   unfolding judge judgeFrom judgeEnd proofText numbered
   spells-valid text h =
@@ -69,7 +74,14 @@ module _ (s : Sheet) (names : Names (s .symbols)) (closed : All Closed (s .claus
       let u = numbered-shows xs in
       let ls = map (lineBytes (s .symbols)) (numbered xs) in
       let q : Progress = record { stage = sequents []; seen = u .0 } in
-      let i : InstanceLines s xs = record { units = h .units; least = h .least; most = h .most; environment = h .environment; proof = h .proof; textLines = refl } in
+      let i : InstanceLines s xs = record {
+        units = h .units;
+        least = h .least;
+        most = h .most;
+        environment = h .environment;
+        proof = h .proof;
+        textLines = refl;
+      } in
       let p : Passed s ls start q = record {
         textLines = numbered xs;
         spelled = refl;
@@ -77,12 +89,14 @@ module _ (s : Sheet) (names : Names (s .symbols)) (closed : All Closed (s .claus
         proceeds = instance-proceeds s closed small (numberingOf (shown xs)) xs i;
         shows = u .1;
       } in
-      ap (λ (l : Lines). judgeFrom s (l .whole) (l .rest) 1 start) (ap linesOf (h .spelled) ∙ linesOf-spell (s .symbols) (numbered xs) names (h .writable))
+      ap (λ (l : Lines). judgeFrom s (l .whole) (l .rest) 1 start) (ap linesOf (h .spelled)
+      ∙ linesOf-spell (s .symbols) (numbered xs) names (h .writable))
       ∙ ap (λ (l : List (List ℕ)). judgeFrom s l [] 1 start) (sym (append-nil ls)) ∙ passed-judges s names ls [] [] 1 start q p
 
-  -- the judgement goes on after first lines that are a beginning
+  -- After first lines that are a beginning, the judgement goes on with the other lines.
   first-judged : (text : List ℕ) (n : ℕ) → n ≤ length (linesOf text .whole) → Beginning s (firstLines n text)
-      → (q : Progress) × Passed s (take n (linesOf text .whole)) start q × (judge s text ≡ judgeFrom s (drop n (linesOf text .whole)) (linesOf text .rest) (suc n) q)
+      → (q : Progress) × Passed s (take n (linesOf text .whole)) start q
+      × (judge s text ≡ judgeFrom s (drop n (linesOf text .whole)) (linesOf text .rest) (suc n) q)
   unfolding judge firstLines
   first-judged text n l b =
       let ls = linesOf text .whole in
@@ -91,10 +105,11 @@ module _ (s : Sheet) (names : Names (s .symbols)) (closed : All Closed (s .claus
         r .1,
         ap (λ (ms : List (List ℕ)). judgeFrom s ms (linesOf text .rest) 1 start) (sym (take-append-drop n ls))
             ∙ passed-judges s names (take n ls) (drop n ls) (linesOf text .rest) 1 start (r .0) (r .1)
-            ∙ ap (λ (k : ℕ). judgeFrom s (drop n ls) (linesOf text .rest) k (r .0)) (let d = length-take-le n ls l in let e : length (take n ls) + 1 ≡ suc n = omega arith in e),
+            ∙ ap (λ (k : ℕ). judgeFrom s (drop n ls) (linesOf text .rest) k (r .0))
+            (let d = length-take-le n ls l in let e : length (take n ls) + 1 ≡ suc n = omega arith in e),
       )
 
-  -- the line that is named breaks
+  -- The line that is named breaks, and the text spells no derivation.
   named-breaks : (text : List ℕ) (n : ℕ) → judge s text ≡ invalid (suc n) → BreaksAfter s text n × (SpellsDerivation s text → ⊥)
   unfolding judge firstLines
   named-breaks text n h =
@@ -112,10 +127,11 @@ module _ (s : Sheet) (names : Names (s .symbols)) (closed : All Closed (s .claus
         λ d. let v = spells-valid text d in let z : _≡_ {A = ℕ} 0 1 = cc in omega arith,
       )
 
-  -- and a line that breaks is named
+  -- A line that breaks is named, if the text spells no derivation.
   breaks-named : (text : List ℕ) (n : ℕ) → BreaksAfter s text n × (SpellsDerivation s text → ⊥) → judge s text ≡ invalid (suc n)
   unfolding firstLines
-  breaks-named text n h = r .2 ∙ judges-stop s names (drop n ls) (linesOf text .rest) (suc n) (r .0) next (λ v. h .1 (valid-spells text (r .2 ∙ v)))
+  breaks-named text n h =
+      r .2 ∙ judges-stop s names (drop n ls) (linesOf text .rest) (suc n) (r .0) next (λ v. h .1 (valid-spells text (r .2 ∙ v)))
     where
       ls : List (List ℕ)
       ls = linesOf text .whole
@@ -123,13 +139,14 @@ module _ (s : Sheet) (names : Names (s .symbols)) (closed : All Closed (s .claus
       r : (q : Progress) × Passed s (take n ls) start q × (judge s text ≡ judgeFrom s (drop n ls) (linesOf text .rest) (suc n) q)
       r = first-judged text n (h .0 .there) (h .0 .before)
 
-      -- no next line passes
+      -- No next line passes.
       next : (l : List ℕ) (ms : List (List ℕ)) (q : Progress) → drop n ls ≡ l ∷ ms → Passed s (l ∷ []) (r .0) q → ⊥
       next l ms q e p =
           let d = next-taken n ls l ms e in
           let passed = passed-append s (take n ls) (l ∷ []) start (r .0) q (r .1) p in
-          h .0 .breaks (d .0) (passed-beginning s names (take (suc n) ls) q (subst (λ (ks : List (List ℕ)). Passed s ks start q) (sym (d .1)) passed))
+          h .0 .breaks (d .0) (passed-beginning s names (take (suc n) ls) q
+          (subst (λ (ks : List (List ℕ)). Passed s ks start q) (sym (d .1)) passed))
 
-  -- so it is exact
+  -- The judgement of a text is exact.
   pub exact : (text : List ℕ) → Exact s text
   exact text = record { accepts = (valid-spells text, spells-valid text); breaks = λ n. (named-breaks text n, breaks-named text n) }

@@ -17,7 +17,8 @@ use Rattle.answer_texts.specs.Numbering.{symbolsOf, shown}
 use Rattle.answer_texts.specs.Spelling.{join}
 use Rattle.answer_texts.specs.Spelled.{Stage, opening, bindings, sequents, Proceeds, Writable, Beginning, unlines}
 use Rattle.answer_texts.specs.Reading.{readLine}
-use Rattle.answer_texts.specs.Judging.{Seen, showSymbols, allow, Progress, progress, judgeRead, judgeLine, Judgement, valid, invalid, judgeEnd, judgeFrom}
+use Rattle.answer_texts.specs.Judging.{Seen, showSymbols, allow, Progress, progress, judgeRead, judgeLine, Judgement, valid, invalid}
+use Rattle.answer_texts.specs.Judging.{judgeEnd, judgeFrom}
 use Rattle.answer_texts.proofs.Splitting.{join-fields}
 use Rattle.answer_texts.proofs.Reading.{read-spell, spell-read, lineBytes, fields-spell, spell-unlines, spell-lines}
 use Rattle.answer_texts.proofs.Infer.{nothing}
@@ -31,17 +32,19 @@ start = record { stage = opening; seen = unseen }
 
 -- lines one after the other
 
--- a line that passes, and then others
-proceeds-cons : (s : Sheet) (x : TextLine) (xs : List TextLine) (a b c : Stage) → allow s x a ≡ some b → Proceeds s xs b c → Proceeds s (x ∷ xs) a c
+-- If a line passes and other lines proceed after it, they proceed together.
+proceeds-cons : (s : Sheet) (x : TextLine) (xs : List TextLine) (a b c : Stage) → allow s x a ≡ some b → Proceeds s xs b c
+    → Proceeds s (x ∷ xs) a c
 unfolding Proceeds
 proceeds-cons s x xs a b c h k = allow-sound s x a b (λ d. Proceeds s xs d c) h k
 
--- where lines proceed, the first passes, and then the others proceed
-proceeds-parts : (s : Sheet) (x : TextLine) (xs : List TextLine) (a c : Stage) → Proceeds s (x ∷ xs) a c → (b : Stage) × (allow s x a ≡ some b) × Proceeds s xs b c
+-- If lines proceed, the first passes and the others proceed after it.
+proceeds-parts : (s : Sheet) (x : TextLine) (xs : List TextLine) (a c : Stage) → Proceeds s (x ∷ xs) a c → (b : Stage)
+    × (allow s x a ≡ some b) × Proceeds s xs b c
 unfolding Proceeds
 proceeds-parts s x xs a c h = allow-complete s x a (λ d. Proceeds s xs d c) h
 
--- lines after lines
+-- Lines that proceed, followed by lines that proceed after them, proceed together.
 proceeds-append : (s : Sheet) (xs ys : List TextLine) (a b c : Stage) → Proceeds s xs a b → Proceeds s ys b c → Proceeds s (xs ++ ys) a c
 unfolding Proceeds
 proceeds-append s [] ys a b c h k = subst (λ (d : Stage). Proceeds s ys d c) (sym h) k
@@ -49,18 +52,20 @@ proceeds-append s (x ∷ xs) ys a b c h k =
     let r = proceeds-parts s x xs a b h in
     proceeds-cons s x (xs ++ ys) a (r .0) c (r .1) (proceeds-append s xs ys (r .0) b c (r .2) k)
 
--- the symbols of lines after lines
+-- The symbols of two lists of lines are those of the first, then those of the second.
 shown-append : (xs ys : List TextLine) → shown (xs ++ ys) ≡ shown xs ++ shown ys
 unfolding shown
 shown-append [] ys = refl
-shown-append (x ∷ xs) ys = ap (symbolsOf (termsOf x) ++_) (shown-append xs ys) ∙ sym (append-assoc (symbolsOf (termsOf x)) (shown xs) (shown ys))
+shown-append (x ∷ xs) ys =
+    ap (symbolsOf (termsOf x) ++_) (shown-append xs ys) ∙ sym (append-assoc (symbolsOf (termsOf x)) (shown xs) (shown ys))
 
--- both parts of a progress
+-- Where there is a progress, there are both its stage and what it has seen.
 progress-parts : (o : Option Stage) (u : Option Seen) (q : Progress) → progress o u ≡ some q → (o ≡ some (q .stage)) × (u ≡ some (q .seen))
 unfolding progress
 progress-parts none u q h = nothing q h
 progress-parts (some a) none q h = nothing q h
-progress-parts (some a) (some u) q h = let e : record { stage = a; seen = u } ≡ q = cc in (ap (λ (p : Progress). some (p .stage)) e, ap (λ (p : Progress). some (p .seen)) e)
+progress-parts (some a) (some u) q h =
+    let e : record { stage = a; seen = u } ≡ q = cc in (ap (λ (p : Progress). some (p .stage)) e, ap (λ (p : Progress). some (p .seen)) e)
 
 -- Text lines that the bytes ls spell lead from one progress to another.
 pub record Passed (s : Sheet) (ls : List (List ℕ)) (p q : Progress) : Type 0 where
@@ -70,12 +75,12 @@ pub record Passed (s : Sheet) (ls : List (List ℕ)) (p q : Progress) : Type 0 w
   pub proceeds : Proceeds s textLines (p .stage) (q .stage)
   pub shows : showSymbols (shown textLines) (p .seen) ≡ some (q .seen)
 
--- no line
+-- The empty list of lines passes and leaves the progress as it was.
 passed-nil : (s : Sheet) (p : Progress) → Passed s [] p p
 unfolding Proceeds shown showSymbols
 passed-nil s p = record { textLines = []; spelled = refl; writable = tt; proceeds = refl; shows = refl }
 
--- lines that pass after lines that pass
+-- Lines that pass, followed by lines that pass after them, pass together.
 pub passed-append : (s : Sheet) (ls ms : List (List ℕ)) (p q r : Progress) → Passed s ls p q → Passed s ms q r → Passed s (ls ++ ms) p r
 passed-append s ls ms p q r h k = record {
   textLines = h .textLines ++ k .textLines;
@@ -96,7 +101,7 @@ pub record Stopped (s : Sheet) (ls : List (List ℕ)) (k m : ℕ) (p : Progress)
 
 -- at the end
 
--- valid: no sequent is left, and no byte
+-- If the end is judged valid, no sequent is left and no byte.
 end-valid : (a : Stage) (rest : List ℕ) (k : ℕ) → judgeEnd a rest k ≡ valid → (a ≡ sequents []) × (rest ≡ [])
 unfolding judgeEnd
 end-valid opening rest k h = absurd (let z : _≡_ {A = ℕ} 0 1 = cc in omega arith)
@@ -105,7 +110,7 @@ end-valid (sequents (g ∷ gs)) rest k h = absurd (let z : _≡_ {A = ℕ} 0 1 =
 end-valid (sequents []) [] k h = (refl, refl)
 end-valid (sequents []) (c ∷ cs) k h = absurd (let z : _≡_ {A = ℕ} 0 1 = cc in omega arith)
 
--- invalid: the line past the last is named
+-- If the end is judged invalid at line m, then m is the line past the last.
 end-invalid : (a : Stage) (rest : List ℕ) (k m : ℕ) → judgeEnd a rest k ≡ invalid m → k ≡ m
 unfolding judgeEnd
 end-invalid opening rest k m h = cc
@@ -114,7 +119,7 @@ end-invalid (sequents (g ∷ gs)) rest k m h = cc
 end-invalid (sequents []) [] k m h = cc
 end-invalid (sequents []) (c ∷ cs) k m h = cc
 
--- and if it is not valid, that line is named
+-- If the end is not judged valid, the line past the last is named.
 end-stop : (a : Stage) (rest : List ℕ) (k : ℕ) → (judgeEnd a rest k ≡ valid → ⊥) → judgeEnd a rest k ≡ invalid k
 unfolding judgeEnd
 end-stop opening rest k v = refl
@@ -126,7 +131,7 @@ end-stop (sequents []) (c ∷ cs) k v = refl
 module _ (s : Sheet) (names : Names (s .symbols)) where
   -- one line
 
-  -- a line that passes the judgement
+  -- A line that the judgement accepts passes.
   passed-line : (l : List ℕ) (p q : Progress) → judgeLine s l p ≡ some q → Passed s (l ∷ []) p q
   unfolding judgeLine judgeRead Proceeds shown showSymbols
   passed-line l p q h = go (readLine (s .symbols) (fields l)) refl h
@@ -144,18 +149,22 @@ module _ (s : Sheet) (names : Names (s .symbols)) where
             shows = shows-append (symbolsOf (termsOf x)) [] (p .seen) (q .seen) (d .1);
           }
 
-  -- a written line that is right and in order passes it
+  -- The judgement accepts a written line that is right and in order.
   judge-line : (x : TextLine) (p : Progress) (a : Stage) (u : Seen) → Writable (s .symbols) x → allow s x (p .stage) ≡ some a
-      → showSymbols (symbolsOf (termsOf x)) (p .seen) ≡ some u → judgeLine s (lineBytes (s .symbols) x) p ≡ some (record { stage = a; seen = u })
+      → showSymbols (symbolsOf (termsOf x)) (p .seen) ≡ some u
+      → judgeLine s (lineBytes (s .symbols) x) p ≡ some (record { stage = a; seen = u })
   unfolding judgeLine judgeRead progress
   judge-line x p a u w h k =
-      ap (λ (o : Option TextLine). judgeRead s o p) (ap (readLine (s .symbols)) (fields-spell (s .symbols) x names w) ∙ read-spell (s .symbols) x names w) ∙ ap₂ progress h k
+      ap (λ (o : Option TextLine). judgeRead s o p) (ap (readLine (s .symbols)) (fields-spell (s .symbols) x names w)
+      ∙ read-spell (s .symbols) x names w) ∙ ap₂ progress h k
 
   -- the lines
 
-  -- the judgement goes on after lines that pass
-  judges-on : (xs : List TextLine) (more : List (List ℕ)) (rest : List ℕ) (k n : ℕ) (p q : Progress) → All (Writable (s .symbols)) xs → Proceeds s xs (p .stage) (q .stage)
-      → showSymbols (shown xs) (p .seen) ≡ some (q .seen) → n ≡ length xs + k → judgeFrom s (map (lineBytes (s .symbols)) xs ++ more) rest k p ≡ judgeFrom s more rest n q
+  -- After text lines that pass, the judgement goes on with the lines after them.
+  judges-on : (xs : List TextLine) (more : List (List ℕ)) (rest : List ℕ) (k n : ℕ) (p q : Progress) → All (Writable (s .symbols)) xs
+      → Proceeds s xs (p .stage) (q .stage)
+      → showSymbols (shown xs) (p .seen) ≡ some (q .seen) → n ≡ length xs + k
+      → judgeFrom s (map (lineBytes (s .symbols)) xs ++ more) rest k p ≡ judgeFrom s more rest n q
   unfolding judgeFrom Proceeds shown showSymbols
   judges-on [] more rest k n p q w h z e =
       let y : p .seen ≡ q .seen = cc in
@@ -164,39 +173,56 @@ module _ (s : Sheet) (names : Names (s .symbols)) where
       let a = proceeds-parts s x xs (p .stage) (q .stage) h in
       let u = shows-split (symbolsOf (termsOf x)) (shown xs) (p .seen) (q .seen) z in
       let r : Progress = record { stage = a .0; seen = u .0 } in
-      ap (λ (o : Option Progress). elim o as (λ o. Judgement) [ none ↦ invalid k | some t ↦ judgeFrom s (map (lineBytes (s .symbols)) xs ++ more) rest (suc k) t ])
+      ap (λ (o : Option Progress). elim o as (λ o. Judgement) [
+        | none ↦ invalid k
+        | some t ↦
+            judgeFrom s (map (lineBytes (s .symbols)) xs ++ more) rest (suc k) t
+      ])
       (judge-line x p (a .0) (u .0) (w .0) (a .1) (u .1))
       ∙ judges-on xs more rest (suc k) n r q (w .1) (a .2) (u .2) (omega arith)
 
-  -- the same with the lines as bytes
-  pub passed-judges : (ls more : List (List ℕ)) (rest : List ℕ) (k : ℕ) (p q : Progress) → Passed s ls p q → judgeFrom s (ls ++ more) rest k p ≡ judgeFrom s more rest (length ls + k) q
+  -- After lines of bytes that pass, the judgement goes on with the lines after them.
+  pub passed-judges : (ls more : List (List ℕ)) (rest : List ℕ) (k : ℕ) (p q : Progress) → Passed s ls p q
+      → judgeFrom s (ls ++ more) rest k p ≡ judgeFrom s more rest (length ls + k) q
   passed-judges ls more rest k p q h =
       ap (λ (l : List (List ℕ)). judgeFrom s (l ++ more) rest k p) (sym (h .spelled))
       ∙ judges-on (h .textLines) more rest k (length ls + k) p q (h .writable) (h .proceeds) (h .shows)
       (ap (_+ k) (ap length (sym (h .spelled)) ∙ length-map (lineBytes (s .symbols)) (h .textLines)))
 
-  -- valid: all lines pass, no sequent is left and no byte follows
+  -- If the judgement is valid, all lines pass, no sequent is left and no byte follows.
   pub judges-valid : (ls : List (List ℕ)) (rest : List ℕ) (k : ℕ) (p : Progress) → judgeFrom s ls rest k p ≡ valid
       → (q : Progress) × Passed s ls p q × (q .stage ≡ sequents []) × (rest ≡ [])
   unfolding judgeFrom
   judges-valid [] rest k p h = let r = end-valid (p .stage) rest k h in (p, passed-nil s p, r .0, r .1)
   judges-valid (l ∷ ls) rest k p h = go (judgeLine s l p) refl h (judges-valid ls rest (suc k))
     where
-      go : (o : Option Progress) → judgeLine s l p ≡ o → elim o as (λ o. Judgement) [ none ↦ invalid k | some t ↦ judgeFrom s ls rest (suc k) t ] ≡ valid
-          → ((t : Progress) → judgeFrom s ls rest (suc k) t ≡ valid → (q : Progress) × Passed s ls t q × (q .stage ≡ sequents []) × (rest ≡ []))
+      go : (o : Option Progress) → judgeLine s l p ≡ o
+          → elim o as (λ o. Judgement) [ none ↦ invalid k | some t ↦ judgeFrom s ls rest (suc k) t ] ≡ valid
+          → ((t : Progress) → judgeFrom s ls rest (suc k) t ≡ valid → (q : Progress) × Passed s ls t q × (q .stage ≡ sequents [])
+          × (rest ≡ []))
           → (q : Progress) × Passed s (l ∷ ls) p q × (q .stage ≡ sequents []) × (rest ≡ [])
       go none e d f = absurd (let z : _≡_ {A = ℕ} 0 1 = cc in omega arith)
       go (some t) e d f = let r = f t d in (r .0, passed-append s (l ∷ []) ls p t (r .0) (passed-line l p t e) (r .1), r .2, r .3)
 
-  -- invalid: the lines before the one that is named pass
-  pub judges-invalid : (ls : List (List ℕ)) (rest : List ℕ) (k m : ℕ) (p : Progress) → judgeFrom s ls rest k p ≡ invalid m → Stopped s ls k m p
+  -- If the judgement names a line, the lines before it pass.
+  pub judges-invalid : (ls : List (List ℕ)) (rest : List ℕ) (k m : ℕ) (p : Progress) → judgeFrom s ls rest k p ≡ invalid m
+      → Stopped s ls k m p
   unfolding judgeFrom
-  judges-invalid [] rest k m p h = record { number = 0; there = omega arith; named = let e = end-invalid (p .stage) rest k m h in omega arith; after = p; passed = passed-nil s p }
+  judges-invalid [] rest k m p h =
+      record {
+        number = 0;
+        there = omega arith;
+        named = let e = end-invalid (p .stage) rest k m h in omega arith;
+        after = p;
+        passed = passed-nil s p;
+      }
   judges-invalid (l ∷ ls) rest k m p h = go (judgeLine s l p) refl h (judges-invalid ls rest (suc k) m)
     where
-      go : (o : Option Progress) → judgeLine s l p ≡ o → elim o as (λ o. Judgement) [ none ↦ invalid k | some t ↦ judgeFrom s ls rest (suc k) t ] ≡ invalid m
+      go : (o : Option Progress) → judgeLine s l p ≡ o
+          → elim o as (λ o. Judgement) [ none ↦ invalid k | some t ↦ judgeFrom s ls rest (suc k) t ] ≡ invalid m
           → ((t : Progress) → judgeFrom s ls rest (suc k) t ≡ invalid m → Stopped s ls (suc k) m t) → Stopped s (l ∷ ls) k m p
-      go none e d f = record { number = 0; there = omega arith; named = let z : k ≡ m = cc in omega arith; after = p; passed = passed-nil s p }
+      go none e d f =
+          record { number = 0; there = omega arith; named = let z : k ≡ m = cc in omega arith; after = p; passed = passed-nil s p }
       go (some t) e d f =
           let r = f t d in
           record {
@@ -207,20 +233,22 @@ module _ (s : Sheet) (names : Names (s .symbols)) where
             passed = passed-append s (l ∷ []) (take (r .number) ls) p t (r .after) (passed-line l p t e) (r .passed);
           }
 
-  -- where no next line passes, the next one is named, or all was valid
-  pub judges-stop : (ls : List (List ℕ)) (rest : List ℕ) (k : ℕ) (p : Progress) → ((l : List ℕ) (ms : List (List ℕ)) (q : Progress) → ls ≡ l ∷ ms → Passed s (l ∷ []) p q → ⊥)
+  -- Where no next line passes and the judgement is not valid, the next line is named.
+  pub judges-stop : (ls : List (List ℕ)) (rest : List ℕ) (k : ℕ) (p : Progress)
+      → ((l : List ℕ) (ms : List (List ℕ)) (q : Progress) → ls ≡ l ∷ ms → Passed s (l ∷ []) p q → ⊥)
       → (judgeFrom s ls rest k p ≡ valid → ⊥) → judgeFrom s ls rest k p ≡ invalid k
   unfolding judgeFrom
   judges-stop [] rest k p f v = end-stop (p .stage) rest k v
   judges-stop (l ∷ ls) rest k p f v = go (judgeLine s l p) refl
     where
-      go : (o : Option Progress) → judgeLine s l p ≡ o → elim o as (λ o. Judgement) [ none ↦ invalid k | some t ↦ judgeFrom s ls rest (suc k) t ] ≡ invalid k
+      go : (o : Option Progress) → judgeLine s l p ≡ o
+          → elim o as (λ o. Judgement) [ none ↦ invalid k | some t ↦ judgeFrom s ls rest (suc k) t ] ≡ invalid k
       go none e = refl
       go (some q) e = absurd (f l ls q refl (passed-line l p q e))
 
   -- beginnings
 
-  -- lines that pass from the start are a beginning
+  -- Lines that pass from the start are a beginning.
   pub passed-beginning : (ls : List (List ℕ)) (q : Progress) → Passed s ls start q → Beginning s (unlines ls)
   passed-beginning ls q h = record {
     textLines = h .textLines;
@@ -231,7 +259,7 @@ module _ (s : Sheet) (names : Names (s .symbols)) where
     proceeds = h .proceeds;
   }
 
-  -- and the lines of a beginning pass
+  -- The lines of a beginning pass from the start.
   pub beginning-passed : (ls : List (List ℕ)) → All (Without lf) ls → Beginning s (unlines ls) → (q : Progress) × Passed s ls start q
   beginning-passed ls e b =
       let r = numbered-shows (b .textLines) in (

@@ -11,12 +11,14 @@ use Rattle.sequents.specs.Renamings.{Renaming, rename, renamed}
 use Rattle.sheet_format.specs.Bytes.{tab, lf, ascii, decimal}
 use Rattle.sheet_format.specs.Nodes.{Declaration}
 use Rattle.answer_texts.specs.TextLines.{TextLine, resultLine, bindingLine, derivationLine, lineTerms, termsOf, renameTextLine}
-use Rattle.answer_texts.specs.Numbering.{symbolsIn, symbolsInAll, symbolsOf, shown, sameSymbol, isMade, madeOnly, leftoverOnly, without, firsts, indexOf, numberingOf, numbered}
-use Rattle.answer_texts.specs.Spelling.{nameOf, spellSymbol, spellTerm, spellArguments, spellMore, join, textLine, spellTerms, lineFields, textFields, spell, proofText}
+use Rattle.answer_texts.specs.Numbering.{symbolsIn, symbolsInAll, symbolsOf, shown, sameSymbol, isMade, madeOnly, leftoverOnly}
+use Rattle.answer_texts.specs.Numbering.{without, firsts, indexOf, numberingOf, numbered}
+use Rattle.answer_texts.specs.Spelling.{nameOf, spellSymbol, spellTerm, spellArguments, spellMore, join, textLine, spellTerms}
+use Rattle.answer_texts.specs.Spelling.{lineFields, textFields, spell, proofText}
 
 -- numbers and symbols shown
 
--- an index is at most the length
+-- The index of a symbol is at most the length of the list.
 indexOf-le : (s : Symbol) (ss : List Symbol) → indexOf s ss ≤ length ss
 unfolding indexOf
 indexOf-le s [] = omega arith
@@ -26,7 +28,7 @@ indexOf-le s (x ∷ xs) = go (sameSymbol x s) (indexOf-le s xs)
     go true h = omega arith
     go false h = omega arith
 
--- leaving symbols out makes no list longer
+-- Leaving out a symbol makes no list longer.
 without-le : (s : Symbol) (ss : List Symbol) → length (without s ss) ≤ length ss
 unfolding without
 without-le s [] = omega arith
@@ -36,13 +38,13 @@ without-le s (x ∷ xs) = go (sameSymbol x s) (without-le s xs)
     go true h = omega arith
     go false h = omega arith
 
--- nor does keeping the first showings
+-- Keeping the first showings makes no list longer.
 firsts-le : (ss : List Symbol) → length (firsts ss) ≤ length ss
 unfolding firsts
 firsts-le [] = omega arith
 firsts-le (s ∷ ss) = let h = without-le s (firsts ss) in let k = firsts-le ss in omega arith
 
--- nor keeping the made constants
+-- Keeping the made constants makes no list longer.
 madeOnly-le : (ss : List Symbol) → length (madeOnly ss) ≤ length ss
 unfolding madeOnly
 madeOnly-le [] = omega arith
@@ -52,7 +54,7 @@ madeOnly-le (s ∷ ss) = go (isMade s) (madeOnly-le ss)
     go true h = omega arith
     go false h = omega arith
 
--- nor keeping the leftover variables
+-- Keeping the leftover variables makes no list longer.
 leftoverOnly-le : (ss : List Symbol) → length (leftoverOnly ss) ≤ length ss
 unfolding leftoverOnly
 leftoverOnly-le [] = omega arith
@@ -67,29 +69,33 @@ pub record NumbersUpTo (r : Renaming) (n : ℕ) : Type 0 where
   pub ofMade : (m k : ℕ) → r .ofMade m k ≤ n
   pub ofLeftover : (m k : ℕ) → r .ofLeftover m k ≤ n
 
--- the symbols shown are a bound
+-- The numbers that a numbering gives are at most as large as the number of symbols shown.
 numberingOf-le : (ss : List Symbol) → NumbersUpTo (numberingOf ss) (length ss)
 unfolding numberingOf
 numberingOf-le ss = record {
-  ofMade = λ m k. (let a = indexOf-le (made m k) (firsts (madeOnly ss)) in let b = firsts-le (madeOnly ss) in let c = madeOnly-le ss in omega arith);
-  ofLeftover = λ m k. (let a = indexOf-le (leftover m k) (firsts (leftoverOnly ss)) in let b = firsts-le (leftoverOnly ss) in let c = leftoverOnly-le ss in omega arith);
+  ofMade =
+      λ m k. (let a = indexOf-le (made m k) (firsts (madeOnly ss)) in let b = firsts-le (madeOnly ss) in let c = madeOnly-le ss in
+      omega arith);
+  ofLeftover =
+      λ m k. (let a = indexOf-le (leftover m k) (firsts (leftoverOnly ss)) in let b = firsts-le (leftoverOnly ss) in let c =
+      leftoverOnly-le ss in omega arith);
 }
 
 -- symbols shown and bytes, whatever the renaming
 
--- a symbol
+-- A renamed symbol is spelled with at least one byte.
 symbol-spelled : (r : Renaming) (s : Symbol) → 1 ≤ length (spellSymbol (rename r s))
 unfolding spellSymbol rename
 symbol-spelled r (made n k) = omega arith
 symbol-spelled r (leftover n k) = omega arith
 
--- a field in front
+-- A field in front makes joined fields no shorter.
 field-before : (f g : List ℕ) (fs : List (List ℕ)) → length (join (g ∷ fs)) ≤ length (join (f ∷ g ∷ fs))
 unfolding join
 field-before f g fs = let e = length-append f (tab ∷ join (g ∷ fs)) in omega arith
 
 module _ (ds : List Declaration) (r : Renaming) where
-  -- a term, and its arguments from the first or from a later one on
+  -- A renamed term, and renamed arguments from any one on, have at least as many bytes as symbols.
   mutual
     unfolding symbolsIn spellTerm substitute
 
@@ -118,8 +124,9 @@ module _ (ds : List Declaration) (r : Renaming) where
         let e = length-append (spellTerm (substitute t (renamed r)) ds) (spellMore (substitutes ts (renamed r)) ds) in
         omega arith
 
-  -- terms as fields, after a field f
-  terms-spelled : (ts : List Ground) (f : List ℕ) → length f + length (symbolsOf ts) ≤ length (join (f ∷ spellTerms ds (putTerms (renamed r) ts)))
+  -- Renamed terms as fields after a field f have at least one byte for each symbol, besides those of f.
+  terms-spelled : (ts : List Ground) (f : List ℕ)
+      → length f + length (symbolsOf ts) ≤ length (join (f ∷ spellTerms ds (putTerms (renamed r) ts)))
   unfolding symbolsOf spellTerms join
   terms-spelled [] f = omega arith
   terms-spelled (t ∷ ts) f =
@@ -130,8 +137,9 @@ module _ (ds : List Declaration) (r : Renaming) where
       let e = length-append f (tab ∷ join (g ∷ spellTerms ds (putTerms (renamed r) ts))) in
       omega arith
 
-  -- a D line
-  line-spelled : (x : Line Symbol) → length (symbolsOf (lineTerms x)) ≤ length (join (textFields ds (derivationLine (putLine (renamed r) x))))
+  -- A renamed D line has at least as many bytes as symbols.
+  line-spelled : (x : Line Symbol)
+      → length (symbolsOf (lineTerms x)) ≤ length (join (textFields ds (derivationLine (putLine (renamed r) x))))
   unfolding symbolsOf lineTerms textFields lineFields putLine spellTerms
   line-spelled (plain w) = omega arith
   line-spelled (Dsome t) =
@@ -148,7 +156,7 @@ module _ (ds : List Declaration) (r : Renaming) where
       let j = field-before (ascii "D") (ascii "clause") (decimal k ∷ spellTerms ds (putTerms (renamed r) ts)) in
       omega arith
 
-  -- any line, with its LF
+  -- A renamed line with its LF has at least as many bytes as symbols.
   textLine-spelled : (x : TextLine) → length (symbolsOf (termsOf x)) ≤ length (textLine (textFields ds (renameTextLine r x)))
   unfolding termsOf renameTextLine textLine symbolsOf spellTerms textFields
   textLine-spelled (resultLine n) = omega arith
@@ -162,7 +170,7 @@ module _ (ds : List Declaration) (r : Renaming) where
       let e = length-append (join (textFields ds (derivationLine (putLine (renamed r) x)))) (lf ∷ []) in
       omega arith
 
-  -- all lines
+  -- Renamed lines have together at least as many bytes as symbols.
   lines-spelled : (xs : List TextLine) → length (shown xs) ≤ length (spell ds (map (renameTextLine r) xs))
   unfolding shown spell
   lines-spelled [] = omega arith
@@ -174,7 +182,8 @@ module _ (ds : List Declaration) (r : Renaming) where
       omega arith
 
 -- So the numbers of a text are at most its length.
-pub numbers-le : (ds : List Declaration) (xs : List TextLine) (n : ℕ) → length (proofText ds xs) ≤ n → NumbersUpTo (numberingOf (shown xs)) n
+pub numbers-le : (ds : List Declaration) (xs : List TextLine) (n : ℕ) → length (proofText ds xs) ≤ n
+    → NumbersUpTo (numberingOf (shown xs)) n
 unfolding proofText numbered
 numbers-le ds xs n h =
     let k = lines-spelled ds (numberingOf (shown xs)) xs in

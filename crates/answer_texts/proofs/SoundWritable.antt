@@ -6,16 +6,19 @@ use native.Mathlib.Omega.{arith}
 use Rattle.terms.specs.Lists.{All}
 use Rattle.terms.specs.Terms.{Term, leaf, app, Terms, nil, cons, count}
 use Rattle.terms.proofs.Lists.{all-append, all-map, all-weaken}
-use Rattle.formulas.specs.Formulas.{Goal, atom, truth, and, or, implies, exists, forall, Clause, fact, rule, both, each, freeG, freeFrom, freeVariables}
+use Rattle.formulas.specs.Formulas.{Goal, atom, truth, and, or, implies, exists, forall, Clause, fact, rule, both, each, freeG, freeFrom}
+use Rattle.formulas.specs.Formulas.{freeVariables}
 use Rattle.sequents.specs.Symbols.{Symbol, made, leftover, symbolLevel, Ground}
 use Rattle.sequents.specs.Sequents.{Environment, Line, plain, Dsome, Dall, Dclause}
 use Rattle.sequents.specs.Renamings.{Renaming, rename, renamed}
-use Rattle.search.proofs.Formed.{Arities, FormedTerm, FormedTerms, SheetName, FormedGoal, FormedClause, FormedLine, formed-substitute, formed-putLine}
+use Rattle.search.proofs.Formed.{Arities, FormedTerm, FormedTerms, SheetName, FormedGoal, FormedClause, FormedLine, formed-substitute}
+use Rattle.search.proofs.Formed.{formed-putLine}
 use Rattle.search.proofs.FormedStores.{SymbolUpTo}
 use Rattle.search.proofs.Bounds.{ShownUpTo}
 use Rattle.sheet_format.specs.Limits.{maxNumber}
 use Rattle.sheet_format.specs.Nodes.{Declaration}
-use Rattle.sheet_format.proofs.Formed.{Declares, FormedTerm as SheetTerm, FormedTerms as SheetTerms, FormedGoal as SheetGoal, FormedClause as SheetClause}
+use Rattle.sheet_format.proofs.Formed.{Declares, FormedTerm as SheetTerm, FormedTerms as SheetTerms, FormedGoal as SheetGoal}
+use Rattle.sheet_format.proofs.Formed.{FormedClause as SheetClause}
 use Rattle.answer_texts.specs.TextLines.{TextLine, bindingLine, derivationLine, answerLines, renameTextLine}
 use Rattle.answer_texts.specs.Spelled.{SmallSymbol, WritableTerm, WritableTerms, WritableLine, Writable}
 use Rattle.answer_texts.proofs.Symbols.{arity-has}
@@ -27,7 +30,7 @@ declared ds f n = Declares ds true f n
 
 -- what is well-formed on a sheet is so in the search
 
--- terms
+-- Well-formed terms with small symbols can be written.
 mutual
   unfolding FormedTerm SheetTerm
 
@@ -39,7 +42,7 @@ mutual
   sheet-terms nil ds h = tt
   sheet-terms (cons t ts) ds h = (sheet-term t ds (h .0), sheet-terms ts ds (h .1))
 
--- goals and clauses
+-- Goals and clauses that are well-formed on a sheet are well-formed in the search.
 mutual
   unfolding FormedGoal SheetGoal
 
@@ -60,7 +63,7 @@ mutual
 
 -- what is well-formed, with small symbols, can be written
 
--- terms
+-- Well-formed terms with small symbols can be written.
 mutual
   unfolding FormedTerm WritableTerm
 
@@ -72,26 +75,31 @@ mutual
   writable-terms nil ds h = tt
   writable-terms (cons t ts) ds h = (writable-term t ds (h .0), writable-terms ts ds (h .1))
 
--- lines
-writable-line : (x : Line Symbol) (ds : List Declaration) (n : ℕ) → n ≤ maxNumber → FormedLine (declared ds) SmallSymbol (λ k. k ≤ n) x → WritableLine ds x
+-- Well-formed lines with small symbols and places up to n can be written.
+writable-line : (x : Line Symbol) (ds : List Declaration) (n : ℕ) → n ≤ maxNumber → FormedLine (declared ds) SmallSymbol (λ k. k ≤ n) x
+    → WritableLine ds x
 unfolding FormedLine WritableLine
 writable-line (plain w) ds n l h = tt
 writable-line (Dsome t) ds n l h = writable-term t ds h
 writable-line (Dall t) ds n l h = writable-term t ds h
-writable-line (Dclause k ts) ds n l h =
-    ((let p = h .0 in omega arith), all-weaken (λ t. FormedTerm t (declared ds) SmallSymbol) (λ t. WritableTerm t ds) (λ t. writable-term t ds) ts (h .1))
+writable-line (Dclause k ts) ds n l h = (
+  (let p = h .0 in omega arith),
+  all-weaken (λ t. FormedTerm t (declared ds) SmallSymbol) (λ t. WritableTerm t ds)
+      (λ t. writable-term t ds) ts (h .1),
+)
 
--- the free variables of a goal are names of a sheet
+-- The variables that stand free in a goal, of n names from v on, are names of a sheet.
 freeFrom-names : (n v : ℕ) (g : Goal) → n + v ≤ 8 → All SheetName (freeFrom n v g)
 unfolding freeFrom
 freeFrom-names zero v g h = tt
 freeFrom-names (suc n) v g h = go (freeG g v) (freeFrom-names n (suc v) g (omega arith))
   where
-    go : (b : Bool) → All SheetName (freeFrom n (suc v) g) → All SheetName (elim b [ true ↦ v ∷ freeFrom n (suc v) g | false ↦ freeFrom n (suc v) g ])
+    go : (b : Bool) → All SheetName (freeFrom n (suc v) g)
+        → All SheetName (elim b [ true ↦ v ∷ freeFrom n (suc v) g | false ↦ freeFrom n (suc v) g ])
     go true k = (omega arith, k)
     go false k = k
 
--- all eight names
+-- The free variables of a goal, of all eight names, are names of a sheet.
 pub names-free : (g : Goal) → All SheetName (freeVariables g)
 unfolding freeVariables
 names-free g = freeFrom-names 8 0 g (omega arith)
@@ -99,13 +107,13 @@ names-free g = freeFrom-names 8 0 g (omega arith)
 -- the lines of an answer, numbered
 
 module _ (ds : List Declaration) (r : Renaming) (n : ℕ) (small : n ≤ maxNumber) (numbers : NumbersUpTo r maxNumber) where
-  -- a symbol with its new number
+  -- A symbol with its new number is a well-formed term with a small symbol.
   renamed-formed : (a : Symbol) → SymbolUpTo n a → FormedTerm (renamed r a) (declared ds) SmallSymbol
   unfolding symbolLevel rename SmallSymbol FormedTerm
   renamed-formed (made m k) h = (numbers .ofMade m k, omega arith)
   renamed-formed (leftover m k) h = (numbers .ofLeftover m k, omega arith)
 
-  -- every line
+  -- Every line of a renamed answer can be written.
   pub answer-writable : (vs : List ℕ) (e : Environment Symbol) (ls : List (Line Symbol)) → All SheetName vs → ShownUpTo (declared ds) n e ls
       → All (Writable ds) (map (renameTextLine r) (answerLines n vs e ls))
   unfolding answerLines renameTextLine Writable
@@ -121,7 +129,12 @@ module _ (ds : List Declaration) (r : Renaming) (n : ℕ) (small : n ≤ maxNumb
       Fits x = Writable ds (renameTextLine r x)
 
       binding : (v : ℕ) → SheetName v → Fits (bindingLine v (e v))
-      binding v l = (omega arith, writable-term _ ds (formed-substitute (e v) (renamed r) (declared ds) (SymbolUpTo n) SmallSymbol renamed-formed (k .environment v l)))
+      binding v l = (
+        omega arith,
+        writable-term _ ds (formed-substitute (e v) (renamed r) (declared ds) (SymbolUpTo n) SmallSymbol renamed-formed
+            (k .environment v l)),
+      )
 
       derived : (x : Line Symbol) → FormedLine (declared ds) (SymbolUpTo n) (λ i. i ≤ n) x → Fits (derivationLine x)
-      derived x i = writable-line _ ds n small (formed-putLine x (renamed r) (declared ds) (SymbolUpTo n) SmallSymbol (λ i. i ≤ n) renamed-formed i)
+      derived x i =
+          writable-line _ ds n small (formed-putLine x (renamed r) (declared ds) (SymbolUpTo n) SmallSymbol (λ i. i ≤ n) renamed-formed i)

@@ -20,19 +20,19 @@ abbrev pub Stops : (ℕ → Bool) → List ℕ → Type 0
 Stops k [] = Unit {0}
 Stops k (c ∷ cs) = k c ≡ false
 
--- where names stop, digits do
+-- Where bytes do not begin with a byte of a name, they do not begin with a digit.
 pub stops-digit : (b : List ℕ) → Stops isNameByte b → Stops isDigit b
 stops-digit [] h = tt
 stops-digit (c ∷ cs) h = no-digit c h
 
--- bytes of the kind, then one that is not, are taken apart there
+-- Bytes of a kind, before bytes that do not begin with that kind, are what `span` takes.
 pub span-append : (k : ℕ → Bool) (a r : List ℕ) → Every k a → Stops k r → span k (a ++ r) ≡ spanned a r
 unfolding span
 span-append k [] [] h s = refl
 span-append k [] (c ∷ r) h s = rw (s, span)
 span-append k (c ∷ a) r h s = rw (h .0, span) (ap (λ (x : Span). spanned (c ∷ x .taken) (x .rest)) (span-append k a r (h .1) s))
 
--- what is taken and what follows it are the bytes
+-- What `span` takes and what follows it are the bytes.
 pub span-split : (k : ℕ → Bool) (b : List ℕ) → b ≡ span k b .taken ++ span k b .rest
 unfolding span
 span-split k [] = refl
@@ -42,7 +42,7 @@ span-split k (c ∷ cs) = go (k c) refl (span-split k cs)
     go true e ih = rw (e, span) (ap (c ∷_) ih)
     go false e ih = rw (e, span)
 
--- what is read after the byte c
+-- What holds of all that r reads after the byte c holds of what `after c r` reads.
 pub after-some : {A : Type 0} (P : List ℕ → A → Type 0) (c : ℕ) (r : List ℕ → Option A) → ((b : List ℕ) → OnSome (P (c ∷ b)) (r b))
     → (b : List ℕ) → OnSome (P b) (after c r b)
 unfolding after

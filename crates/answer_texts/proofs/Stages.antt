@@ -29,7 +29,7 @@ use Rattle.answer_texts.proofs.Infer.{and-both, guarded, nothing, mappe
 
 -- one line
 
--- a line that passes is right, if K holds of the stage after it
+-- A line that passes is right, if K holds of the stage after it.
 pub allow-sound : (s : Sheet) (x : TextLine) (a b : Stage) (K : Stage → Type 0) → allow s x a ≡ some b → K b → Allowed s x a K
 unfolding allow Allowed
 allow-sound s (resultLine n) opening b K h k =
@@ -50,14 +50,17 @@ allow-sound s (derivationLine x) (bindings vs e) b K h k = nothing b h
 allow-sound s (derivationLine x) (sequents []) b K h k = nothing b h
 allow-sound s (derivationLine x) (sequents (g ∷ gs)) b K h k =
     let r = mapped (λ new. sequents (new ++ gs)) (infer x (g .goal) (g .environment) (g .program) (g .level)) b h in
-    infer-sound x (g .goal) (g .environment) (g .program) (g .level) (r .0) (λ new. K (sequents (new ++ gs))) (r .1) (subst K (sym (r .2)) k)
+    infer-sound x (g .goal) (g .environment) (g .program) (g .level) (r .0) (λ new. K (sequents (new ++ gs))) (r .1)
+    (subst K (sym (r .2)) k)
 
--- and a line that is right passes
-pub allow-complete : (s : Sheet) (x : TextLine) (a : Stage) (K : Stage → Type 0) → Allowed s x a K → (b : Stage) × (allow s x a ≡ some b) × K b
+-- A line that is right passes, and K holds of the stage after it.
+pub allow-complete : (s : Sheet) (x : TextLine) (a : Stage) (K : Stage → Type 0) → Allowed s x a K → (b : Stage) × (allow s x a ≡ some b)
+    × K b
 unfolding allow Allowed
 allow-complete s (resultLine n) opening K h = (
   boundStage s (freeVariables (s .goal)) blank,
-  ap (λ (c : Bool). cond c (some (boundStage s (freeVariables (s .goal)) blank)) none) (and-both (leb 1 n) (leb n maxBudget) (le-leb 1 n (h .0)) (le-leb n maxBudget (h .1))),
+  ap (λ (c : Bool). cond c (some (boundStage s (freeVariables (s .goal)) blank)) none)
+      (and-both (leb 1 n) (leb n maxBudget) (le-leb 1 n (h .0)) (le-leb n maxBudget (h .1))),
   h .2,
 )
 allow-complete s (resultLine n) (bindings vs e) K h = absurd h
@@ -66,7 +69,8 @@ allow-complete s (bindingLine v t) opening K h = absurd h
 allow-complete s (bindingLine v t) (bindings [] e) K h = absurd h
 allow-complete s (bindingLine v t) (bindings (w ∷ ws) e) K h = (
   boundStage s ws (update e w t),
-  ap (λ (c : Bool). cond c (some (boundStage s ws (update e w t))) none) (and-both (eqb v w) (leb (level t) 0) (eq-eqb v w (h .0)) (le-leb (level t) 0 (h .1))),
+  ap (λ (c : Bool). cond c (some (boundStage s ws (update e w t))) none)
+      (and-both (eqb v w) (leb (level t) 0) (eq-eqb v w (h .0)) (le-leb (level t) 0 (h .1))),
   h .2,
 )
 allow-complete s (bindingLine v t) (sequents gs) K h = absurd h
@@ -79,8 +83,9 @@ allow-complete s (derivationLine x) (sequents (g ∷ gs)) K h =
 
 -- D lines
 
--- lines that lead on proceed
-leads-proceeds : (s : Sheet) (ls : List (Line Symbol)) (gs rest : List (Sequent Symbol)) → Leads ls gs rest → Proceeds s (map derivationLine ls) (sequents gs) (sequents rest)
+-- D lines that lead from sequents to sequents proceed.
+leads-proceeds : (s : Sheet) (ls : List (Line Symbol)) (gs rest : List (Sequent Symbol)) → Leads ls gs rest
+    → Proceeds s (map derivationLine ls) (sequents gs) (sequents rest)
 unfolding Leads Proceeds Allowed
 leads-proceeds s [] gs rest h = ap sequents h
 leads-proceeds s (x ∷ ls) [] rest h = absurd h
@@ -88,17 +93,23 @@ leads-proceeds s (x ∷ ls) (g ∷ gs) rest h =
     infers-weaken x (g .goal) (g .environment) (g .program) (g .level) (λ new. Leads ls (new ++ gs) rest)
     (λ new. Proceeds s (map derivationLine ls) (sequents (new ++ gs)) (sequents rest)) (λ new k. leads-proceeds s ls (new ++ gs) rest k) h
 
--- and where sequents are left, only D lines proceed
-proceeds-derives : (s : Sheet) (xs : List TextLine) (gs : List (Sequent Symbol)) → Proceeds s xs (sequents gs) (sequents []) → (ls : List (Line Symbol)) × (xs ≡ map derivationLine ls) × Derives ls gs
+-- Where sequents are left, only D lines that derive them proceed to the end.
+proceeds-derives : (s : Sheet) (xs : List TextLine) (gs : List (Sequent Symbol)) → Proceeds s xs (sequents gs) (sequents [])
+    → (ls : List (Line Symbol)) × (xs ≡ map derivationLine ls) × Derives ls gs
 unfolding Leads Proceeds Allowed
 proceeds-derives s [] gs h = ([], refl, cc)
 proceeds-derives s (resultLine n ∷ xs) gs h = absurd h
 proceeds-derives s (bindingLine v t ∷ xs) gs h = absurd h
 proceeds-derives s (derivationLine x ∷ xs) [] h = absurd h
 proceeds-derives s (derivationLine x ∷ xs) (g ∷ gs) h =
-    let r = infer-complete x (g .goal) (g .environment) (g .program) (g .level) (λ new. Proceeds s xs (sequents (new ++ gs)) (sequents [])) h in
-    let q = proceeds-derives s xs (r .0 ++ gs) (r .2) in
-    (x ∷ q .0, ap (derivationLine x ∷_) (q .1), infer-sound x (g .goal) (g .environment) (g .program) (g .level) (r .0) (λ new. Leads (q .0) (new ++ gs) []) (r .1) (q .2))
+    let r = infer-complete x (g .goal) (g .environment) (g .program) (g .level)
+    (λ new. Proceeds s xs (sequents (new ++ gs)) (sequents [])) h in
+    let q = proceeds-derives s xs (r .0 ++ gs) (r .2) in (
+      x ∷ q .0,
+      ap (derivationLine x ∷_) (q .1),
+      infer-sound x (g .goal) (g .environment) (g .program) (g .level) (r .0)
+          (λ new. Leads (q .0) (new ++ gs) []) (r .1) (q .2),
+    )
 
 -- B lines
 
@@ -107,7 +118,7 @@ unfoldable bound : List ℕ → Environment Symbol → Environment Symbol → En
 bound [] e f = f
 bound (v ∷ vs) e f = bound vs e (update f v (e v))
 
--- B lines for all names proceed
+-- B lines for all names, with terms of level 0, proceed if the lines after them do.
 bindings-proceed : (s : Sheet) (vs : List ℕ) (e f : Environment Symbol) (xs : List TextLine) (b : Stage) → All (λ v. level (e v) ≤ 0) vs
     → Proceeds s xs (boundStage s [] (bound vs e f)) b → Proceeds s (map (λ v. bindingLine v (e v)) vs ++ xs) (boundStage s vs f) b
 unfolding Proceeds Allowed boundStage bound
@@ -128,8 +139,9 @@ record Bound (s : Sheet) (vs : List ℕ) (k : ℕ) (f : Environment Symbol) (xs 
   below : (w : ℕ) → w < k → environment w ≡ f w
   derives : Derives derivation (instanceOf (s .clauses) (s .goal) environment ∷ [])
 
--- where B lines are due, only these proceed
-proceeds-bindings : (s : Sheet) (vs : List ℕ) (k : ℕ) (f : Environment Symbol) (xs : List TextLine) → Ascending k vs → Proceeds s xs (boundStage s vs f) (sequents []) → Bound s vs k f xs
+-- Where B lines are due, only these and then D lines proceed to the end.
+proceeds-bindings : (s : Sheet) (vs : List ℕ) (k : ℕ) (f : Environment Symbol) (xs : List TextLine) → Ascending k vs
+    → Proceeds s xs (boundStage s vs f) (sequents []) → Bound s vs k f xs
 unfolding Proceeds Allowed boundStage Ascending
 proceeds-bindings s [] k f xs a h =
     let r = proceeds-derives s xs (instanceOf (s .clauses) (s .goal) f ∷ []) h in
@@ -151,23 +163,24 @@ proceeds-bindings s (v ∷ vs) k f (derivationLine x ∷ xs) a h = absurd h
 
 -- the goal's free names
 
--- names that ascend from k + 1 on ascend from k on
+-- Names that ascend from k + 1 on ascend from k on.
 ascending-down : (k : ℕ) (vs : List ℕ) → Ascending (suc k) vs → Ascending k vs
 unfolding Ascending
 ascending-down k [] h = tt
 ascending-down k (v ∷ vs) h = (let l = h .0 in omega arith, h .1)
 
--- the free names ascend
+-- The free names of a goal ascend.
 free-ascending : (n v : ℕ) (g : Goal) → Ascending v (freeFrom n v g)
 unfolding Ascending freeFrom
 free-ascending zero v g = tt
 free-ascending (suc n) v g = go (freeG g v) (free-ascending n (suc v) g)
   where
-    go : (b : Bool) → Ascending (suc v) (freeFrom n (suc v) g) → Ascending v (elim b as (λ c. List ℕ) [ true ↦ v ∷ freeFrom n (suc v) g | false ↦ freeFrom n (suc v) g ])
+    go : (b : Bool) → Ascending (suc v) (freeFrom n (suc v) g)
+        → Ascending v (elim b as (λ c. List ℕ) [ true ↦ v ∷ freeFrom n (suc v) g | false ↦ freeFrom n (suc v) g ])
     go true h = (omega arith, h)
     go false h = ascending-down v (freeFrom n (suc v) g) h
 
--- they stand free
+-- The free names that are listed stand free in the goal.
 free-all : (n v : ℕ) (g : Goal) → All (λ w. freeG g w ≡ true) (freeFrom n v g)
 unfolding freeFrom
 free-all zero v g = tt
@@ -178,7 +191,7 @@ free-all (suc n) v g = go (freeG g v) refl (free-all n (suc v) g)
     go true q h = (q, h)
     go false q h = h
 
--- and they are all that do
+-- Each name in the range that stands free in the goal is listed.
 free-mem : (n v : ℕ) (g : Goal) (w : ℕ) → freeG g w ≡ true → v ≤ w → w < v + n → Mem w (freeFrom n v g)
 unfolding freeFrom
 free-mem zero v g w f l m = absurd (omega arith)
@@ -191,7 +204,7 @@ free-mem (suc n) v g w f l m = go (freeG g v) refl (eqb w v) refl (λ k. free-me
     go false q true p h = absurd (true≢false (sym f ∙ ap (freeG g) (eqb-true w v p) ∙ q))
     go false q false p h = h (let d = eqb-false w v p in omega arith)
 
--- a name that f and e agree on keeps its term
+-- A name that f and e agree on keeps its term.
 bound-kept : (vs : List ℕ) (e f : Environment Symbol) (w : ℕ) → f w ≡ e w → bound vs e f w ≡ e w
 unfolding bound update
 bound-kept [] e f w h = h
@@ -201,7 +214,7 @@ bound-kept (v ∷ vs) e f w h = bound-kept vs e (update f v (e v)) w (go (eqb w 
     go true q = ap e (sym (eqb-true w v q))
     go false q = h
 
--- a name that has a B line has e's term
+-- A name that has a B line has the term that e gives it.
 bound-agree : (vs : List ℕ) (e f : Environment Symbol) (w : ℕ) → Mem w vs → bound vs e f w ≡ e w
 unfolding bound
 bound-agree vs e f w (here {l = ws}) = bound-kept ws e (update f w (e w)) w (update-same f w (e w))
@@ -209,15 +222,16 @@ bound-agree vs e f w (there {b = v} {l = ws} h) = bound-agree ws e (update f v (
 
 -- renamed lines
 
--- a renaming goes through the lines of an answer
+-- The renamed lines of an answer are those of the renamed environment and the renamed D lines.
 answer-rename : (r : Renaming) (n : ℕ) (vs : List ℕ) (e : Environment Symbol) (ls : List (Line Symbol))
     → map (renameTextLine r) (answerLines n vs e ls) ≡ answerLines n vs (putEnvironment (renamed r) e) (map (renameLine r) ls)
 unfolding answerLines renameTextLine
 answer-rename r n vs e ls =
     ap (resultLine n ∷_) (map-append (renameTextLine r) (map (λ v. bindingLine v (e v)) vs) (map derivationLine ls)
-    ∙ ap₂ _++_ (map-map (λ v. bindingLine v (e v)) (renameTextLine r) vs) (map-map derivationLine (renameTextLine r) ls ∙ sym (map-map (renameLine r) derivationLine ls)))
+    ∙ ap₂ _++_ (map-map (λ v. bindingLine v (e v)) (renameTextLine r) vs) (map-map derivationLine (renameTextLine r) ls
+    ∙ sym (map-map (renameLine r) derivationLine ls)))
 
--- and through the derivation of an instance
+-- The renamed lines of a derivation of an instance are those of a derivation of the renamed instance.
 instance-rename : (cs : List Clause) (g : Goal) (r : Renaming) (e : Environment Symbol) (d : Derivable (instanceOf cs g e))
     → (d′ : Derivable (instanceOf cs g (putEnvironment (renamed r) e))) × (lines d′ ≡ map (renameLine r) (lines d))
 unfolding instanceOf sheetProgram
@@ -237,12 +251,12 @@ pub record InstanceLines (s : Sheet) (xs : List TextLine) : Type 0 where
   pub textLines : xs ≡ answerLines units (freeVariables (s .goal)) environment (lines (proof .derivation))
 
 module _ (s : Sheet) (closed : All Closed (s .clauses)) (small : (v : ℕ) → freeG (s .goal) v ≡ true → v < variableNames) where
-  -- each name that stands free has a B line
+  -- Each name that stands free in the goal has a B line.
   free-due : (v : ℕ) → freeG (s .goal) v ≡ true → Mem v (freeVariables (s .goal))
   unfolding freeVariables
   free-due v f = free-mem 8 0 (s .goal) v f (omega arith) (let l = small v f in omega arith)
 
-  -- what proceeds to no sequent left are the lines of a derivation of an instance
+  -- Lines that proceed until no sequent is left are the lines of a derivation of an instance.
   pub proceeds-instance : (xs : List TextLine) → Proceeds s xs opening (sequents []) → InstanceLines s xs
   unfolding Proceeds Allowed freeVariables answerLines
   proceeds-instance [] h = absurd (let z : _≡_ {A = ℕ} 0 1 = cc in omega arith)
@@ -262,32 +276,42 @@ module _ (s : Sheet) (closed : All Closed (s .clauses)) (small : (v : ℕ) → f
   proceeds-instance (bindingLine v t ∷ xs) h = absurd h
   proceeds-instance (derivationLine x ∷ xs) h = absurd h
 
-  -- the renamed lines of a derivation derive the instance that the renamed B lines name
+  -- The renamed lines of a derivation derive the instance that the renamed B lines name.
   renamed-derives : (r : Renaming) (e : Environment Symbol) (d : Derivable (instanceOf (s .clauses) (s .goal) e))
-      → Derives (map (renameLine r) (lines d)) (instanceOf (s .clauses) (s .goal) (bound (freeVariables (s .goal)) (putEnvironment (renamed r) e) blank) ∷ [])
+      → Derives (map (renameLine r) (lines d))
+      (instanceOf (s .clauses) (s .goal) (bound (freeVariables (s .goal)) (putEnvironment (renamed r) e) blank) ∷ [])
   renamed-derives r e d =
       let vs = freeVariables (s .goal) in
       let e′ = putEnvironment (renamed r) e in
       let g = instanceOf (s .clauses) (s .goal) (bound vs e′ blank) in
       let a = instance-rename (s .clauses) (s .goal) r e d in
-      let b = locality (s .clauses) (s .goal) closed .tree e′ (bound vs e′ blank) (λ v f. sym (bound-agree vs e′ blank v (free-due v f))) (a .0) in
+      let b = locality (s .clauses) (s .goal) closed .tree e′ (bound vs e′ blank) (λ v f. sym (bound-agree vs e′ blank v (free-due v f)))
+      (a .0) in
       subst (λ (ls : List (Line Symbol)). Derives ls (g ∷ [])) (b .1 ∙ a .1) (trees g .tree-lines (b .0))
 
-  -- whose terms have level 0
-  renamed-low : (r : Renaming) (e : Environment Symbol) → InstanceDerivation (s .clauses) (s .goal) e → All (λ v. level (putEnvironment (renamed r) e v) ≤ 0) (freeVariables (s .goal))
+  -- The renamed terms of the goal's free variables have level 0.
+  renamed-low : (r : Renaming) (e : Environment Symbol) → InstanceDerivation (s .clauses) (s .goal) e
+      → All (λ v. level (putEnvironment (renamed r) e v) ≤ 0) (freeVariables (s .goal))
   unfolding freeVariables
   renamed-low r e d =
-      all-weaken (λ v. freeG (s .goal) v ≡ true) (λ v. level (putEnvironment (renamed r) e v) ≤ 0) (λ v f. rename-level r 0 (e v) (d .level0 v f))
+      all-weaken (λ v. freeG (s .goal) v ≡ true) (λ v. level (putEnvironment (renamed r) e v) ≤ 0)
+      (λ v f. rename-level r 0 (e v) (d .level0 v f))
       (freeVariables (s .goal)) (free-all 8 0 (s .goal))
 
-  -- so they, renamed, proceed to no sequent left
-  pub instance-proceeds : (r : Renaming) (xs : List TextLine) → InstanceLines s xs → Proceeds s (map (renameTextLine r) xs) opening (sequents [])
+  -- The lines of a derivation of an instance, renamed, proceed until no sequent is left.
+  pub instance-proceeds : (r : Renaming) (xs : List TextLine) → InstanceLines s xs
+      → Proceeds s (map (renameTextLine r) xs) opening (sequents [])
   unfolding Proceeds Allowed answerLines boundStage
   instance-proceeds r xs h =
       let vs = freeVariables (s .goal) in
       let e = putEnvironment (renamed r) (h .environment) in
       let ls = map (renameLine r) (lines (h .proof .derivation)) in
-      let derives = leads-proceeds s ls (instanceOf (s .clauses) (s .goal) (bound vs e blank) ∷ []) [] (renamed-derives r (h .environment) (h .proof .derivation)) in
+      let derives = leads-proceeds s ls (instanceOf (s .clauses) (s .goal) (bound vs e blank) ∷ []) []
+      (renamed-derives r (h .environment) (h .proof .derivation)) in
       subst (λ (ys : List TextLine). Proceeds s ys opening (sequents []))
-      (sym (ap (map (renameTextLine r)) (h .textLines) ∙ answer-rename r (h .units) vs (h .environment) (lines (h .proof .derivation))))
-      (h .least, h .most, bindings-proceed s vs e blank (map derivationLine ls) (sequents []) (renamed-low r (h .environment) (h .proof)) derives)
+      (sym (ap (map (renameTextLine r)) (h .textLines) ∙ answer-rename r (h .units) vs (h .environment) (lines (h .proof .derivation)))) (
+        h .least,
+        h .most,
+        bindings-proceed s vs e blank (map derivationLine ls) (sequents [])
+            (renamed-low r (h .environment) (h .proof)) derives,
+      )

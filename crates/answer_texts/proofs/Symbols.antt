@@ -19,7 +19,7 @@ use Rattle.sheet_format.specs.Nodes.{Declaration}
 use Rattle.sheet_format.proofs.Options.{OnSome, cond-some, some-weaken}
 use Rattle.sheet_format.proofs.Bytes.{same-refl, same-equal}
 use Rattle.sheet_format.proofs.Numbers.{decimal-digits, number-decimal, number-some}
-use Rattle.sheet_format.proofs.Places.{at-all}
+use Rattle.sheet_format.proofs.Indexing.{at-all}
 use Rattle.sheet_format.proofs.Names.{Names, names-tail}
 use Rattle.sheet_format.proofs.Formed.{Declares}
 use Rattle.answer_texts.specs.Spelling.{nameIn, nameOf}
@@ -34,12 +34,15 @@ abbrev pub marked : ℕ → ℕ → List ℕ
 marked n k = decimal n ++ (code "@" ∷ decimal k)
 
 -- They are read back.
-pub read-symbol : (s : ℕ → ℕ → Symbol) (n k : ℕ) (r : List ℕ) → n ≤ maxNumber → k ≤ maxNumber → Stops isDigit r → readSymbol s (marked n k ++ r) ≡ parsed (leaf (s n k)) r
+pub read-symbol : (s : ℕ → ℕ → Symbol) (n k : ℕ) (r : List ℕ) → n ≤ maxNumber → k ≤ maxNumber → Stops isDigit r
+    → readSymbol s (marked n k ++ r) ≡ parsed (leaf (s n k)) r
 unfolding readSymbol readLevel withLevel isDigit
 read-symbol s n k r hn hk h =
     ap (readSymbol s) (append-assoc (decimal n) (code "@" ∷ decimal k) r)
-    ∙ ap (λ (x : Span). readLevel s (number (x .taken)) (x .rest)) (span-append isDigit (decimal n) (code "@" ∷ (decimal k ++ r)) (decimal-digits n) refl)
-    ∙ ap (λ (x : Span). withLevel s (number (decimal n)) (number (x .taken)) (x .rest)) (span-append isDigit (decimal k) r (decimal-digits k) h)
+    ∙ ap (λ (x : Span). readLevel s (number (x .taken)) (x .rest))
+    (span-append isDigit (decimal n) (code "@" ∷ (decimal k ++ r)) (decimal-digits n) refl)
+    ∙ ap (λ (x : Span). withLevel s (number (decimal n)) (number (x .taken)) (x .rest))
+    (span-append isDigit (decimal k) r (decimal-digits k) h)
     ∙ ap₂ (λ (x y : Option ℕ). withLevel s x y r) (number-decimal n hn) (number-decimal k hk)
 
 -- What is read has that spelling.
@@ -55,7 +58,7 @@ pub record ReadsSymbol (s : ℕ → ℕ → Symbol) (b : List ℕ) (p : Parsed G
 abbrev IsDecimal : List ℕ → ℕ → Type 0
 IsDecimal b n = (b ≡ decimal n) × (n ≤ maxNumber)
 
--- number and level
+-- A symbol with a number and a level that were read is spelled so.
 withLevel-some : (s : ℕ → ℕ → Symbol) (o p : Option ℕ) (a b r : List ℕ) → OnSome (IsDecimal a) o → OnSome (IsDecimal b) p
     → OnSome (ReadsSymbol s (a ++ (code "@" ∷ (b ++ r)))) (withLevel s o p r)
 unfolding withLevel
@@ -71,18 +74,21 @@ withLevel-some s (some n) (some m) a b r h k =
       smallLevel = k .1;
     }
 
--- the level, the number being read
-readLevel-some : (s : ℕ → ℕ → Symbol) (o : Option ℕ) (a b : List ℕ) → OnSome (IsDecimal a) o → OnSome (ReadsSymbol s (a ++ b)) (readLevel s o b)
+-- A symbol whose level is read after its number is spelled so.
+readLevel-some : (s : ℕ → ℕ → Symbol) (o : Option ℕ) (a b : List ℕ) → OnSome (IsDecimal a) o
+    → OnSome (ReadsSymbol s (a ++ b)) (readLevel s o b)
 unfolding readLevel
 readLevel-some s o a [] h = tt
 readLevel-some s o a (c ∷ cs) h =
-    cond-some (ReadsSymbol s (a ++ (c ∷ cs))) (eqb c (code "@")) (withLevel s o (number (span isDigit cs .taken)) (span isDigit cs .rest)) none
+    cond-some (ReadsSymbol s (a ++ (c ∷ cs))) (eqb c (code "@")) (withLevel s o (number (span isDigit cs .taken)) (span isDigit cs .rest))
+    none
     (λ e. subst (λ (x : List ℕ). OnSome (ReadsSymbol s (a ++ x)) (withLevel s o (number (span isDigit cs .taken)) (span isDigit cs .rest)))
     (sym (ap₂ _∷_ (eqb-true c (code "@") e) (span-split isDigit cs)))
-    (withLevel-some s o (number (span isDigit cs .taken)) a (span isDigit cs .taken) (span isDigit cs .rest) h (number-some (span isDigit cs .taken))))
+    (withLevel-some s o (number (span isDigit cs .taken)) a (span isDigit cs .taken) (span isDigit cs .rest) h
+    (number-some (span isDigit cs .taken))))
     (λ e. tt)
 
--- both
+-- A symbol whose number and level are read is spelled so.
 pub readSymbol-some : (s : ℕ → ℕ → Symbol) (b : List ℕ) → OnSome (ReadsSymbol s b) (readSymbol s b)
 unfolding readSymbol
 readSymbol-some s b =
@@ -103,7 +109,7 @@ has-arity ds g n h = go (getElem? ds g) refl h
         let p = and-parts (d .function) (eqb (d .arity) n) k in
         record { declaration = d; at = e; kind = p .0; arity = eqb-true (d .arity) n (p .1) }
 
--- and back
+-- A function symbol that is declared with arity n passes the test for arity n.
 pub arity-has : (ds : List Declaration) (g n : ℕ) → Declares ds true g n → hasArity n (getElem? ds g) ≡ true
 unfolding hasArity
 arity-has ds g n h = rw (h .at) (rw (h .kind) (eq-eqb (h .declaration .arity) n (h .arity)))
@@ -113,9 +119,10 @@ pub name-at : (ds : List Declaration) (g : ℕ) (d : Declaration) → getElem? d
 unfolding nameOf nameIn
 name-at ds g d h = ap nameIn h
 
--- names that are declared are names
+-- The name of a declared function symbol is a name.
 pub name-of : (ds : List Declaration) (g n : ℕ) → Names ds → Declares ds true g n → isName (nameOf ds g) ≡ true
-name-of ds g n ns h = rw (name-at ds g (h .declaration) (h .at)) (at-all (λ d. isName (d .name) ≡ true) ds g (h .declaration) (ns .named) (h .at))
+name-of ds g n ns h =
+    rw (name-at ds g (h .declaration) (h .at)) (at-all (λ d. isName (d .name) ≡ true) ds g (h .declaration) (ns .named) (h .at))
 
 -- The name of a function symbol is found at that symbol, names being told apart.
 find-from : (ds : List Declaration) (k g : ℕ) (d : Declaration) → Names ds → getElem? ds g ≡ some d → d .function ≡ true
@@ -131,13 +138,15 @@ find-from (e ∷ ds) k (suc g) d ns h f = go (sameBytes (d .name) (e .name)) ref
     s : suc k + g ≡ k + suc g
     s = omega arith
 
-    go : (b : Bool) → sameBytes (d .name) (e .name) ≡ b → findName (suc k) ds (d .name) ≡ some (record { symbol = suc k + g; arity = d .arity })
+    go : (b : Bool) → sameBytes (d .name) (e .name) ≡ b
+        → findName (suc k) ds (d .name) ≡ some (record { symbol = suc k + g; arity = d .arity })
         → findName k (e ∷ ds) (d .name) ≡ some (record { symbol = k + suc g; arity = d .arity })
     go true q ih = absurd (let z = ns .distinct (suc g) 0 d e h refl (same-equal (d .name) (e .name) q) in omega arith)
     go false q ih = rw (q, findName) (ih ∙ ap (λ (x : ℕ). some (record { symbol = x; arity = d .arity })) s)
 
--- from the first symbol on
-pub find-name : (ds : List Declaration) (g n : ℕ) → Names ds → Declares ds true g n → findName 0 ds (nameOf ds g) ≡ some (record { symbol = g; arity = n })
+-- The name of a function symbol is found at that symbol, from the first symbol on.
+pub find-name : (ds : List Declaration) (g n : ℕ) → Names ds → Declares ds true g n
+    → findName 0 ds (nameOf ds g) ≡ some (record { symbol = g; arity = n })
 find-name ds g n ns h =
     let s : 0 + g ≡ g = omega arith in
     ap (findName 0 ds) (name-at ds g (h .declaration) (h .at)) ∙ find-from ds 0 g (h .declaration) ns (h .at) (h .kind)
@@ -150,7 +159,7 @@ record Finds (k : ℕ) (ds : List Declaration) (n : List ℕ) (f : Found) : Type
   pub named : nameOf ds place ≡ n
   pub declared : Declares ds true place (f .arity)
 
--- from symbol k on
+-- What is found from symbol k on is a function symbol of that name.
 findName-from : (ds : List Declaration) (k : ℕ) (n : List ℕ) → OnSome (Finds k ds n) (findName k ds n)
 unfolding findName nameOf nameIn
 findName-from [] k n = tt
@@ -163,10 +172,12 @@ findName-from (d ∷ ds) k n = go (sameBytes n (d .name)) refl (findName-from ds
           place = suc (h .place);
           symbol = omega arith;
           named = h .named;
-          declared = record { declaration = h .declared .declaration; at = h .declared .at; kind = h .declared .kind; arity = h .declared .arity };
+          declared =
+              record { declaration = h .declared .declaration; at = h .declared .at; kind = h .declared .kind; arity = h .declared .arity };
         }
 
-    go : (b : Bool) → sameBytes n (d .name) ≡ b → OnSome (Finds (suc k) ds n) (findName (suc k) ds n) → OnSome (Finds k (d ∷ ds) n) (findName k (d ∷ ds) n)
+    go : (b : Bool) → sameBytes n (d .name) ≡ b → OnSome (Finds (suc k) ds n) (findName (suc k) ds n)
+        → OnSome (Finds k (d ∷ ds) n) (findName k (d ∷ ds) n)
     go true e ih =
         rw (e, findName) (cond-some (Finds k (d ∷ ds) n) (d .function) (some (record { symbol = k; arity = d .arity })) none
         (λ q. record {
@@ -178,8 +189,9 @@ findName-from (d ∷ ds) k n = go (sameBytes n (d .name)) refl (findName-from ds
         (λ q. tt))
     go false e ih = rw (e, findName) (some-weaken (Finds (suc k) ds n) (Finds k (d ∷ ds) n) later (findName (suc k) ds n) ih)
 
--- from the first symbol on
-pub findName-some : (ds : List Declaration) (n : List ℕ) → OnSome (λ f. (nameOf ds (f .symbol) ≡ n) × Declares ds true (f .symbol) (f .arity)) (findName 0 ds n)
+-- What is found from the first symbol on is a function symbol of that name.
+pub findName-some : (ds : List Declaration) (n : List ℕ)
+    → OnSome (λ f. (nameOf ds (f .symbol) ≡ n) × Declares ds true (f .symbol) (f .arity)) (findName 0 ds n)
 findName-some ds n =
     some-weaken (Finds 0 ds n) (λ f. (nameOf ds (f .symbol) ≡ n) × Declares ds true (f .symbol) (f .arity))
     (λ f h. let s : h .place ≡ f .symbol = (let e = h .symbol in omega arith) in

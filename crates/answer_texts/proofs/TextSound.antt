@@ -33,15 +33,17 @@ use Rattle.answer_texts.proofs.SoundWritable.{declared, sheet-goal, she
 abbrev searchLines : Sheet → Store → List (Line Leaf) → ℕ → List TextLine
 searchLines s store path n = answerLines n (freeVariables (s .goal)) (finalEnvironment store) (finalLines store path)
 
--- its lines can be written, within the limits
-lines-writable : (s : Sheet) → Good s → (budget n : ℕ) (store : Store) (path : List (Line Leaf)) → n ≤ maxBudget → search budget (s .clauses) (s .goal) ≡ ends (proved store path) n
+-- The lines of a proved search's text can be written, within the limits.
+lines-writable : (s : Sheet) → Good s → (budget n : ℕ) (store : Store) (path : List (Line Leaf)) → n ≤ maxBudget
+    → search budget (s .clauses) (s .goal) ≡ ends (proved store path) n
     → length (searchText s store path n) ≤ maxTextBytes → All (Writable (s .symbols)) (numbered (searchLines s store path n))
 unfolding searchText numbered
 lines-writable s well budget n store path few e short =
     let ds = s .symbols in
     let clauses : All (λ c. FormedClause c (declared ds)) (s .clauses) =
     all-weaken (λ c. SheetClause c ds) (λ c. FormedClause c (declared ds)) (λ c. sheet-clause c ds) (s .clauses) (well .clausesFormed) in
-    answer-writable ds (numberingOf (shown (searchLines s store path n))) n (omega arith) (numbers-le ds (searchLines s store path n) maxTextBytes short) (freeVariables (s .goal))
+    answer-writable ds (numberingOf (shown (searchLines s store path n))) n (omega arith)
+    (numbers-le ds (searchLines s store path n) maxTextBytes short) (freeVariables (s .goal))
     (finalEnvironment store) (finalLines store path) (names-free (s .goal))
     (proved-bounds (declared ds) (s .clauses) (s .goal) clauses (sheet-goal (s .goal) ds (well .goalFormed)) budget n store path e)
 
@@ -58,7 +60,9 @@ textSound bytes s read budget n store path few e short =
       most = most;
       environment = finalEnvironment store;
       proof = record { level0 = λ v f. sound .level0 v; derivation = tree .0 };
-      writable = subst (λ (ls : List (Line Symbol)). All (Writable (s .symbols)) (numbered (answerLines n (freeVariables (s .goal)) (finalEnvironment store) ls))) (sym (tree .1))
+      writable =
+          subst (λ (ls : List (Line Symbol)). All (Writable (s .symbols))
+          (numbered (answerLines n (freeVariables (s .goal)) (finalEnvironment store) ls))) (sym (tree .1))
           (lines-writable s (good bytes s read) budget n store path most e short);
       spelled = ap (λ ls. proofText (s .symbols) (answerLines n (freeVariables (s .goal)) (finalEnvironment store) ls)) (sym (tree .1));
     }

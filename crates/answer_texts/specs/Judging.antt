@@ -12,7 +12,8 @@ use Rattle.terms.specs.Terms.{Term, leaf, app, Terms, nil, cons, substitutes}
 use Rattle.formulas.specs.Formulas.{Goal, atom, truth, and, or, implies, exists, forall, freeVariables}
 use Rattle.formulas.specs.Members.{Member}
 use Rattle.sequents.specs.Symbols.{Symbol, made, leftover, Ground, level}
-use Rattle.sequents.specs.Sequents.{Environment, Program, hypothesis, Entry, entries, Sequent, sequent, assign, bodySequent, Word, Dtrue, Dand, Dleft, Dright, Dassume, Line, plain, Dsome, Dall, Dclause}
+use Rattle.sequents.specs.Sequents.{Environment, Program, hypothesis, Entry, entries, Sequent, sequent, assign, bodySequent, Word, Dtrue}
+use Rattle.sequents.specs.Sequents.{Dand, Dleft, Dright, Dassume, Line, plain, Dsome, Dall, Dclause}
 use Rattle.sheet_format.specs.Limits.{maxBudget}
 use Rattle.sheet_format.specs.Bytes.{Lines, linesOf, fields}
 use Rattle.sheet_format.specs.Sheets.{Sheet}
@@ -94,10 +95,11 @@ unfoldable pub inferEntry : Option (Entry Symbol) → List Ground → ℕ → Te
 inferEntry none ts p us P i = none
 inferEntry (some m) ts p us P i =
     let e = assign (m .member .prefix) ts (m .environment) in
-    cond (eqb (length ts) (length (m .member .prefix)) && allLow i ts && eqb p (m .member .predicate) && sameTerms us (substitutes (m .member .arguments) e))
+    cond (eqb (length ts) (length (m .member .prefix)) && allLow i ts && eqb p (m .member .predicate) && sameTerms us
+    (substitutes (m .member .arguments) e))
     (some (bodySequent (m .member .body) e P i)) none
 
--- the place counts from 1
+-- The place counts from 1.
 unfoldable pub entryAt : ℕ → List (Entry Symbol) → Option (Entry Symbol)
 entryAt zero l = none
 entryAt (suc k) l = getElem? l k
@@ -129,7 +131,8 @@ allow s (bindingLine v t) (sequents gs) = none
 allow s (derivationLine x) opening = none
 allow s (derivationLine x) (bindings vs e) = none
 allow s (derivationLine x) (sequents []) = none
-allow s (derivationLine x) (sequents (g ∷ gs)) = Option·map (λ new. sequents (new ++ gs)) (infer x (g .goal) (g .environment) (g .program) (g .level))
+allow s (derivationLine x) (sequents (g ∷ gs)) =
+    Option·map (λ new. sequents (new ++ gs)) (infer x (g .goal) (g .environment) (g .program) (g .level))
 
 -- Where a judgement stands after some lines.
 pub record Progress : Type 0 where

@@ -19,12 +19,14 @@ use Rattle.answer_texts.specs.Judging.{Judgement, valid, invalid, judge}
 
 -- The text of a proved search.
 unfoldable pub searchText : Sheet → Store → List (Line Leaf) → ℕ → List ℕ
-searchText s store path units = proofText (s .symbols) (answerLines units (freeVariables (s .goal)) (finalEnvironment store) (finalLines store path))
+searchText s store path units =
+    proofText (s .symbols) (answerLines units (freeVariables (s .goal)) (finalEnvironment store) (finalLines store path))
 
 -- T5: within document 01's limits it spells a derivation of an instance of the goal.
 abbrev pub TextSound : Type 0
 TextSound = (bytes : List ℕ) (s : Sheet) → readSheet bytes ≡ sheet s
-    → (budget n : ℕ) (store : Store) (path : List (Line Leaf)) → budget ≤ maxBudget → search budget (s .clauses) (s .goal) ≡ ends (proved store path) n
+    → (budget n : ℕ) (store : Store) (path : List (Line Leaf)) → budget ≤ maxBudget
+    → search budget (s .clauses) (s .goal) ≡ ends (proved store path) n
     → length (searchText s store path n) ≤ maxTextBytes → SpellsDerivation s (searchText s store path n)
 
 -- T6: valid exactly if the text spells a derivation of an instance, and otherwise the first line that breaks.

@@ -50,18 +50,20 @@ unfoldable pub after : {A : Type 0} → ℕ → (List ℕ → Option A) → List
 after c r [] = none
 after c r (d ∷ ds) = elim (eqb d c) [ true ↦ r ds | false ↦ none ]
 
--- n more arguments, each after a comma, and the closing bracket; r reads a term.
+-- `consParsed` puts a term in front; `readMore` reads n more, each after a comma, and the closing bracket; r reads a term.
 unfoldable pub consParsed : Ground → Option (Parsed (Terms Symbol)) → Option (Parsed (Terms Symbol))
 consParsed t none = none
 consParsed t (some p) = parsed (cons t (p .value)) (p .rest)
 
 unfoldable pub readMore : (List ℕ → Option (Parsed Ground)) → ℕ → List ℕ → Option (Parsed (Terms Symbol))
 readMore r zero bytes = after (code ")") (λ ds. parsed nil ds) bytes
-readMore r (suc n) bytes = after (code ",") (λ ds. elim (r ds) [ none ↦ none | some p ↦ consParsed (p .value) (readMore r n (p .rest)) ]) bytes
+readMore r (suc n) bytes =
+    after (code ",") (λ ds. elim (r ds) [ none ↦ none | some p ↦ consParsed (p .value) (readMore r n (p .rest)) ]) bytes
 
 unfoldable pub readArguments : (List ℕ → Option (Parsed Ground)) → ℕ → List ℕ → Option (Parsed (Terms Symbol))
 readArguments r zero bytes = parsed nil bytes
-readArguments r (suc n) bytes = after (code "(") (λ ds. elim (r ds) [ none ↦ none | some p ↦ consParsed (p .value) (readMore r n (p .rest)) ]) bytes
+readArguments r (suc n) bytes =
+    after (code "(") (λ ds. elim (r ds) [ none ↦ none | some p ↦ consParsed (p .value) (readMore r n (p .rest)) ]) bytes
 
 -- The function symbol of that name, with its number.
 pub record Found : Type 0 where

@@ -59,7 +59,8 @@ pub record SpellsDerivation (s : Sheet) (text : List ℕ) : Type 0 where
   pub most : units ≤ maxBudget
   pub environment : Environment Symbol
   pub proof : InstanceDerivation (s .clauses) (s .goal) environment
-  pub writable : All (Writable (s .symbols)) (numbered (answerLines units (freeVariables (s .goal)) environment (lines (proof .derivation))))
+  pub writable : All (Writable (s .symbols))
+      (numbered (answerLines units (freeVariables (s .goal)) environment (lines (proof .derivation))))
   pub spelled : text ≡ proofText (s .symbols) (answerLines units (freeVariables (s .goal)) environment (lines (proof .derivation)))
 
 -- How far a text has come: before its R line; with B lines due for the variables, those before having their terms; with
@@ -90,7 +91,8 @@ Allowed s (bindingLine v t) (sequents gs) K = ⊥
 Allowed s (derivationLine x) opening K = ⊥
 Allowed s (derivationLine x) (bindings vs e) K = ⊥
 Allowed s (derivationLine x) (sequents []) K = ⊥
-Allowed s (derivationLine x) (sequents (g ∷ gs)) K = Infers x (g .goal) (g .environment) (g .program) (g .level) (λ new. K (sequents (new ++ gs)))
+Allowed s (derivationLine x) (sequents (g ∷ gs)) K =
+    Infers x (g .goal) (g .environment) (g .program) (g .level) (λ new. K (sequents (new ++ gs)))
 
 -- The lines are right one after the other, and come from one stage to another.
 unfoldable pub Proceeds : Sheet → List TextLine → Stage → Stage → Type 0

@@ -1,4 +1,5 @@
 // The checker: a sheet is read and a text is judged line by line, in buffers that the caller lends (document 01).
+use checker_state::Shape;
 use memory::zero_front;
 use outcomes::Refusal;
 use outcomes::Verdict;
@@ -16,8 +17,7 @@ ghost use Rattle.sheet_format.specs.Sheets.{readSheet};
 ghost use Rattle.checker_spec.specs.CheckText.{countLf, checkSheet};
 ghost use Rattle.checker_spec.specs.Promises.{handedBack, CheckContract};
 ghost use Rattle.checker_spec.specs.Handed.{handed};
-ghost use Rattle.checker_spec.specs.Checking.{earlyNumber, refusedCheck, verdictAt};
-use checker_state::Shape;
+ghost use Rattle.checker_spec.specs.Checking.{checkRefusal, refusedCheck, verdictAt};
 
 const MAX_BYTES: usize = limits::MAX_TEXT_BYTES as usize;
 
@@ -37,8 +37,8 @@ fn count_lf(text: &[u8]) -> usize
 }
 
 // The first of refusals 1, 2 and 4 that arises, or 0.
-fn early(sheet: usize, table: usize, text: usize) -> u32
-    ensures { λ r. ⌜ r ≡ earlyNumber sheet table text ⌝ }
+fn check_refusal(sheet: usize, table: usize, text: usize) -> u32
+    ensures { λ r. ⌜ r ≡ checkRefusal sheet table text ⌝ }
 {
     if limits::MAX_SHEET_BYTES < sheet {
         return refusals::SHEET_TOO_LONG;
@@ -52,7 +52,7 @@ fn early(sheet: usize, table: usize, text: usize) -> u32
     0
 }
 
-fn refused(number: u32, line: u32) -> Verdict
+fn refused_check(number: u32, line: u32) -> Verdict
     ensures { λ r. ⌜ r ≡ refusedCheck number line ⌝ }
 {
     let f = Refusal { number, line };
@@ -71,7 +71,8 @@ fn verdict_at(line: u32) -> Verdict
 
 // The sheet is read and the text judged.
 fn judge_sheet(sheet: &[u8], text: &[u8], t: &mut [u32], w: &mut [u32]) -> Verdict
-    requires { ⌜ (length (now sheet) ≤ maxSheetBytes) × (tableNumbers ≤ length (now t)) × (length (now text) ≤ maxTextBytes) × (demanded (countLf (now text)) ≤ length (now w)) ⌝ }
+    requires { ⌜ (length (now sheet) ≤ maxSheetBytes) × (tableNumbers ≤ length (now t)) × (length (now text) ≤ maxTextBytes)
+        × (demanded (countLf (now text)) ≤ length (now w)) ⌝ }
     ensures { λ r. ⌜ handed r ≡ handedBack (checkSheet (now (text .entry)) (readSheet (now (sheet .entry)))) ⌝ }
 {
     let read = sheet_reader::read_sheet(sheet, t);
@@ -85,14 +86,16 @@ fn judge_sheet(sheet: &[u8], text: &[u8], t: &mut [u32], w: &mut [u32]) -> Verdi
             let line = text_checker::judge_text(sheet, t, shape, text, w);
             verdict_at(line)
         }
-        Read::Refused(f) => refused(f.number, f.line),
+        Read::Refused(f) => refused_check(f.number, f.line),
     }
 }
 
 // The same in the demanded parts of the lent buffers, which end as zeros.
-fn inside(sheet: &[u8], text: &[u8], t: &mut [u32], w: &mut [u32]) -> Verdict
-    requires { ⌜ (length (now sheet) ≤ maxSheetBytes) × (tableNumbers ≤ length (now t)) × (length (now text) ≤ maxTextBytes) × (demanded (countLf (now text)) ≤ length (now w)) ⌝ }
-    ensures { λ r. ⌜ (handed r ≡ handedBack (checkSheet (now (text .entry)) (readSheet (now (sheet .entry))))) × (now (t .exit) ≡ replicate (length (now (t .entry))) 0) × (now (w .exit) ≡ replicate (length (now (w .entry))) 0) ⌝ }
+fn check_in_parts(sheet: &[u8], text: &[u8], t: &mut [u32], w: &mut [u32]) -> Verdict
+    requires { ⌜ (length (now sheet) ≤ maxSheetBytes) × (tableNumbers ≤ length (now t)) × (length (now text) ≤ maxTextBytes)
+        × (demanded (countLf (now text)) ≤ length (now w)) ⌝ }
+    ensures { λ r. ⌜ (handed r ≡ handedBack (checkSheet (now (text .entry)) (readSheet (now (sheet .entry)))))
+        × (now (t .exit) ≡ replicate (length (now (t .entry))) 0) × (now (w .exit) ≡ replicate (length (now (w .entry))) 0) ⌝ }
 {
     let r = judge_sheet(sheet, text, t, w);
     let n = t.len();
@@ -104,15 +107,16 @@ fn inside(sheet: &[u8], text: &[u8], t: &mut [u32], w: &mut [u32]) -> Verdict
 
 // Refusals 1, 2, 4 and 5 change no buffer.
 pub fn check(sheet: &[u8], text: &[u8], table: &mut [u32], work: &mut [u32]) -> Verdict
-    ensures { λ r. ⌜ CheckContract (now (sheet .entry)) (now (text .entry)) (now (table .entry)) (now (work .entry)) (now (table .exit)) (now (work .exit)) (handed r) ⌝ }
+    ensures { λ r. ⌜ CheckContract (now (sheet .entry)) (now (text .entry)) (now (table .entry)) (now (work .entry)) (now (table .exit))
+        (now (work .exit)) (handed r) ⌝ }
 {
-    let number = early(sheet.len(), table.len(), text.len());
+    let number = check_refusal(sheet.len(), table.len(), text.len());
     if number != 0 {
-        return refused(number, 0);
+        return refused_check(number, 0);
     }
     let m = NUMBERS_PER_UNIT * count_lf(text);
     if work.len() < m {
-        return refused(refusals::WORK_TOO_SHORT, 0);
+        return refused_check(refusals::WORK_TOO_SHORT, 0);
     }
-    inside(sheet, text, &mut table[..TABLE_NUMBERS], &mut work[..m])
+    check_in_parts(sheet, text, &mut table[..TABLE_NUMBERS], &mut work[..m])
 }

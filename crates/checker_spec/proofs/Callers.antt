@@ -10,9 +10,10 @@ use Rattle.sheet_format.specs.Limits.{maxSheetBytes, tableNumbers, maxTextBytes
 use Rattle.sheet_format.specs.Buffers.{demanded}
 use Rattle.sheet_format.specs.Sheets.{Sheet, sheet, readSheet}
 use Rattle.answer_texts.specs.Judging.{Judgement, valid, invalid, judge}
-use Rattle.checker_spec.specs.CheckText.{Checked, judged, turnedBack, countLf, checkSheet, turnBackIf, checkText}
-use Rattle.checker_spec.specs.Promises.{HandedBack, handedBack, CheckContract, AllExact, CallerTold, CallersTold, BuffersDoNotMatter}
-use Rattle.checker_spec.proofs.Gates.{passed-checks}
+use Rattle.checker_spec.specs.CheckText.{Checked, judged, checkRefused, countLf, checkSheet, turnBackIf, checkText}
+use Rattle.checker_spec.specs.Promises.{HandedBack, handedBack, CheckContract, AllExact, CallerJudged, CallersJudged}
+use Rattle.checker_spec.specs.Promises.{BuffersDoNotMatter}
+use Rattle.checker_spec.proofs.SizeChecks.{passed-checks}
 
 -- A judgement by the numbers handed back.
 valid-number : (j : Judgement) → (handedBack (judged j) .verdict ≡ 0) ↔ (j ≡ valid)
@@ -41,19 +42,24 @@ module _ (bytes text table work table′ work′ : List ℕ) (r : HandedBack) (c
     where
       go : (q : Checked) → result ≡ q → (j : Judgement) × (result ≡ judged j) × (r ≡ handedBack (judged j))
       go (judged j) e = (j, e, c .value ∙ ap handedBack e)
-      go (turnedBack f) e = absurd (h (ap (λ (b : HandedBack). b .verdict) (c .value ∙ ap handedBack e)))
+      go (checkRefused f) e = absurd (h (ap (λ (b : HandedBack). b .verdict) (c .value ∙ ap handedBack e)))
 
-  not-turned-back : (s : Sheet) → readSheet bytes ≡ sheet s → length bytes ≤ maxSheetBytes → tableNumbers ≤ length table → length text ≤ maxTextBytes → demanded (countLf text) ≤ length work
+  not-turned-back : (s : Sheet) → readSheet bytes ≡ sheet s → length bytes ≤ maxSheetBytes → tableNumbers ≤ length table
+      → length text ≤ maxTextBytes → demanded (countLf text) ≤ length work
       → r .verdict ≡ 3 → ⊥
   unfolding turnBackIf checkSheet
   not-turned-back s read short t few w =
       let g : checkText bytes text (length table) (length work) ≡ judged (judge s text) =
-      rw (passed-checks bytes text (length table) (length work) (record { sheetFits = short; tableFits = t; textFits = few }), le-ltb (length work) (demanded (countLf text)) w, read) in
+      rw (
+        passed-checks bytes text (length table) (length work) (record { sheetFits = short; tableFits = t; textFits = few }),
+        le-ltb (length work) (demanded (countLf text)) w,
+        read,
+      ) in
       rw (c .value, g) (judged-number (judge s text))
 
-  caller-told : AllExact → CallerTold bytes text table work r
+  caller-judged : AllExact → CallerJudged bytes text table work r
   unfolding result
-  caller-told exact = record {
+  caller-judged exact = record {
     isSheet = λ h.
         let q = the-judgement h in
         exact bytes text (length table) (length work) (q .0) (q .1) .read;
@@ -73,8 +79,9 @@ module _ (bytes text table work table′ work′ : List ℕ) (r : HandedBack) (c
       same-sheet : (x y : Sheet) → readSheet bytes ≡ sheet x → readSheet bytes ≡ sheet y → x ≡ y
       same-sheet x y e f = cc
 
-pub callers-told : AllExact → CallersTold
-callers-told exact bytes text table work table′ work′ r c = caller-told bytes text table work table′ work′ r c exact
+pub callers-judged : AllExact → CallersJudged
+callers-judged exact bytes text table work table′ work′ r c = caller-judged bytes text table work table′ work′ r c exact
 
 pub buffers-do-not-matter : BuffersDoNotMatter
-buffers-do-not-matter bytes text table work table′ work′ r table₂ work₂ table₂′ work₂′ r₂ c d lt lw = c .value ∙ rw (lt, lw) (sym (d .value))
+buffers-do-not-matter bytes text table work table′ work′ r table₂ work₂ table₂′ work₂′ r₂ c d lt lw = c .value
+    ∙ rw (lt, lw) (sym (d .value))

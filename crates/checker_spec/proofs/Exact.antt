@@ -7,14 +7,14 @@ use native.Mathlib.Omega.{arith}
 use Rattle.sheet_format.specs.Sheets.{Sheet, Refusal, refusal, Read, sheet, refused, readSheet}
 use Rattle.answer_texts.specs.Judging.{Judgement, judge}
 use Rattle.answer_texts.specs.Promises.{CheckerExact}
-use Rattle.checker_spec.specs.CheckText.{Checked, judged, turnedBack, checkSheet, turnBackIf, checkText}
+use Rattle.checker_spec.specs.CheckText.{Checked, judged, checkRefused, checkSheet, turnBackIf, checkText}
 use Rattle.checker_spec.specs.Promises.{AllExact}
 
--- a refusal is no judgement
-refused-judged : (r : Refusal) (j : Judgement) → turnedBack r ≡ judged j → ⊥
+-- A refusal is no judgement.
+refused-judged : (r : Refusal) (j : Judgement) → checkRefused r ≡ judged j → ⊥
 refused-judged r j e = let z : _≡_ {A = ℕ} 0 1 = cc in omega arith
 
--- a gate that was passed
+-- Where there is an answer, the size check was passed and what follows it is the answer.
 passed-gate : (b : Bool) (n : ℕ) (r : Checked) (j : Judgement) → turnBackIf b n r ≡ judged j → r ≡ judged j
 unfolding turnBackIf
 passed-gate true n r j e = absurd (refused-judged (refusal n 0) j e)
@@ -25,12 +25,14 @@ unfolding checkSheet
 sheet-judged text (refused r) j e = absurd (refused-judged r j e)
 sheet-judged text (sheet s) j e = (s, refl, cc)
 
--- the judgement is that of the sheet's text
-judgement : (bytes text : List ℕ) (t w : ℕ) (j : Judgement) → checkText bytes text t w ≡ judged j → (s : Sheet) × (readSheet bytes ≡ sheet s) × (judge s text ≡ j)
+-- The judgement of a check is that of the text for the sheet that was read.
+judgement : (bytes text : List ℕ) (t w : ℕ) (j : Judgement) → checkText bytes text t w ≡ judged j → (s : Sheet)
+    × (readSheet bytes ≡ sheet s) × (judge s text ≡ j)
 unfolding checkText
-judgement bytes text t w j e = sheet-judged text (readSheet bytes) j (passed-gate _ _ _ j (passed-gate _ _ _ j (passed-gate _ _ _ j (passed-gate _ _ _ j e))))
+judgement bytes text t w j e =
+    sheet-judged text (readSheet bytes) j (passed-gate _ _ _ j (passed-gate _ _ _ j (passed-gate _ _ _ j (passed-gate _ _ _ j e))))
 
--- T6
+-- T6: every judgement of a check is exact.
 pub all-exact : CheckerExact → AllExact
 all-exact exact bytes text t w j e =
     let r = judgement bytes text t w j e in

@@ -34,8 +34,10 @@ verdict-handed zero = refl
 verdict-handed (suc k) = rw (ne-eqb (suc k) 0 (λ e. omega arith))
 
 -- A sheet that was read: the judgement.
-pub text-judged : (bytes text t t′ : List ℕ) (x : Read) (k : Counts) (goal : ℕ) (w w′ : List ℕ) (n : ℕ) (v : Verdict) → ReadContract bytes t t′ x → x ≡ Done k goal → demanded (countLf text) ≤ length w
-    → judgedText w′ n ≡ judgeText bytes t′ (k .symbols) (k .clauses) goal text w → v ≡ verdictAt n → handed v ≡ handedBack (checkSheet text (readSheet bytes))
+pub text-judged : (bytes text t t′ : List ℕ) (x : Read) (k : Counts) (goal : ℕ) (w w′ : List ℕ) (n : ℕ) (v : Verdict)
+    → ReadContract bytes t t′ x → x ≡ Done k goal → demanded (countLf text) ≤ length w
+    → judgedText w′ n ≡ judgeText bytes t′ (k .symbols) (k .clauses) goal text w → v ≡ verdictAt n
+    → handed v ≡ handedBack (checkSheet text (readSheet bytes))
 unfolding readOf WellRead checkSheet demanded
 text-judged bytes text t t′ x k goal w w′ n v c e room d q =
     let z = subst (ReadContract bytes t t′) e c in
@@ -46,7 +48,8 @@ text-judged bytes text t t′ x k goal w w′ n v c e room d q =
     rw (q, z .read, ← j) (verdict-handed n)
 
 -- Refusals 6 to 11.
-pub sheet-refused : (bytes text t t′ : List ℕ) (x : Read) (f : Refusal) (v : Verdict) → ReadContract bytes t t′ x → x ≡ Refused f → v ≡ refusedCheck (f .number) (f .line)
+pub sheet-refused : (bytes text t t′ : List ℕ) (x : Read) (f : Refusal) (v : Verdict) → ReadContract bytes t t′ x → x ≡ Refused f
+    → v ≡ refusedCheck (f .number) (f .line)
     → handed v ≡ handedBack (checkSheet text (readSheet bytes))
 unfolding readOf checkSheet handed handedBack verdictCode verdictLine verdictNumber
 sheet-refused bytes text t t′ x f v c e d =

@@ -2,6 +2,6 @@ pub mod Exact
 pub mod LineFeeds
 pub mod Parts
 pub mod Judged
-pub mod Gates
+pub mod SizeChecks
 pub mod Callers
 pub mod Promises

@@ -9,7 +9,7 @@ use lib.Dec.{eqb}
 use lib.ListN.{length, drop, getD, drop-of-length-le}
 use lib.Seq.{drop-cons}
 use borrow.Author.Tests.{eq-eqb, ne-eqb}
-use Rattle.sheet_format.specs.Bytes.{lf, Lines, onLine, linesOf}
+use Rattle.sheet_format.specs.Bytes.{lf, Lines, extendLine, linesOf}
 use Rattle.line_checking.specs.Simulation.{lineFeeds}
 use Rattle.checker_spec.specs.CheckText.{countLf}
 
@@ -39,7 +39,7 @@ count-end s n i k h =
     let z : countLf (drop i s) ≡ 0 = rw (drop-of-length-le s h) in
     omega (arith, k .sum)
 
--- at most one for each byte
+-- A text has at most one LF for each byte.
 pub countLf-most : (s : List ℕ) → countLf s ≤ length s
 unfolding countLf
 countLf-most [] = omega arith
@@ -49,14 +49,15 @@ countLf-most (c ∷ cs) = go (eqb c lf) (countLf-most cs)
     go true h = omega arith
     go false h = omega arith
 
--- one for each whole line
+-- A text has one LF for each whole line.
 pub countLf-lines : (s : List ℕ) → countLf s ≡ lineFeeds s
-unfolding countLf lineFeeds linesOf onLine
+unfolding countLf lineFeeds linesOf extendLine
 countLf-lines [] = refl
 countLf-lines (c ∷ cs) = go (eqb c lf) (linesOf cs .whole) (linesOf cs .rest) (countLf-lines cs)
   where
     go : (b : Bool) (ls : List (List ℕ)) (r : List ℕ) → countLf cs ≡ length ls
-        → cond b (suc (countLf cs)) (countLf cs) ≡ length (elim b as (λ _. Lines) [ true ↦ record { whole = [] ∷ ls; rest = r } | false ↦ onLine c ls r ] .whole)
+        → cond b (suc (countLf cs)) (countLf cs) ≡ length
+        (elim b as (λ _. Lines) [ true ↦ record { whole = [] ∷ ls; rest = r } | false ↦ extendLine c ls r ] .whole)
     go true ls r h = ap suc h
     go false [] r h = h
     go false (l ∷ ls) r h = h

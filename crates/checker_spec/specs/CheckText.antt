@@ -13,7 +13,7 @@ use Rattle.answer_texts.specs.Judging.{Judgement, judge}
 
 pub data Checked : Type 0 where
   judged : Judgement → Checked
-  turnedBack : Refusal → Checked
+  checkRefused : Refusal → Checked
 
 -- "for each LF in the answer text"
 unfoldable pub countLf : List ℕ → ℕ
@@ -21,12 +21,12 @@ countLf [] = 0
 countLf (c ∷ cs) = cond (eqb c lf) (suc (countLf cs)) (countLf cs)
 
 unfoldable pub checkSheet : List ℕ → Read → Checked
-checkSheet text (refused r) = turnedBack r
+checkSheet text (refused r) = checkRefused r
 checkSheet text (sheet s) = judged (judge s text)
 
 -- Refused with this number and line 0, if the test says so.
 unfoldable pub turnBackIf : Bool → ℕ → Checked → Checked
-turnBackIf true n r = turnedBack (refusal n 0)
+turnBackIf true n r = checkRefused (refusal n 0)
 turnBackIf false n r = r
 
 -- The sheet's bytes, the text's, the lengths of table and work buffer.
@@ -42,7 +42,7 @@ checkText bytes text tableLength workLength =
 -- buffer are zero at the end, the rest of both unchanged."
 unfoldable pub isEarly : Checked → Bool
 isEarly (judged j) = false
-isEarly (turnedBack r) = leb (r .number) 5
+isEarly (checkRefused r) = leb (r .number) 5
 
 unfoldable pub tableAfter : Checked → List ℕ → List ℕ
 tableAfter r table = cond (isEarly r) table (zeroed tableNumbers table)

@@ -7,8 +7,8 @@ use Rattle.outcomes.specs.declared.Verdict.the-variants.{Valid, Invalid, Refuse
 use Rattle.sheet_format.specs.Limits.{maxSheetBytes, tableNumbers, maxTextBytes}
 
 -- Refusals 1, 2 and 4: the number of the first that arises, or 0. The lengths of sheet, table and text.
-unfoldable pub earlyNumber : ℕ → ℕ → ℕ → ℕ
-earlyNumber sheet table text = cond (ltb maxSheetBytes sheet) 1 (cond (ltb table tableNumbers) 2 (cond (ltb maxTextBytes text) 4 0))
+unfoldable pub checkRefusal : ℕ → ℕ → ℕ → ℕ
+checkRefusal sheet table text = cond (ltb maxSheetBytes sheet) 1 (cond (ltb table tableNumbers) 2 (cond (ltb maxTextBytes text) 4 0))
 
 -- A refusal.
 abbrev pub refusedCheck : ℕ → ℕ → Verdict

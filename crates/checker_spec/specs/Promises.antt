@@ -9,7 +9,7 @@ use Rattle.sheet_format.specs.Buffers.{demanded}
 use Rattle.sheet_format.specs.Sheets.{Sheet, sheet, readSheet}
 use Rattle.answer_texts.specs.Spelled.{SpellsDerivation, BreaksAfter}
 use Rattle.answer_texts.specs.Judging.{Judgement, valid, invalid}
-use Rattle.checker_spec.specs.CheckText.{Checked, judged, turnedBack, countLf, checkText, tableAfter, workAfter}
+use Rattle.checker_spec.specs.CheckText.{Checked, judged, checkRefused, countLf, checkText, tableAfter, workAfter}
 
 -- What the checker hands back, in numbers: 0 valid, 1 not valid, 3 refused; the line that breaks or that is refused, 0 where there
 -- is none; the refusal number, 0 where it is none.
@@ -21,7 +21,7 @@ pub record HandedBack : Type 0 where
 unfoldable pub handedBack : Checked → HandedBack
 handedBack (judged valid) = record { verdict = 0; line = 0; number = 0 }
 handedBack (judged (invalid k)) = record { verdict = 1; line = k; number = 0 }
-handedBack (turnedBack r) = record { verdict = 3; line = r .line; number = r .number }
+handedBack (checkRefused r) = record { verdict = 3; line = r .line; number = r .number }
 
 -- T1, demand 1: what the checker hands back and what each lent buffer then holds. `check` promises this for every input.
 pub record CheckContract (bytes text table work table′ work′ : List ℕ) (r : HandedBack) : Type 0 where
@@ -40,20 +40,23 @@ abbrev pub AllExact : Type 0
 AllExact = (bytes text : List ℕ) (t w : ℕ) (j : Judgement) → checkText bytes text t w ≡ judged j → CheckExact bytes text t w j
 
 -- T6 in the numbers handed back: what a caller is told by a check that keeps T1.
-pub record CallerTold (bytes text table work : List ℕ) (r : HandedBack) : Type 0 where
-  -- nothing turned back: the bytes are a sheet
+pub record CallerJudged (bytes text table work : List ℕ) (r : HandedBack) : Type 0 where
+  -- Where nothing is turned back, the bytes are a sheet.
   pub isSheet : (r .verdict ≡ 3 → ⊥) → (s : Sheet) × (readSheet bytes ≡ sheet s)
-  -- and it is valid exactly if the text spells a derivation of an instance of the goal
+  -- Where nothing is turned back, the verdict is valid exactly if the text spells a derivation of an instance of the goal.
   pub accepts : (s : Sheet) → readSheet bytes ≡ sheet s → (r .verdict ≡ 3 → ⊥) → (r .verdict ≡ 0) ↔ SpellsDerivation s text
-  -- and not valid, with a line, exactly if that line is the first that breaks
+  -- Where nothing is turned back, the verdict is not valid, with a line, exactly if that line is the first that breaks.
   pub breaks : (s : Sheet) → readSheet bytes ≡ sheet s → (r .verdict ≡ 3 → ⊥) → (n : ℕ)
       → ((r .verdict ≡ 1) × (r .line ≡ suc n)) ↔ (BreaksAfter s text n × (SpellsDerivation s text → ⊥))
-  -- a sheet and a text within the limits, with the buffers for them: nothing is turned back
-  pub judges : (s : Sheet) → readSheet bytes ≡ sheet s → length bytes ≤ maxSheetBytes → tableNumbers ≤ length table → length text ≤ maxTextBytes
+  -- A sheet and a text within the limits, with the buffers for them, are not turned back.
+  pub judges : (s : Sheet) → readSheet bytes ≡ sheet s → length bytes ≤ maxSheetBytes → tableNumbers ≤ length table
+      → length text ≤ maxTextBytes
       → demanded (countLf text) ≤ length work → r .verdict ≡ 3 → ⊥
 
-abbrev pub CallersTold : Type 0
-CallersTold = (bytes text table work table′ work′ : List ℕ) (r : HandedBack) → CheckContract bytes text table work table′ work′ r → CallerTold bytes text table work r
+abbrev pub CallersJudged : Type 0
+CallersJudged =
+    (bytes text table work table′ work′ : List ℕ) (r : HandedBack) → CheckContract bytes text table work table′ work′ r
+    → CallerJudged bytes text table work r
 
 -- T10: what the lent buffers held before changes nothing in what is handed back.
 abbrev pub BuffersDoNotMatter : Type 0

@@ -1,15 +1,15 @@
 // The sequents that are left to derive, in the lent work buffer. Each function is a definition of the crate line_checking, and
 // its contract says so.
-use super::registers::on_sequent;
-use super::registers::on_stage;
+use super::registers::with_sequent;
+use super::registers::with_stage;
 use line_checking::Registers;
 use line_checking::text_stages;
+use memory::field;
+use memory::put_field;
 use scanning::fields;
 ghost use mathlib.Core.Path.{_≡_};
 ghost use Prim.Native.Nat.{_-_};
-ghost use Rattle.line_checking.specs.Sequents.{putSequent, dueSequent, proceed, putHypothesis};
-use memory::field;
-use memory::put_field;
+ghost use Rattle.line_checking.specs.Sequents.{putSequent, openSequent, nextSequent, putHypothesis};
 
 // A sequent left, in record q.
 pub fn put_sequent(
@@ -31,26 +31,26 @@ pub fn put_sequent(
 }
 
 // It is due.
-pub fn due_sequent(w: &[u32], r: Registers, q: u32) -> Registers
-    ensures { λ s. ⌜ s ≡ dueSequent (now (w .entry)) r q ⌝ }
+pub fn open_sequent(w: &[u32], r: Registers, q: u32) -> Registers
+    ensures { λ s. ⌜ s ≡ openSequent (now (w .entry)) r q ⌝ }
 {
     let node = field(w, q, fields::SEQUENT_NODE);
     let frame = field(w, q, fields::SEQUENT_FRAME);
     let hypotheses = field(w, q, fields::SEQUENT_HYPOTHESES);
     let level = field(w, q, fields::SEQUENT_LEVEL);
     let next = field(w, q, fields::SEQUENT_NEXT);
-    on_sequent(r, node, frame, hypotheses, level, next)
+    with_sequent(r, node, frame, hypotheses, level, next)
 }
 
 // The next of the sequents left is due, if there is one.
-pub fn proceed(w: &[u32], r: Registers) -> Registers
-    ensures { λ s. ⌜ s ≡ proceed (now (w .entry)) r ⌝ }
+pub fn next_sequent(w: &[u32], r: Registers) -> Registers
+    ensures { λ s. ⌜ s ≡ nextSequent (now (w .entry)) r ⌝ }
 {
     let rest = r.rest;
     if rest == 0 {
-        return on_stage(r, text_stages::DONE);
+        return with_stage(r, text_stages::DONE);
     }
-    due_sequent(w, r, rest - 1)
+    open_sequent(w, r, rest - 1)
 }
 
 // A hypothesis, in record q.

@@ -1,12 +1,12 @@
 // The clause at a place of a sequent: a hypothesis or a clause of the sheet.
 // Each function is a definition of the crate line_checking, and its contract says so.
 use line_checking::Place;
+use memory::field;
 use node_table::clause_node;
 use node_table::members;
 use scanning::fields;
 ghost use mathlib.Core.Path.{_≡_};
 ghost use Rattle.line_checking.specs.Members.{clauseFrom, hypothesisFrom};
-use memory::field;
 
 // Member k of the sheet's clauses, of which there are so many.
 pub fn clause_from(clauses: u32, t: &[u32], k: u32) -> Place

@@ -8,7 +8,8 @@ use sheet_format::limits;
 ghost use mathlib.Core.Path.{_≡_};
 ghost use mathlib.Core.List.{List};
 ghost use Prim.Native.Nat.{ℕ, _-_};
-ghost use Rattle.line_checking.specs.Sequents.{made, start, onStage, broken, onBinding, onSequent, onCounts, freeFrom, boundFrom, bound};
+ghost use Rattle.line_checking.specs.Sequents.{made, start, withStage, broken, withBinding, withSequent, withCounts, freeFrom, boundFrom};
+ghost use Rattle.line_checking.specs.Sequents.{bound};
 
 // Before the first line.
 pub fn start() -> Registers
@@ -27,8 +28,8 @@ pub fn start() -> Registers
 }
 
 // What is due.
-pub fn on_stage(r: Registers, k: u32) -> Registers
-    ensures { λ s. ⌜ s ≡ onStage r k ⌝ }
+pub fn with_stage(r: Registers, k: u32) -> Registers
+    ensures { λ s. ⌜ s ≡ withStage r k ⌝ }
 {
     let mut s = r;
     s.stage = k;
@@ -39,12 +40,12 @@ pub fn on_stage(r: Registers, k: u32) -> Registers
 pub fn broken(r: Registers) -> Registers
     ensures { λ s. ⌜ ((w : List ℕ) → made w s ≡ broken w r) ⌝ }
 {
-    on_stage(r, text_stages::BROKEN)
+    with_stage(r, text_stages::BROKEN)
 }
 
 // A B line for variable v is due.
-pub fn on_binding(r: Registers, v: u32, f: u32) -> Registers
-    ensures { λ s. ⌜ s ≡ onBinding r v f ⌝ }
+pub fn with_binding(r: Registers, v: u32, f: u32) -> Registers
+    ensures { λ s. ⌜ s ≡ withBinding r v f ⌝ }
 {
     Registers {
         stage: text_stages::BINDING,
@@ -59,8 +60,8 @@ pub fn on_binding(r: Registers, v: u32, f: u32) -> Registers
 }
 
 // A sequent is due: node, frame, hypotheses, level, and the sequents left after it.
-pub fn on_sequent(r: Registers, n: u32, f: u32, h: u32, i: u32, q: u32) -> Registers
-    ensures { λ s. ⌜ s ≡ onSequent r n f h i q ⌝ }
+pub fn with_sequent(r: Registers, n: u32, f: u32, h: u32, i: u32, q: u32) -> Registers
+    ensures { λ s. ⌜ s ≡ withSequent r n f h i q ⌝ }
 {
     Registers {
         stage: text_stages::SEQUENT,
@@ -75,8 +76,8 @@ pub fn on_sequent(r: Registers, n: u32, f: u32, h: u32, i: u32, q: u32) -> Regis
 }
 
 // So many symbols have shown.
-pub fn on_counts(r: Registers, m: u32, l: u32) -> Registers
-    ensures { λ s. ⌜ s ≡ onCounts r m l ⌝ }
+pub fn with_counts(r: Registers, m: u32, l: u32) -> Registers
+    ensures { λ s. ⌜ s ≡ withCounts r m l ⌝ }
 {
     let mut s = r;
     s.made = m;
@@ -105,9 +106,9 @@ pub fn bound_from(goal: u32, r: Registers, v: usize, f: u32) -> Registers
     ensures { λ s. ⌜ s ≡ boundFrom goal r v f ⌝ }
 {
     if v < NAMES {
-        return on_binding(r, v as u32, f);
+        return with_binding(r, v as u32, f);
     }
-    on_sequent(r, goal, f, 0, 0, 0)
+    with_sequent(r, goal, f, 0, 0, 0)
 }
 
 // The variables before v have their terms in frame f.

@@ -4,22 +4,21 @@ use super::effects::tried;
 use super::next_member::clause_of;
 use super::next_member::next_member;
 use super::next_member::put_prefix;
-use goal_acts::goals::try_from;
-use machine::Registers;
-use machine_memory::records::put_pairs;
-use machine_memory::words::up;
-use match_acts::pairs::due_pairs;
-use match_acts::pairs::pairs_from;
-use node_table::label;
-use sheet_format::limits;
-ghost use mathlib.Core.Path.{_≡_};
-ghost use Rattle.machine.specs.Records.{made};
-ghost use Rattle.machine.specs.Words.{up};
-ghost use Rattle.machine.specs.Trying.{tried, tryMember, tryFound, tryNext};
-ghost use Rattle.machine.specs.Machine.{act};
 use clause_members::Found;
 use clause_members::head_of;
 use clause_members::member;
+use goal_acts::goals::try_from;
+use machine::Registers;
+use machine_memory::records::put_pairs;
+use machine_memory::words::increment;
+use match_acts::pairs::due_pairs;
+use match_acts::pairs::pairs_from;
+use node_table::label;
+ghost use mathlib.Core.Path.{_≡_};
+ghost use Rattle.machine.specs.Records.{made};
+ghost use Rattle.machine.specs.Words.{increment};
+ghost use Rattle.machine.specs.Backchaining.{tried, tryMember, tryFound, tryNext};
+ghost use Rattle.machine.specs.Machine.{act};
 
 // The predicates agree: the argument pairs are due.
 pub fn try_member(t: &[u32], c: u32, w: &mut [u32], r: Registers, m: Found) -> Registers
@@ -29,7 +28,7 @@ pub fn try_member(t: &[u32], c: u32, w: &mut [u32], r: Registers, m: Found) -> R
     let s = next_member(t, w, r);
     put_prefix(w, r, m);
     put_try(t, c, w, r, m, s);
-    let p = up(u);
+    let p = increment(u);
     put_pairs(w, u, r.node, r.frame, head_of(t, m.leaf), p, 0);
     due_pairs(w, tried(t, c, r, m, s), pairs_from(t, w, p, 0))
 }

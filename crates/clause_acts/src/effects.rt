@@ -1,19 +1,20 @@
 // What a try writes: the members left as the alternative, the body as the next goal. Each function is a definition of the crate
 // machine, and its contract says so.
+use clause_members::Found;
 use goal_acts::goals::members_left;
 use machine::Registers;
 use machine::lines;
 use machine_memory::records::put_goal;
 use machine_memory::records::put_path;
 use machine_memory::records::put_use;
-use machine_memory::registers::on_choice;
-use machine_memory::registers::on_goals;
-use machine_memory::registers::on_next;
-use machine_memory::registers::on_path;
 use machine_memory::registers::save_choice;
-use machine_memory::words::narrow;
-use machine_memory::words::up;
-use memory::wide;
+use machine_memory::registers::with_choice;
+use machine_memory::registers::with_goals;
+use machine_memory::registers::with_next;
+use machine_memory::registers::with_path;
+use machine_memory::words::increment;
+use machine_memory::words::truncate;
+use memory::widen;
 use node_table::child;
 use node_table::kind;
 use node_table::kinds;
@@ -21,14 +22,13 @@ ghost use mathlib.Core.Path.{_≡_};
 ghost use mathlib.Core.Bool.{cond};
 ghost use lib.Dec.{eqb};
 ghost use Rattle.node_table.specs.Layout.{kindOf};
-ghost use Rattle.machine.specs.Words.{up};
+ghost use Rattle.machine.specs.Words.{increment};
 ghost use Rattle.machine.specs.Goals.{membersLeft};
-ghost use Rattle.machine.specs.Trying.{leaveOthers, putBody, putTry, tried};
-use clause_members::Found;
+ghost use Rattle.machine.specs.Backchaining.{saveAlternative, putBody, putTry, tried};
 
 // The members left, from s on, are the alternative.
-pub fn leave_others(c: u32, w: &mut [u32], u: u32, s: Registers)
-    ensures { λ _. ⌜ now (w .exit) ≡ leaveOthers c (now (w .entry)) u s ⌝ }
+pub fn save_alternative(c: u32, w: &mut [u32], u: u32, s: Registers)
+    ensures { λ _. ⌜ now (w .exit) ≡ saveAlternative c (now (w .entry)) u s ⌝ }
 {
     if !members_left(c, s) {
         return;
@@ -44,7 +44,15 @@ pub fn put_body(t: &[u32], w: &mut [u32], r: Registers, n: u32)
         return;
     }
     let u = r.acts;
-    put_goal(w, u, child(t, n, 0), up(u), r.program, r.level, r.goals);
+    put_goal(
+        w,
+        u,
+        child(t, n, 0),
+        increment(u),
+        r.program,
+        r.level,
+        r.goals,
+    );
 }
 
 // The path, the alternative and the body of a try; s is at the next member.
@@ -54,26 +62,26 @@ pub fn put_try(t: &[u32], c: u32, w: &mut [u32], r: Registers, m: Found, s: Regi
     let u = r.acts;
     put_path(w, u, r.path, r.line);
     put_use(w, u, r.place, m.count, r.next);
-    leave_others(c, w, u, s);
+    save_alternative(c, w, u, s);
     put_body(t, w, r, m.leaf);
 }
 
 // The latest choice point after a try.
 fn tried_choice(c: u32, r: Registers, s: Registers) -> u32
-    ensures { λ q. ⌜ q ≡ cond (membersLeft c s) (up (r .acts)) (r .choice) ⌝ }
+    ensures { λ q. ⌜ q ≡ cond (membersLeft c s) (increment (r .acts)) (r .choice) ⌝ }
 {
     if members_left(c, s) {
-        return up(r.acts);
+        return increment(r.acts);
     }
     r.choice
 }
 
 // The goals that wait after a try.
 fn tried_goals(t: &[u32], r: Registers, n: u32) -> u32
-    ensures { λ q. ⌜ q ≡ cond (eqb (kindOf (now (t .entry)) n) 6) (up (r .acts)) (r .goals) ⌝ }
+    ensures { λ q. ⌜ q ≡ cond (eqb (kindOf (now (t .entry)) n) 6) (increment (r .acts)) (r .goals) ⌝ }
 {
     if kind(t, n) == kinds::IMPLIES {
-        return up(r.acts);
+        return increment(r.acts);
     }
     r.goals
 }
@@ -84,7 +92,7 @@ pub fn tried(t: &[u32], c: u32, r: Registers, m: Found, s: Registers) -> Registe
 {
     let choice = tried_choice(c, r, s);
     let goals = tried_goals(t, r, m.leaf);
-    let next = narrow(wide(r.next) + wide(m.count));
-    let a = on_next(on_path(r, up(r.acts), lines::CLAUSE), next);
-    on_goals(on_choice(a, choice), goals)
+    let next = truncate(widen(r.next) + widen(m.count));
+    let a = with_next(with_path(r, increment(r.acts), lines::CLAUSE), next);
+    with_goals(with_choice(a, choice), goals)
 }

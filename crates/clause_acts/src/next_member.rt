@@ -1,19 +1,19 @@
 // The member that is due for an atom, the one after it, and its prefix. Each function is a definition of the crate machine, and its
 // contract says so.
+use clause_members::Found;
 use machine::Registers;
 use machine::fields;
 use machine_memory::frames::copy_frame;
 use machine_memory::frames::put_fresh;
-use machine_memory::registers::on_member;
-use machine_memory::words::up;
+use machine_memory::registers::with_member;
+use machine_memory::words::increment;
+use memory::field;
 use node_table::clause_node;
 use node_table::members;
 use sheet_format::limits;
 ghost use mathlib.Core.Path.{_≡_};
-ghost use Rattle.machine.specs.Words.{up};
-ghost use Rattle.machine.specs.Trying.{clauseOf, clauseFrame, nextClause, nextMember, putPrefix};
-use clause_members::Found;
-use memory::field;
+ghost use Rattle.machine.specs.Words.{increment};
+ghost use Rattle.machine.specs.Backchaining.{clauseOf, clauseFrame, nextClause, nextMember, putPrefix};
 
 // The clause whose member is due: its node and its frame.
 pub fn clause_of(t: &[u32], w: &[u32], r: Registers) -> u32
@@ -41,20 +41,20 @@ pub fn next_clause(w: &[u32], r: Registers) -> Registers
     ensures { λ s. ⌜ s ≡ nextClause (now (w .entry)) r ⌝ }
 {
     let h = r.hypothesis;
-    let place = up(r.place);
+    let place = increment(r.place);
     if h == 0 {
-        return on_member(r, 0, up(r.clause), 0, place);
+        return with_member(r, 0, increment(r.clause), 0, place);
     }
-    on_member(r, field(w, h - 1, fields::ASSUMPTION_NEXT), 0, 0, place)
+    with_member(r, field(w, h - 1, fields::ASSUMPTION_NEXT), 0, 0, place)
 }
 
 // At the member after it.
 pub fn next_member(t: &[u32], w: &[u32], r: Registers) -> Registers
     ensures { λ s. ⌜ s ≡ nextMember (now (t .entry)) (now (w .entry)) r ⌝ }
 {
-    let k = up(r.member);
+    let k = increment(r.member);
     if k < members(t, clause_of(t, w, r)) {
-        return on_member(r, r.hypothesis, r.clause, k, up(r.place));
+        return with_member(r, r.hypothesis, r.clause, k, increment(r.place));
     }
     next_clause(w, r)
 }

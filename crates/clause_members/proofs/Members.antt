@@ -13,7 +13,7 @@ use Rattle.terms.specs.Lists.{elem}
 use Rattle.formulas.specs.Formulas.{Goal, Clause, both, each, freeTs, freeG, freeC, freeB}
 use Rattle.formulas.specs.Members.{Member, standsFree, quantify, members}
 use Rattle.sheet_format.specs.Limits.{maxNodes}
-use Rattle.sheet_format.proofs.Places.{at-left, at-right, at-map}
+use Rattle.sheet_format.proofs.Indexing.{at-left, at-right, at-map}
 use Rattle.node_table.specs.Layout.{atomKind, impliesKind, kindOf, labelOf, childOf, maskOf, bitOf, membersOf}
 use Rattle.node_table.specs.Decoding.{goalAt, clauseAtNode, argumentsAt}
 use Rattle.node_table.specs.WellMade.{IsClause, Arguments, ClauseNode}
@@ -64,7 +64,7 @@ module _ (t : List ℕ) (nodes : ℕ) (table : Nodes t nodes) (Q : Clause → Ty
       go (inl k) = rw k (h .below, c .atom k)
       go (inr k) = let l = h .below in let a = c .implies k in let m = a .2 in rw k (omega arith, a .4)
 
-  -- A leaf has one member,
+  -- A leaf has one member.
   leaf-members : (n : ℕ) → LeafNode t nodes Q n → members (clauseAtNode t n) ≡ leafMember t n [] ∷ []
   unfolding members headOf bodyOf
   leaf-members n h = go (h .kind)
@@ -73,7 +73,7 @@ module _ (t : List ℕ) (nodes : ℕ) (table : Nodes t nodes) (Q : Clause → Ty
       go (inl k) = ap members (clause-fact t nodes table n (h .below) k) ∙ rw k
       go (inr k) = ap members (clause-rule t nodes table n (h .below) (h .is) k) ∙ rw k
 
-  -- and its mask says which names stand free in that.
+  -- The mask of a leaf says which names stand free in its member.
   leaf-free : (n v : ℕ) → LeafNode t nodes Q n → v < 8
       → eqb (bitOf (maskOf t n) v) 1 ≡ (freeTs (argumentsAt t (headOf t n)) v || freeB (bodyOf t n) v)
   unfolding freeC freeB headOf bodyOf

@@ -21,7 +21,7 @@ unfoldable remove : ℕ → List ℕ → List ℕ
 remove n [] = []
 remove n (v ∷ l) = cond (eqb v n) (remove n l) (v ∷ remove n l)
 
--- What a longer list does not have, neither its head is nor its tail has,
+-- What a longer list does not have, neither its head is nor its tail has.
 elem-tail : (v u : ℕ) (l : List ℕ) → elem v (u ∷ l) ≡ false → (eqb u v ≡ false) × (elem v l ≡ false)
 unfolding elem
 elem-tail v u l h = go (eqb u v) refl h
@@ -31,12 +31,12 @@ elem-tail v u l h = go (eqb u v) refl h
     go true p q = absurd (true≢false q)
     go false p q = (p, q)
 
--- and the other way round.
+-- What neither the head is nor the tail has, the list does not have.
 elem-cons : (v u : ℕ) (l : List ℕ) → eqb u v ≡ false → elem v l ≡ false → elem v (u ∷ l) ≡ false
 unfolding elem
 elem-cons v u l h k = rw (elem, h) k
 
--- Removing brings nothing in,
+-- Removing brings nothing in.
 remove-elem : (n v : ℕ) (l : List ℕ) → elem v l ≡ false → elem v (remove n l) ≡ false
 unfolding remove elem
 remove-elem n v [] h = refl
@@ -46,7 +46,7 @@ remove-elem n v (u ∷ l) h = go (eqb u n) (remove-elem n v l (elem-tail v u l h
     go true p = p
     go false p = elem-cons v u (remove n l) (elem-tail v u l h .0) p
 
--- leaves distinct numbers distinct,
+-- Removing leaves distinct numbers distinct.
 remove-distinct : (n : ℕ) (l : List ℕ) → Distinct l → Distinct (remove n l)
 unfolding remove
 remove-distinct n [] h = tt
@@ -56,7 +56,7 @@ remove-distinct n (u ∷ l) h = go (eqb u n) (remove-distinct n l (h .1))
     go true p = p
     go false p = (remove-elem n u l (h .0), p)
 
--- leaves numbers below n where they were below its successor,
+-- Removing n leaves numbers below n where they were below its successor.
 remove-below : (n : ℕ) (l : List ℕ) → All (λ v. v < suc n) l → All (λ v. v < n) (remove n l)
 unfolding remove
 remove-below n [] h = tt
@@ -66,13 +66,13 @@ remove-below n (u ∷ l) h = go (eqb u n) refl (remove-below n l (h .1))
     go true e p = p
     go false e p = (let d = eqb-false u n e in let k = h .0 in omega arith, p)
 
--- changes nothing where n is absent,
+-- Removing n changes nothing where n is absent.
 remove-absent : (n : ℕ) (l : List ℕ) → elem n l ≡ false → remove n l ≡ l
 unfolding remove elem
 remove-absent n [] h = refl
 remove-absent n (u ∷ l) h = let k = elem-tail n u l h in rw (k .0) (ap (u ∷_) (remove-absent n l (k .1)))
 
--- and takes at most one of distinct numbers away.
+-- Removing takes at most one of distinct numbers away.
 remove-length : (n : ℕ) (l : List ℕ) → Distinct l → length l ≤ suc (length (remove n l))
 unfolding remove
 remove-length n [] h = omega arith
@@ -97,19 +97,19 @@ unfoldable pub namesOf : ℕ → ℕ → List ℕ
 namesOf zero a = []
 namesOf (suc n) a = a % 8 ∷ namesOf n (a / 8)
 
--- There are n of them,
+-- There are n names.
 pub names-length : (n a : ℕ) → length (namesOf n a) ≡ n
 unfolding namesOf
 names-length zero a = refl
 names-length (suc n) a = ap suc (names-length n (a / 8))
 
--- each is below 8,
+-- Each name is below 8.
 names-below : (n a : ℕ) → All (λ v. v < 8) (namesOf n a)
 unfolding namesOf
 names-below zero a = tt
 names-below (suc n) a = (omega arith, names-below n (a / 8))
 
--- and the code's test for a name is level 1's.
+-- The test of the code for a name is that of level 1.
 pub has-name : (n a v : ℕ) → hasName n a v ≡ elem v (namesOf n a)
 unfolding hasName namesOf elem
 has-name zero a v = refl
@@ -126,7 +126,7 @@ unfoldable pub power : ℕ → ℕ
 power zero = 1
 power (suc n) = 8 * power n
 
--- It grows with n,
+-- The power grows with n.
 power-mono : (n k : ℕ) → n ≤ k → power n ≤ power k
 unfolding power
 power-mono zero zero h = omega arith
@@ -134,7 +134,7 @@ power-mono zero (suc k) h = let p = power-mono zero k (omega arith) in omega ari
 power-mono (suc n) zero h = absurd (omega arith)
 power-mono (suc n) (suc k) h = let p = power-mono n k (omega arith) in omega arith
 
--- so eight digits fit 24 bits.
+-- Eight digits fit 24 bits.
 power-small : (n : ℕ) → n ≤ 8 → power n ≤ 16777216
 unfolding power
 power-small n h = power-mono n 8 h

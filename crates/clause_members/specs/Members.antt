@@ -3,7 +3,7 @@ use Prim.Native.Nat.{ℕ, zero, suc, _+_, _-_, _*_, _/_, _%_}
 use mathlib.Core.Bool.{Bool, true, false, cond}
 use mathlib.Core.List.{List}
 use lib.Dec.{eqb, ltb}
-use Rattle.sheet_format.specs.Limits.{maxNodes}
+use Rattle.sheet_format.specs.Limits.{maxNodes, variableNames}
 use Rattle.node_table.specs.Layout.{andKind, impliesKind, forallKind, kindOf, labelOf, childOf, maskOf, bitOf, membersOf}
 use Rattle.clause_members.specs.declared.Found.{Found}
 
@@ -11,14 +11,18 @@ use Rattle.clause_members.specs.declared.Found.{Found}
 abbrev pub found : ℕ → ℕ → ℕ → Found
 found leaf names count = record { leaf = leaf; names = names; count = count }
 
+-- So many numbers have eight digits to base 8.
+abbrev pub prefixes : ℕ
+prefixes = 16777216
+
 -- One of the first n digits is v.
 unfoldable pub hasName : ℕ → ℕ → ℕ → Bool
 hasName zero vs v = false
-hasName (suc n) vs v = elim (eqb (vs % 8) v) [ true ↦ true | false ↦ hasName n (vs / 8) v ]
+hasName (suc n) vs v = elim (eqb (vs % variableNames) v) [ true ↦ true | false ↦ hasName n (vs / variableNames) v ]
 
--- One name more, in front. Names are below 8 and each stands once, so that there are at most eight.
+-- One name more, in front. Each name stands once, so that there are at most eight.
 unfoldable pub pushName : ℕ → Found → Found
-pushName v m = found (m .leaf) (v % 8 + 8 * (m .names % 16777216)) (m .count % 8 + 1)
+pushName v m = found (m .leaf) (v % variableNames + variableNames * (m .names % prefixes)) (m .count % variableNames + 1)
 
 -- "U adds its variable to the prefix of each member in which it stands free."
 unfoldable pub addName : List ℕ → ℕ → Found → Found

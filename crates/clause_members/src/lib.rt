@@ -7,12 +7,13 @@ use node_table::kinds;
 use node_table::label;
 use node_table::mask;
 use node_table::members;
+use sheet_format::limits;
 ghost use mathlib.Core.Path.{_≡_};
 ghost use Rattle.node_table.specs.Layout.{bitOf};
 ghost use Rattle.clause_members.specs.Members.{hasName, pushName, addName, findMember, member, headOf};
 
-// A table has at most so many nodes.
-const MAX_NODES: u32 = 1024;
+// The names of a prefix are digits: so many numbers have eight of them.
+const PREFIXES: u32 = 16777216;
 
 // A member of a clause: its node in the table, and the names of its prefix, outermost first, as digits to base 8, lowest first.
 pub struct Found {
@@ -28,10 +29,10 @@ fn has_name(n: u32, vs: u32, v: u32) -> bool
     let mut left = n;
     let mut names = vs;
     while 0 < left {
-        if names % 8 == v {
+        if names % limits::VARIABLE_NAMES == v {
             return true;
         }
-        names = names / 8;
+        names = names / limits::VARIABLE_NAMES;
         left -= 1;
     }
     false
@@ -45,8 +46,8 @@ fn push_name(v: u32, m: Found) -> Found
     let count = m.count;
     Found {
         leaf: m.leaf,
-        names: v % 8 + 8 * (names % 16777216),
-        count: count % 8 + 1,
+        names: v % limits::VARIABLE_NAMES + limits::VARIABLE_NAMES * (names % PREFIXES),
+        count: count % limits::VARIABLE_NAMES + 1,
     }
 }
 
@@ -98,7 +99,7 @@ fn find_member(fuel: u32, t: &[u32], n: u32, k: u32) -> Found
 pub fn member(t: &[u32], n: u32, k: u32) -> Found
     ensures { λ r. ⌜ r ≡ member (now (t .entry)) n k ⌝ }
 {
-    find_member(MAX_NODES, t, n, k)
+    find_member(limits::MAX_NODES, t, n, k)
 }
 
 // The node of a member's head; an implication has a body.

@@ -8,6 +8,7 @@ use Rattle.memory.proofs.Parts.{part-fits}
 use Rattle.sheet_format.specs.Buffers.{demanded}
 
 -- The part of the work buffer that is lent is long enough.
-pub part-demanded : (budget m : ℕ) (l : List ℕ) → m ≡ budget → demanded budget ≤ length l → demanded budget ≤ length (take (numbersPerUnit * m) l)
+pub part-demanded : (budget m : ℕ) (l : List ℕ) → m ≡ budget → demanded budget ≤ length l
+    → demanded budget ≤ length (take (numbersPerUnit * m) l)
 unfolding demanded
 part-demanded budget m l e h = rw e (part-fits (numbersPerUnit * budget) l h)

@@ -8,14 +8,14 @@ use sheet_format::limits;
 ghost use mathlib.Core.Path.{_≡_};
 ghost use lib.ListN.{length};
 ghost use Rattle.machine.specs.Records.{made};
-ghost use Rattle.engine_spec.specs.Answering.{reported, ended, tell};
+ghost use Rattle.engine_spec.specs.Answering.{reported, ended, reportOutcome};
 
 // A text of this length was written, or did not fit.
-fn report(outcome: Outcome, units: u32, length: u32) -> Run
+fn fitting_run(outcome: Outcome, units: u32, length: u32) -> Run
     ensures { λ r. ⌜ r ≡ reported outcome units length ⌝ }
 {
     if limits::MAX_TEXT_BYTES < length {
-        return outcomes::refused(refusals::ANSWER_TOO_LONG, 0);
+        return outcomes::refused_run(refusals::ANSWER_TOO_LONG, 0);
     }
     Run {
         outcome,
@@ -25,7 +25,7 @@ fn report(outcome: Outcome, units: u32, length: u32) -> Run
 }
 
 // The text of what the machine came to, and what is told of it.
-pub fn tell(
+pub fn report_outcome(
     sheet: &[u8],
     t: &[u32],
     goal: u32,
@@ -34,17 +34,18 @@ pub fn tell(
     r: Registers,
     answer: &mut [u8],
 ) -> Run
-    ensures { λ e. ⌜ ended (now (answer .exit)) e ≡ tell (now (sheet .entry)) (now (t .entry)) goal budget (made (now (w .entry)) r) (now (answer .entry)) ⌝ }
+    ensures { λ e. ⌜ ended (now (answer .exit)) e ≡ reportOutcome (now (sheet .entry)) (now (t .entry)) goal budget
+        (made (now (w .entry)) r) (now (answer .entry)) ⌝ }
 {
     let acts = r.acts;
     if r.mode == modes::PROVED {
         let n = answer_printer::write_proof(sheet, t, goal, w, r, acts, answer);
-        return report(Outcome::Proved, acts, n);
+        return fitting_run(Outcome::Proved, acts, n);
     }
     if r.mode == modes::NO {
         let n = answer_printer::short_texts::write_no(acts, answer);
-        return report(Outcome::No, acts, n);
+        return fitting_run(Outcome::No, acts, n);
     }
     let n = answer_printer::short_texts::write_spent(budget, answer);
-    report(Outcome::Spent, budget, n)
+    fitting_run(Outcome::Spent, budget, n)
 }

@@ -1,13 +1,13 @@
 // The first refusal of a run that looks at sizes alone.
-use memory::wide;
+use memory::widen;
 use outcomes::refusals;
 use sheet_format::limits;
 ghost use mathlib.Core.Path.{_≡_};
-ghost use Rattle.engine_spec.specs.Answering.{earlyNumber};
+ghost use Rattle.engine_spec.specs.Answering.{runRefusal};
 
 // The first refusal that looks at sizes alone, or 0.
-pub fn early(sheet: usize, budget: u32, table: usize, work: usize) -> u32
-    ensures { λ r. ⌜ r ≡ earlyNumber sheet budget table work ⌝ }
+pub fn run_refusal(sheet: usize, budget: u32, table: usize, work: usize) -> u32
+    ensures { λ r. ⌜ r ≡ runRefusal sheet budget table work ⌝ }
 {
     if limits::MAX_SHEET_BYTES < sheet {
         return refusals::SHEET_TOO_LONG;
@@ -21,7 +21,7 @@ pub fn early(sheet: usize, budget: u32, table: usize, work: usize) -> u32
     if limits::MAX_BUDGET < budget {
         return refusals::BUDGET;
     }
-    if work < limits::NUMBERS_PER_UNIT * wide(budget) {
+    if work < limits::NUMBERS_PER_UNIT * widen(budget) {
         return refusals::WORK_TOO_SHORT;
     }
     0

@@ -14,7 +14,7 @@ use Rattle.sheet_format.specs.Sheets.{Sheet, Refusal, refusal, Read, sheet, ref
 use Rattle.sheet_format.specs.Buffers.{demanded}
 use Rattle.engine_spec.specs.EngineRun.{Answer, Result, answered, turnedBack, answerTo, fit, runSheet, turnBackIf, engineRun}
 
--- the tests of refusals 1, 2, 3 and 5 all fail
+-- The tests of refusals 1, 2, 3 and 5 all fail.
 pub record Passed (bytes : List ℕ) (budget t w : ℕ) : Type 0 where
   pub sheetFits : length bytes ≤ maxSheetBytes
   pub tableFits : tableNumbers ≤ t
@@ -22,7 +22,7 @@ pub record Passed (bytes : List ℕ) (budget t w : ℕ) : Type 0 where
   pub most : budget ≤ maxBudget
   pub workFits : demanded budget ≤ w
 
--- the run answers x for the sheet s
+-- The run answers x for the sheet s.
 pub record Answers (bytes : List ℕ) (budget t w a : ℕ) (x : Answer) : Type 0 where
   pub passed : Passed bytes budget t w
   pub s : Sheet
@@ -31,11 +31,11 @@ pub record Answers (bytes : List ℕ) (budget t w a : ℕ) (x : Answer) : Type 0
   pub bufferFits : length (x .text) ≤ a
   pub is : x ≡ answerTo s budget (search budget (s .clauses) (s .goal))
 
--- a refusal is no answer
+-- A refusal is no answer.
 refused-answered : (r : Refusal) (x : Answer) → turnedBack r ≡ answered x → ⊥
 refused-answered r x e = let z : _≡_ {A = ℕ} 0 1 = cc in omega arith
 
--- a gate that was passed
+-- Where there is an answer, the size check was passed and what follows it is the answer.
 passed-gate : (b : Bool) (n : ℕ) (r : Result) (x : Answer) → turnBackIf b n r ≡ answered x → (b ≡ false) × (r ≡ answered x)
 unfolding turnBackIf
 passed-gate true n r x e = absurd (refused-answered (refusal n 0) x e)
@@ -49,7 +49,8 @@ fit-answered : (a : ℕ) (y x : Answer) → fit a y ≡ answered x → (y ≡ x)
 unfolding fit
 fit-answered a y x e = go (ltb maxTextBytes (length (y .text)) || ltb a (length (y .text))) refl e
   where
-    go : (b : Bool) → ltb maxTextBytes (length (y .text)) || ltb a (length (y .text)) ≡ b → cond b (turnedBack (refusal 12 0)) (answered y) ≡ answered x
+    go : (b : Bool) → ltb maxTextBytes (length (y .text)) || ltb a (length (y .text)) ≡ b
+        → cond b (turnedBack (refusal 12 0)) (answered y) ≡ answered x
         → (y ≡ x) × (length (y .text) ≤ maxTextBytes) × (length (y .text) ≤ a)
     go true q e = absurd (refused-answered (refusal 12 0) x e)
     go false q e = let r = or-false _ _ q in (cc, ltb-false _ _ (r .0), ltb-false _ _ (r .1))
@@ -60,8 +61,9 @@ unfolding runSheet
 runSheet-answered budget a (refused r) x e = absurd (refused-answered r x e)
 runSheet-answered budget a (sheet s) x e = (s, refl, e)
 
--- what an answer says of the run
-pub answered-answers : (bytes : List ℕ) (budget t w a : ℕ) (x : Answer) → engineRun bytes budget t w a ≡ answered x → Answers bytes budget t w a x
+-- A run that answers x has passed the size checks, read a sheet and answered what the search comes to.
+pub answered-answers : (bytes : List ℕ) (budget t w a : ℕ) (x : Answer) → engineRun bytes budget t w a ≡ answered x
+    → Answers bytes budget t w a x
 unfolding engineRun
 answered-answers bytes budget t w a x e =
     let g1 = passed-gate _ _ _ x e in
@@ -86,8 +88,9 @@ answered-answers bytes budget t w a x e =
       is = sym (f .0);
     }
 
--- a run whose sheet and budget pass: its answer, or refusal 2, 5 or 12
-pub passes : (bytes : List ℕ) (budget t w a : ℕ) (s : Sheet) → length bytes ≤ maxSheetBytes → 1 ≤ budget → budget ≤ maxBudget → readSheet bytes ≡ sheet s
+-- A run whose sheet and budget pass ends with its answer, or with refusal 2, 5 or 12.
+pub passes : (bytes : List ℕ) (budget t w a : ℕ) (s : Sheet) → length bytes ≤ maxSheetBytes → 1 ≤ budget → budget ≤ maxBudget
+    → readSheet bytes ≡ sheet s
     → (engineRun bytes budget t w a ≡ answered (answerTo s budget (search budget (s .clauses) (s .goal))))
     ⊎ ((r : Refusal) × (engineRun bytes budget t w a ≡ turnedBack r) × ((r .number ≡ 2) ⊎ ((r .number ≡ 5) ⊎ (r .number ≡ 12))))
 unfolding engineRun turnBackIf runSheet fit

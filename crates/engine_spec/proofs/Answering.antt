@@ -25,19 +25,20 @@ use Rattle.sheet_reader.specs.declared.sheet_lines.Read.the-variants.{Done, Ref
 use Rattle.sheet_reader.specs.Reader.{readOf, WellRead, NamedRead, ReadContract}
 use Rattle.machine.specs.Records.{Made, provedMode, noMode}
 use Rattle.machine.specs.Machine.{runMachine}
-use Rattle.machine.specs.Simulation.{Tells}
-use Rattle.machine.proofs.Promises.{machineTells}
+use Rattle.machine.specs.Simulation.{Reports}
+use Rattle.machine.proofs.Promises.{machineReports}
 use Rattle.answer_texts.specs.Spelling.{noText, spentText}
 use Rattle.answer_texts.specs.Promises.{searchText}
 use Rattle.printing.specs.Output.{Written, written}
 use Rattle.printing.specs.Writer.{textLimit, noRoom, writeProof}
-use Rattle.printing.specs.Written.{told}
+use Rattle.printing.specs.Written.{reportedLength}
 use Rattle.printing.proofs.Passes.{writes-no, writes-spent}
 use Rattle.printing.proofs.Ordered.{writes-answer}
-use Rattle.engine_spec.specs.EngineRun.{Told, toldProved, toldNo, toldSpent, Answer, Result, answerTo, fit, runSheet, answerAfter}
+use Rattle.engine_spec.specs.EngineRun.{Reported, reportedProved, reportedNo, reportedSpent, Answer, Result, answerTo, fit, runSheet}
+use Rattle.engine_spec.specs.EngineRun.{answerAfter}
 use Rattle.engine_spec.specs.Promises.{outcomeNumber, handedBack}
 use Rattle.engine_spec.specs.Handed.{handed}
-use Rattle.engine_spec.specs.Answering.{reported, Ended, ended, tell, Answering}
+use Rattle.engine_spec.specs.Answering.{reported, Ended, ended, reportOutcome, Answering}
 
 -- The result, handed back and in the answer buffer.
 record Comes (out : List ℕ) (e : Ended) (r : Result) : Type 0 where
@@ -52,9 +53,11 @@ over n a b h = go (ltb a n) refl
     go true q = refl
     go false q = let l = ltb-false a n q in lt-ltb b n (omega arith)
 
-told-comes : (o : Outcome) (c : Told) (units : ℕ) (text out : List ℕ) → outcomeCode o ≡ outcomeNumber c → refusalNumber o ≡ 0 → refusalLine o ≡ 0
-    → Comes out (ended (told text out .buffer) (reported o units (told text out .at))) (fit (length out) (record { outcome = c; units = units; text = text }))
-unfolding told reported fit handed handedBack answerAfter textLimit outcomeCode refusalNumber refusalLine
+told-comes : (o : Outcome) (c : Reported) (units : ℕ) (text out : List ℕ) → outcomeCode o ≡ outcomeNumber c → refusalNumber o ≡ 0
+    → refusalLine o ≡ 0
+    → Comes out (ended (reportedLength text out .buffer) (reported o units (reportedLength text out .at)))
+    (fit (length out) (record { outcome = c; units = units; text = text }))
+unfolding reportedLength reported fit handed handedBack answerAfter textLimit outcomeCode refusalNumber refusalLine
 told-comes o c units text out oc on ol = go (leb (length text) (min maxTextBytes (length out))) refl
   where
     x : Answer
@@ -63,7 +66,8 @@ told-comes o c units text out oc on ol = go (leb (length text) (min maxTextBytes
     short : Bool → Written
     short b = cond b (written (text ++ drop (length text) out) (length text)) (written out noRoom)
 
-    go : (b : Bool) → leb (length text) (min maxTextBytes (length out)) ≡ b → Comes out (ended (short b .buffer) (reported o units (short b .at))) (fit (length out) x)
+    go : (b : Bool) → leb (length text) (min maxTextBytes (length out)) ≡ b
+        → Comes out (ended (short b .buffer) (reported o units (short b .at))) (fit (length out) x)
     go true q =
         let l = leb-true (length text) (min maxTextBytes (length out)) q in
         let h : length text ≤ maxTextBytes = omega arith in
@@ -81,7 +85,8 @@ told-comes o c units text out oc on ol = go (leb (length text) (min maxTextBytes
         }
 
 -- The table stands for a sheet.
-module _ (bytes t : List ℕ) (k : Counts) (goal : ℕ) (table : WellMade t (k .nodes) (k .clauses) goal) (named : Named t (k .nodes) (k .symbols)) (budget : ℕ) (few : budget ≤ maxBudget) (w out : List ℕ)
+module _ (bytes t : List ℕ) (k : Counts) (goal : ℕ) (table : WellMade t (k .nodes) (k .clauses) goal)
+    (named : Named t (k .nodes) (k .symbols)) (budget : ℕ) (few : budget ≤ maxBudget) (w out : List ℕ)
     (room : demanded budget ≤ length w) where
   s : Sheet
   s = decodeSheet bytes t (k .symbols) (k .clauses) goal
@@ -89,48 +94,64 @@ module _ (bytes t : List ℕ) (k : Counts) (goal : ℕ) (table : WellMade t (k .
   m : Made
   m = runMachine budget t (k .clauses) goal w
 
-  -- the machine's acts are the units told
-  proved-told : (n : ℕ) (text : List ℕ) → m .registers .mode ≡ provedMode → m .registers .acts ≡ n → written (writeProof bytes t goal m n out .buffer) (writeProof bytes t goal m n out .length) ≡ told text out
-      → Comes out (tell bytes t goal budget m out) (fit (length out) (record { outcome = toldProved; units = n; text = text }))
-  unfolding tell outcomeNumber outcomeCode refusalNumber refusalLine
+  -- Where the machine has proved the goal, its acts are the units told.
+  proved-told : (n : ℕ) (text : List ℕ) → m .registers .mode ≡ provedMode → m .registers .acts ≡ n
+      → written (writeProof bytes t goal m n out .buffer) (writeProof bytes t goal m n out .length) ≡ reportedLength text out
+      → Comes out (reportOutcome bytes t goal budget m out) (fit (length out) (record { outcome = reportedProved; units = n; text = text }))
+  unfolding reportOutcome outcomeNumber outcomeCode refusalNumber refusalLine
   proved-told n text mode acts e =
       let a = m .registers .acts in
-      let e′ : written (writeProof bytes t goal m a out .buffer) (writeProof bytes t goal m a out .length) ≡ told text out =
-      subst (λ (i : ℕ). written (writeProof bytes t goal m i out .buffer) (writeProof bytes t goal m i out .length) ≡ told text out) (sym acts) e in
-      subst (λ (i : ℕ). Comes out (tell bytes t goal budget m out) (fit (length out) (record { outcome = toldProved; units = i; text = text }))) acts
+      let e′ : written (writeProof bytes t goal m a out .buffer) (writeProof bytes t goal m a out .length) ≡ reportedLength text out =
+      subst (λ (i : ℕ). written (writeProof bytes t goal m i out .buffer)
+      (writeProof bytes t goal m i out .length) ≡ reportedLength text out) (sym acts) e in
+      subst (λ (i : ℕ). Comes out (reportOutcome bytes t goal budget m out)
+      (fit (length out) (record { outcome = reportedProved; units = i; text = text }))) acts
       (rw (eq-eqb (m .registers .mode) provedMode mode)
-      (subst (λ (x : Written). Comes out (ended (x .buffer) (reported Proved a (x .at))) (fit (length out) (record { outcome = toldProved; units = a; text = text }))) (sym e′)
-      (told-comes Proved toldProved a text out refl refl refl)))
+      (subst (λ (x : Written). Comes out (ended (x .buffer) (reported Proved a (x .at)))
+      (fit (length out) (record { outcome = reportedProved; units = a; text = text }))) (sym e′)
+      (told-comes Proved reportedProved a text out refl refl refl)))
 
   -- Each outcome of the search is told and written.
-  outcome-told : (o : SearchOutcome) → search budget (s .clauses) (s .goal) ≡ o → Tells t m o → Comes out (tell bytes t goal budget m out) (fit (length out) (answerTo s budget o))
-  unfolding Tells tell answerTo demanded decodeSheet s m outcomeNumber outcomeCode refusalNumber refusalLine
+  outcome-told : (o : SearchOutcome) → search budget (s .clauses) (s .goal) ≡ o → Reports t m o
+      → Comes out (reportOutcome bytes t goal budget m out) (fit (length out) (answerTo s budget o))
+  unfolding Reports reportOutcome answerTo demanded decodeSheet s m outcomeNumber outcomeCode refusalNumber refusalLine
   outcome-told (ends (proved st path) n) q h =
       proved-told n (searchText s st path n) (h .0 .mode) (h .1)
       (writes-answer bytes t (k .symbols) (k .nodes) (k .clauses) goal table named budget few w room st path n q out)
   outcome-told (ends noProof n) q h =
-      rw (h .0, h .1, writes-no n out) (told-comes No toldNo n (noText n) out refl refl refl)
+      rw (h .0, h .1, writes-no n out) (told-comes No reportedNo n (noText n) out refl refl refl)
   outcome-told spent q h =
-      rw (ne-eqb (m .registers .mode) provedMode (λ e. omega arith), ne-eqb (m .registers .mode) noMode (λ e. omega arith), writes-spent budget out) (told-comes Spent toldSpent budget (spentText budget) out refl refl refl)
+      rw (
+        ne-eqb (m .registers .mode) provedMode (λ e. omega arith),
+        ne-eqb (m .registers .mode) noMode (λ e. omega arith),
+        writes-spent budget out,
+      ) (told-comes Spent reportedSpent budget (spentText budget) out refl refl refl)
 
-  search-told : Comes out (tell bytes t goal budget m out) (fit (length out) (answerTo s budget (search budget (s .clauses) (s .goal))))
+  search-told : Comes out (reportOutcome bytes t goal budget m out)
+      (fit (length out) (answerTo s budget (search budget (s .clauses) (s .goal))))
   unfolding s m demanded
   search-told =
       outcome-told (search budget (s .clauses) (s .goal)) refl
-      (machineTells bytes t (k .symbols) (k .nodes) (k .clauses) goal s (record { made = table; decoded = refl }) budget few w room)
+      (machineReports bytes t (k .symbols) (k .nodes) (k .clauses) goal s (record { made = table; decoded = refl }) budget few w room)
 
 -- A sheet that was read: what is told of the search.
-pub sheet-answers : (bytes t t′ : List ℕ) (x : Read) (k : Counts) (goal budget : ℕ) (w out out′ : List ℕ) (r : Run) → ReadContract bytes t t′ x → x ≡ Done k goal → budget ≤ maxBudget → demanded budget ≤ length w
-    → ended out′ r ≡ tell bytes t′ goal budget (runMachine budget t′ (k .clauses) goal w) out → Answering bytes budget out out′ r
+pub sheet-answers : (bytes t t′ : List ℕ) (x : Read) (k : Counts) (goal budget : ℕ) (w out out′ : List ℕ) (r : Run)
+    → ReadContract bytes t t′ x → x ≡ Done k goal → budget ≤ maxBudget → demanded budget ≤ length w
+    → ended out′ r ≡ reportOutcome bytes t′ goal budget (runMachine budget t′ (k .clauses) goal w) out → Answering bytes budget out out′ r
 unfolding readOf WellRead NamedRead runSheet s m
 sheet-answers bytes t t′ x k goal budget w out out′ r c e few room d =
     let z = subst (ReadContract bytes t t′) e c in
-    let g = subst (λ (y : Ended). Comes out y (fit (length out) (answerTo (decodeSheet bytes t′ (k .symbols) (k .clauses) goal) budget (search budget (decodeSheet bytes t′ (k .symbols) (k .clauses) goal .clauses) (decodeSheet bytes t′ (k .symbols) (k .clauses) goal .goal))))) (sym d)
+    let g = subst
+    (λ (y : Ended). Comes out y
+    (fit (length out) (answerTo (decodeSheet bytes t′ (k .symbols) (k .clauses) goal) budget
+    (search budget (decodeSheet bytes t′ (k .symbols) (k .clauses) goal .clauses)
+    (decodeSheet bytes t′ (k .symbols) (k .clauses) goal .goal))))) (sym d)
     (search-told bytes t′ k goal (z .wellMade) (z .named) budget few w out room) in
     record { value = rw (z .read) (g .value); answerEnd = rw (z .read) (g .buffer) }
 
 -- Refusals 6 to 11.
-pub refusal-answers : (bytes t t′ : List ℕ) (x : Read) (f : Refusal) (budget : ℕ) (out : List ℕ) (r : Run) → ReadContract bytes t t′ x → x ≡ Refused f → r ≡ refusedRun (f .number) (f .line) → Answering bytes budget out out r
+pub refusal-answers : (bytes t t′ : List ℕ) (x : Read) (f : Refusal) (budget : ℕ) (out : List ℕ) (r : Run) → ReadContract bytes t t′ x
+    → x ≡ Refused f → r ≡ refusedRun (f .number) (f .line) → Answering bytes budget out out r
 unfolding readOf runSheet handed handedBack answerAfter outcomeCode refusalNumber refusalLine
 refusal-answers bytes t t′ x f budget out r c e d =
     let z = subst (ReadContract bytes t t′) e c in

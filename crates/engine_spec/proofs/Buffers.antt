@@ -6,12 +6,12 @@ use lib.ListN.{length, take, drop}
 use Rattle.engine_spec.specs.EngineRun.{Answer, Result, answered, turnedBack, engineRun, answerAfter}
 use Rattle.engine_spec.specs.Promises.{HandedBack, handedBack, RunContract, BuffersDoNotMatter}
 
--- the first bytes of a text put in front of others
+-- The first bytes of a text that is put in front of others are the text.
 pub take-front : (x y : List ℕ) → take (length x) (x ++ y) ≡ x
 take-front [] y = refl
 take-front (a ∷ x) y = ap (a ∷_) (take-front x y)
 
--- the bytes handed back are the answer's, whatever the buffer held
+-- The bytes handed back do not depend on what the buffer held.
 text-of : (r : Result) (b c : List ℕ) → take (handedBack r .length) (answerAfter r b) ≡ take (handedBack r .length) (answerAfter r c)
 unfolding handedBack answerAfter
 text-of (answered a) b c = take-front (a .text) _ ∙ sym (take-front (a .text) _)

@@ -8,37 +8,39 @@ use lib.ListN.{length, take}
 use Rattle.search.specs.Search.{Verdict, proved, noProof, ComesTo, ends}
 use Rattle.sheet_format.specs.Sheets.{Sheet, Refusal, sheet, readSheet}
 use Rattle.answer_texts.specs.Spelled.{SpellsDerivation}
-use Rattle.engine_spec.specs.EngineRun.{Told, toldProved, toldNo, toldSpent, Answer, Result, answered, turnedBack, answerTo, engineRun, answerAfter}
-use Rattle.engine_spec.specs.Promises.{HandedBack, outcomeNumber, handedBack, RunContract, RunSound, AllDemand3, verdictTold, CallerTold, CallersTold, ToldAgain}
+use Rattle.engine_spec.specs.EngineRun.{Reported, reportedProved, reportedNo, reportedSpent, Answer, Result, answered, turnedBack}
+use Rattle.engine_spec.specs.EngineRun.{answerTo, engineRun, answerAfter}
+use Rattle.engine_spec.specs.Promises.{HandedBack, outcomeNumber, handedBack, RunContract, RunSound, AllDemand3, reportedVerdict}
+use Rattle.engine_spec.specs.Promises.{CallerTold, CallersTold, ToldAgain}
 use Rattle.engine_spec.proofs.Answered.{answered-answers}
 use Rattle.engine_spec.proofs.Buffers.{take-front}
 
--- the outcomes by their numbers
-pub proved-number : (t : Told) → outcomeNumber t ≡ 0 → t ≡ toldProved
+-- An outcome is determined by its number.
+pub proved-number : (t : Reported) → outcomeNumber t ≡ 0 → t ≡ reportedProved
 unfolding outcomeNumber
-proved-number toldProved e = refl
-proved-number toldNo e = absurd (omega arith)
-proved-number toldSpent e = absurd (omega arith)
+proved-number reportedProved e = refl
+proved-number reportedNo e = absurd (omega arith)
+proved-number reportedSpent e = absurd (omega arith)
 
-no-number : (t : Told) → outcomeNumber t ≡ 1 → t ≡ toldNo
+no-number : (t : Reported) → outcomeNumber t ≡ 1 → t ≡ reportedNo
 unfolding outcomeNumber
-no-number toldProved e = absurd (omega arith)
-no-number toldNo e = refl
-no-number toldSpent e = absurd (omega arith)
+no-number reportedProved e = absurd (omega arith)
+no-number reportedNo e = refl
+no-number reportedSpent e = absurd (omega arith)
 
-spent-number : (t : Told) → outcomeNumber t ≡ 2 → t ≡ toldSpent
+spent-number : (t : Reported) → outcomeNumber t ≡ 2 → t ≡ reportedSpent
 unfolding outcomeNumber
-spent-number toldProved e = absurd (omega arith)
-spent-number toldNo e = absurd (omega arith)
-spent-number toldSpent e = refl
+spent-number reportedProved e = absurd (omega arith)
+spent-number reportedNo e = absurd (omega arith)
+spent-number reportedSpent e = refl
 
-not-spent : (t : Told) → outcomeNumber t ≤ 1 → t ≡ toldSpent → ⊥
+not-spent : (t : Reported) → outcomeNumber t ≤ 1 → t ≡ reportedSpent → ⊥
 unfolding outcomeNumber
 not-spent t h e = let z : outcomeNumber t ≡ 2 = rw e in omega arith
 
--- of a verdict
-verdict-number : (s : Sheet) (budget n : ℕ) (v : Verdict) → outcomeNumber (answerTo s budget (ends v n) .outcome) ≡ verdictTold v
-unfolding answerTo outcomeNumber verdictTold
+-- The number of the outcome told for a verdict is that of the verdict.
+verdict-number : (s : Sheet) (budget n : ℕ) (v : Verdict) → outcomeNumber (answerTo s budget (ends v n) .outcome) ≡ reportedVerdict v
+unfolding answerTo outcomeNumber reportedVerdict
 verdict-number s budget n (proved st ls) = refl
 verdict-number s budget n noProof = refl
 
@@ -49,7 +51,8 @@ record Holds (answer answer′ : List ℕ) (r : HandedBack) (x : Answer) : Type 
   value : r ≡ handedBack (answered x)
   text : take (r .length) answer′ ≡ x .text
 
-holds : (answer answer′ : List ℕ) (r : HandedBack) (x : Answer) → r ≡ handedBack (answered x) → answer′ ≡ answerAfter (answered x) answer → Holds answer answer′ r x
+holds : (answer answer′ : List ℕ) (r : HandedBack) (x : Answer) → r ≡ handedBack (answered x) → answer′ ≡ answerAfter (answered x) answer
+    → Holds answer answer′ r x
 unfolding handedBack answerAfter
 holds answer answer′ r x v a = record {
   outcome = ap (λ (b : HandedBack). b .outcome) v;
@@ -59,11 +62,13 @@ holds answer answer′ r x v a = record {
 }
 
 -- A refusal tells no outcome.
-refusal-number : (r : HandedBack) (f : Refusal) → r ≡ handedBack (turnedBack f) → (r .outcome ≡ 3) × (r .length ≡ 0) × (r .number ≡ f .number)
+refusal-number : (r : HandedBack) (f : Refusal) → r ≡ handedBack (turnedBack f) → (r .outcome ≡ 3) × (r .length ≡ 0)
+    × (r .number ≡ f .number)
 unfolding handedBack
 refusal-number r f v = (ap (λ (b : HandedBack). b .outcome) v, ap (λ (b : HandedBack). b .length) v, ap (λ (b : HandedBack). b .number) v)
 
-module _ (bytes : List ℕ) (budget : ℕ) (table work answer table′ work′ answer′ : List ℕ) (r : HandedBack) (c : RunContract bytes budget table work answer table′ work′ answer′ r) where
+module _ (bytes : List ℕ) (budget : ℕ) (table work answer table′ work′ answer′ : List ℕ) (r : HandedBack)
+    (c : RunContract bytes budget table work answer table′ work′ answer′ r) where
   result : Result
   result = engineRun bytes budget (length table) (length work) (length answer)
 
@@ -73,7 +78,8 @@ module _ (bytes : List ℕ) (budget : ℕ) (table work answer table′ work′ a
   the-answer h = go result refl
     where
       go : (q : Result) → result ≡ q → (x : Answer) × (result ≡ answered x) × Holds answer answer′ r x
-      go (answered x) e = (x, e, holds answer answer′ r x (c .value ∙ ap handedBack e) (c .answerEnd ∙ ap (λ (y : Result). answerAfter y answer) e))
+      go (answered x) e =
+          (x, e, holds answer answer′ r x (c .value ∙ ap handedBack e) (c .answerEnd ∙ ap (λ (y : Result). answerAfter y answer) e))
       go (turnedBack f) e = absurd (let n = refusal-number r f (c .value ∙ ap handedBack e) .0 in omega arith)
 
   text-fits : r .length ≤ length answer
@@ -100,11 +106,17 @@ module _ (bytes : List ℕ) (budget : ℕ) (table work answer table′ work′ a
         rw (q .2 .text) (subst (λ (y : Sheet). SpellsDerivation y (q .0 .text)) e (p .2));
     neverNo = λ s read h e d.
         let q = the-answer (omega arith) in
-        demand bytes s read .neverNo e d budget (length table) (length work) (length answer) (q .0) (q .1) (no-number _ (sym (q .2 .outcome) ∙ h));
+        demand bytes s read .neverNo e d budget (length table) (length work) (length answer) (q .0) (q .1)
+        (no-number _ (sym (q .2 .outcome) ∙ h));
     comesTo = λ s read h.
         let q = the-answer (omega arith) in
-        let p = demand bytes s read .comesTo budget (length table) (length work) (length answer) (q .0) (q .1) (not-spent _ (subst (λ (k : ℕ). k ≤ 1) (q .2 .outcome) h)) in
-        (p .0, subst (λ (k : ℕ). ComesTo (s .clauses) (s .goal) k (p .0)) (sym (q .2 .units)) (p .1), q .2 .outcome ∙ ap (λ (y : Answer). outcomeNumber (y .outcome)) (p .2) ∙ verdict-number s budget (q .0 .units) (p .0));
+        let p = demand bytes s read .comesTo budget (length table) (length work) (length answer) (q .0) (q .1)
+        (not-spent _ (subst (λ (k : ℕ). k ≤ 1) (q .2 .outcome) h)) in (
+          p .0,
+          subst (λ (k : ℕ). ComesTo (s .clauses) (s .goal) k (p .0)) (sym (q .2 .units)) (p .1),
+          q .2 .outcome
+              ∙ ap (λ (y : Answer). outcomeNumber (y .outcome)) (p .2) ∙ verdict-number s budget (q .0 .units) (p .0),
+        );
     spends = λ s read h.
         let q = the-answer h in
         let p = demand bytes s read .spends budget (length table) (length work) (length answer) (q .0) (q .1) in
@@ -116,7 +128,8 @@ module _ (bytes : List ℕ) (budget : ℕ) (table work answer table′ work′ a
       same-sheet x y e f = cc
 
 pub callers-told : RunSound → AllDemand3 → CallersTold
-callers-told sound demand bytes budget table work answer table′ work′ answer′ r c = caller-told bytes budget table work answer table′ work′ answer′ r c sound demand
+callers-told sound demand bytes budget table work answer table′ work′ answer′ r c =
+    caller-told bytes budget table work answer table′ work′ answer′ r c sound demand
 
 pub told-again : AllDemand3 → ToldAgain
 unfolding result
@@ -125,14 +138,17 @@ told-again demand bytes budget table work answer table′ work′ answer′ r la
     let x = q .0 in
     let p = answered-answers bytes budget (length table) (length work) (length answer) x (q .1) in
     go x (q .2)
-    (demand bytes (p .s) (p .read) .same budget (length table) (length work) (length answer) x (q .1) (not-spent _ (subst (λ (k : ℕ). k ≤ 1) (q .2 .outcome) h)) larger (length table₂) (length work₂) (length answer₂) l m)
+    (demand bytes (p .s) (p .read) .same budget (length table) (length work) (length answer) x (q .1)
+    (not-spent _ (subst (λ (k : ℕ). k ≤ 1) (q .2 .outcome) h)) larger (length table₂) (length work₂) (length answer₂) l m)
   where
     R : Result
     R = engineRun bytes larger (length table₂) (length work₂) (length answer₂)
 
-    go : (x : Answer) → Holds answer answer′ r x → (R ≡ answered x) ⊎ ((f : Refusal) × (R ≡ turnedBack f) × ((f .number ≡ 2) ⊎ ((f .number ≡ 5) ⊎ (f .number ≡ 12))))
+    go : (x : Answer) → Holds answer answer′ r x → (R ≡ answered x)
+        ⊎ ((f : Refusal) × (R ≡ turnedBack f) × ((f .number ≡ 2) ⊎ ((f .number ≡ 5) ⊎ (f .number ≡ 12))))
         → ((r₂ ≡ r) × (take (r₂ .length) answer₂′ ≡ take (r .length) answer′)) ⊎ ((r₂ .number ≡ 2) ⊎ ((r₂ .number ≡ 5) ⊎ (r₂ .number ≡ 12)))
     go x k (inl e) =
         let z = holds answer₂ answer₂′ r₂ x (d .value ∙ ap handedBack e) (d .answerEnd ∙ ap (λ (y : Result). answerAfter y answer₂) e) in
         inl (z .value ∙ sym (k .value), z .text ∙ sym (k .text))
-    go x k (inr (f, e, n)) = inr (subst (λ (i : ℕ). (i ≡ 2) ⊎ ((i ≡ 5) ⊎ (i ≡ 12))) (sym (refusal-number r₂ f (d .value ∙ ap handedBack e) .2)) n)
+    go x k (inr (f, e, n)) =
+        inr (subst (λ (i : ℕ). (i ≡ 2) ⊎ ((i ≡ 5) ⊎ (i ≡ 12))) (sym (refusal-number r₂ f (d .value ∙ ap handedBack e) .2)) n)

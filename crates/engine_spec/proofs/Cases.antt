@@ -6,13 +6,13 @@ use lib.ListN.{replicate}
 use Rattle.sheet_format.specs.Bytes.{ascii}
 use Rattle.sheet_format.specs.Sheets.{refusal}
 use Rattle.sheet_format.specs.Buffers.{zeroed, demanded}
-use Rattle.engine_spec.specs.EngineRun.{Result, turnedBack, answered, Told, toldProved, isEarly, workAfter, answerAfter}
+use Rattle.engine_spec.specs.EngineRun.{Result, turnedBack, answered, Reported, reportedProved, isEarly, workAfter, answerAfter}
 use Rattle.engine_spec.proofs.Computing.{computeRun}
 
 abbrev strobe : List ℕ
 strobe = ascii "P\tmay\t1\nF\tstrobe\t0\nA\t1\nA\t0\t0\nC\t1\nQ\t1\n"
 
--- everything is wrong: the sheet first, then the table, the budget, the work buffer, the sheet's lines, the answer buffer
+-- Refusals arise in the order of sheet, table, budget, work buffer, the sheet's lines and answer buffer.
 sheet-first : computeRun (replicate 16385 0) 0 8191 0 0 ≡ turnedBack (refusal 1 0)
 unfolding computeRun
 sheet-first = refl
@@ -41,11 +41,12 @@ then-answer : computeRun strobe 3 8192 192 21 ≡ turnedBack (refusal 12 0)
 unfolding computeRun
 then-answer = refl
 
-fits : computeRun strobe 3 8192 192 22 ≡ answered (record { outcome = toldProved; units = 3; text = ascii "R\tproved\t3\nD\tclause\t1\n" })
+fits : computeRun strobe 3 8192 192 22 ≡ answered
+    (record { outcome = reportedProved; units = 3; text = ascii "R\tproved\t3\nD\tclause\t1\n" })
 unfolding computeRun
 fits = refl
 
--- on 5 the work buffer stays; past 5 its demanded part is zero, the rest unchanged; an answer changes only its own bytes
+-- On refusal 5 the work buffer stays; past 5 only its demanded part is zeroed; an answer changes only its own bytes.
 untouched : workAfter (turnedBack (refusal 5 0)) 1 (7 ∷ 7 ∷ []) ≡ 7 ∷ 7 ∷ []
 unfolding workAfter isEarly
 untouched = refl
@@ -54,6 +55,6 @@ cleared : workAfter (turnedBack (refusal 12 0)) 1 (replicate 65 7) ≡ zeroed 64
 unfolding workAfter isEarly demanded
 cleared = refl
 
-own-bytes : answerAfter (answered (record { outcome = toldProved; units = 1; text = 1 ∷ 2 ∷ [] })) (7 ∷ 7 ∷ 7 ∷ []) ≡ 1 ∷ 2 ∷ 7 ∷ []
+own-bytes : answerAfter (answered (record { outcome = reportedProved; units = 1; text = 1 ∷ 2 ∷ [] })) (7 ∷ 7 ∷ 7 ∷ []) ≡ 1 ∷ 2 ∷ 7 ∷ []
 unfolding answerAfter
 own-bytes = refl

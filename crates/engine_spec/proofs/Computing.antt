@@ -13,6 +13,7 @@ use Rattle.sheet_format.specs.Buffers.{demanded}
 use Rattle.engine_spec.specs.EngineRun.{Result, answerTo, fit, runSheet, turnBackIf, engineRun}
 
 unfoldable pub computeRun : List ℕ → ℕ → ℕ → ℕ → ℕ → Result
-unfolding engineRun turnBackIf runSheet fit answerTo demanded searchText noText spentText finalLines finalEnvironment final symbolOf solution solved solve1 onlyAt at boundTo
+unfolding engineRun turnBackIf runSheet fit answerTo demanded searchText noText spentText finalLines finalEnvironment final symbolOf
+    solution solved solve1 onlyAt at boundTo
     freeVariables freeFrom computeSheet computeSearch computeText
 computeRun bytes budget t w a = engineRun bytes budget t w a

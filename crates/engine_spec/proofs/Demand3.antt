@@ -15,29 +15,33 @@ use Rattle.search.specs.Promises.{SheetNames}
 use Rattle.search.proofs.Promises.{units, completeness}
 use Rattle.sheet_format.specs.Limits.{maxBudget}
 use Rattle.sheet_format.specs.Sheets.{Sheet, Refusal, Read, sheet, readSheet}
-use Rattle.engine_spec.specs.EngineRun.{Told, toldProved, toldNo, toldSpent, Answer, Result, answered, turnedBack, answerTo, engineRun}
+use Rattle.engine_spec.specs.EngineRun.{Reported, reportedProved, reportedNo, reportedSpent, Answer, Result, answered, turnedBack}
+use Rattle.engine_spec.specs.EngineRun.{answerTo, engineRun}
 use Rattle.engine_spec.specs.Promises.{Demand3, AllDemand3}
 use Rattle.engine_spec.proofs.Answered.{Answers, answered-answers, passes}
 
--- the words of the outcomes differ
-no-not-proved : toldProved ≡ toldNo → ⊥
+-- The outcomes proved and spent differ from no.
+no-not-proved : reportedProved ≡ reportedNo → ⊥
 no-not-proved e = let z : _≡_ {A = ℕ} 0 1 = cc in omega arith
 
-spent-not-no : toldSpent ≡ toldNo → ⊥
+spent-not-no : reportedSpent ≡ reportedNo → ⊥
 spent-not-no e = let z : _≡_ {A = ℕ} 0 1 = cc in omega arith
 
-module _ (bytes : List ℕ) (s : Sheet) (read : readSheet bytes ≡ sheet s) (closed : All Closed (s .clauses)) (names : SheetNames (s .goal)) where
-  -- the sheet that a run answers for is the one that the bytes are
+module _ (bytes : List ℕ) (s : Sheet) (read : readSheet bytes ≡ sheet s) (closed : All Closed (s .clauses))
+    (names : SheetNames (s .goal)) where
+  -- The sheet that a run answers for is the one that the bytes are.
   same-sheet : (r : Sheet) → readSheet bytes ≡ sheet r → r ≡ s
   same-sheet r e = cc
 
-  answer-is : (budget t w a : ℕ) (x : Answer) → engineRun bytes budget t w a ≡ answered x → x ≡ answerTo s budget (search budget (s .clauses) (s .goal))
+  answer-is : (budget t w a : ℕ) (x : Answer) → engineRun bytes budget t w a ≡ answered x
+      → x ≡ answerTo s budget (search budget (s .clauses) (s .goal))
   answer-is budget t w a x e =
       let r = answered-answers bytes budget t w a x e in
       r .is ∙ ap (λ (q : Sheet). answerTo q budget (search budget (q .clauses) (q .goal))) (same-sheet (r .s) (r .read))
 
-  -- an answer other than spent tells what the search comes to
-  tells : (budget : ℕ) (o : Outcome) (x : Answer) → search budget (s .clauses) (s .goal) ≡ o → x ≡ answerTo s budget o → (x .outcome ≡ toldSpent → ⊥)
+  -- An answer other than spent tells what the search comes to.
+  tells : (budget : ℕ) (o : Outcome) (x : Answer) → search budget (s .clauses) (s .goal) ≡ o → x ≡ answerTo s budget o
+      → (x .outcome ≡ reportedSpent → ⊥)
       → (v : Verdict) × ComesTo (s .clauses) (s .goal) (x .units) v × (x ≡ answerTo s budget (ends v (x .units))) × (x .units ≤ budget)
   unfolding answerTo
   tells budget (ends (proved store path) n) x q e h =
@@ -50,39 +54,45 @@ module _ (bytes : List ℕ) (s : Sheet) (read : readSheet bytes ≡ sheet s) (cl
       (noProof, rw u (c .0), subst (λ (k : ℕ). x ≡ answerTo s budget (ends noProof k)) (sym u) e, rw u (c .1))
   tells budget spent x q e h = absurd (h (ap (λ (y : Answer). y .outcome) e))
 
-  -- told no, the search said no
-  says-no : (budget : ℕ) (o : Outcome) (x : Answer) → x ≡ answerTo s budget o → x .outcome ≡ toldNo → (n : ℕ) × (o ≡ ends noProof n)
+  -- If no is told, the search ended with no proof.
+  says-no : (budget : ℕ) (o : Outcome) (x : Answer) → x ≡ answerTo s budget o → x .outcome ≡ reportedNo → (n : ℕ) × (o ≡ ends noProof n)
   unfolding answerTo
   says-no budget (ends (proved store path) n) x e h = absurd (no-not-proved (sym (ap (λ (y : Answer). y .outcome) e) ∙ h))
   says-no budget (ends noProof n) x e h = (n, refl)
   says-no budget spent x e h = absurd (spent-not-no (sym (ap (λ (y : Answer). y .outcome) e) ∙ h))
 
-  -- told spent exactly if the search said spent
-  says-spent : (budget : ℕ) (o : Outcome) (x : Answer) → x ≡ answerTo s budget o → x .outcome ≡ toldSpent → o ≡ spent
+  -- If spent is told, the search was spent.
+  says-spent : (budget : ℕ) (o : Outcome) (x : Answer) → x ≡ answerTo s budget o → x .outcome ≡ reportedSpent → o ≡ spent
   unfolding answerTo
-  says-spent budget (ends (proved store path) n) x e h = absurd (let p = sym (ap (λ (y : Answer). y .outcome) e) ∙ h in let z : _≡_ {A = ℕ} 0 1 = cc in omega arith)
+  says-spent budget (ends (proved store path) n) x e h =
+      absurd (let p = sym (ap (λ (y : Answer). y .outcome) e) ∙ h in let z : _≡_ {A = ℕ} 0 1 = cc in omega arith)
   says-spent budget (ends noProof n) x e h = absurd (spent-not-no (sym h ∙ ap (λ (y : Answer). y .outcome) e))
   says-spent budget spent x e h = refl
 
-  spent-says : (budget : ℕ) (o : Outcome) (x : Answer) → x ≡ answerTo s budget o → o ≡ spent → x .outcome ≡ toldSpent
+  spent-says : (budget : ℕ) (o : Outcome) (x : Answer) → x ≡ answerTo s budget o → o ≡ spent → x .outcome ≡ reportedSpent
   unfolding answerTo
   spent-says budget o x e h = ap (λ (y : Answer). y .outcome) (e ∙ ap (answerTo s budget) h)
 
-  -- the answer to a verdict does not depend on the budget
+  -- The answer to a verdict does not depend on the budget.
   answer-verdict : (v : Verdict) (n b c : ℕ) → answerTo s b (ends v n) ≡ answerTo s c (ends v n)
   unfolding answerTo
   answer-verdict (proved store path) n b c = refl
   answer-verdict noProof n b c = refl
 
-  same-answer : (budget t w a : ℕ) (x : Answer) → engineRun bytes budget t w a ≡ answered x → (x .outcome ≡ toldSpent → ⊥) → (larger t′ w′ a′ : ℕ) → budget ≤ larger → larger ≤ maxBudget
-      → (engineRun bytes larger t′ w′ a′ ≡ answered x) ⊎ ((r : Refusal) × (engineRun bytes larger t′ w′ a′ ≡ turnedBack r) × ((r .number ≡ 2) ⊎ ((r .number ≡ 5) ⊎ (r .number ≡ 12))))
+  same-answer : (budget t w a : ℕ) (x : Answer) → engineRun bytes budget t w a ≡ answered x → (x .outcome ≡ reportedSpent → ⊥)
+      → (larger t′ w′ a′ : ℕ) → budget ≤ larger → larger ≤ maxBudget
+      → (engineRun bytes larger t′ w′ a′ ≡ answered x)
+      ⊎ ((r : Refusal) × (engineRun bytes larger t′ w′ a′ ≡ turnedBack r) × ((r .number ≡ 2) ⊎ ((r .number ≡ 5) ⊎ (r .number ≡ 12))))
   same-answer budget t w a x e h larger t′ w′ a′ l m =
       let r = answered-answers bytes budget t w a x e in
       let q = tells budget (search budget (s .clauses) (s .goal)) x refl (answer-is budget t w a x e) h in
       let le : x .units ≤ larger = let k = q .3 in omega arith in
-      let again : search larger (s .clauses) (s .goal) ≡ ends (q .0) (x .units) = units (s .clauses) (s .goal) .tells larger (x .units) (q .0) .1 (q .1, le) in
-      let is : answerTo s larger (search larger (s .clauses) (s .goal)) ≡ x = ap (answerTo s larger) again ∙ answer-verdict (q .0) (x .units) larger budget ∙ sym (q .2) in
-      subst (λ (y : Answer). (engineRun bytes larger t′ w′ a′ ≡ answered y) ⊎ ((r : Refusal) × (engineRun bytes larger t′ w′ a′ ≡ turnedBack r) × ((r .number ≡ 2) ⊎ ((r .number ≡ 5) ⊎ (r .number ≡ 12)))))
+      let again : search larger (s .clauses) (s .goal) ≡ ends (q .0) (x .units) =
+      units (s .clauses) (s .goal) .tells larger (x .units) (q .0) .1 (q .1, le) in
+      let is : answerTo s larger (search larger (s .clauses) (s .goal)) ≡ x = ap (answerTo s larger) again
+      ∙ answer-verdict (q .0) (x .units) larger budget ∙ sym (q .2) in
+      subst (λ (y : Answer). (engineRun bytes larger t′ w′ a′ ≡ answered y)
+      ⊎ ((r : Refusal) × (engineRun bytes larger t′ w′ a′ ≡ turnedBack r) × ((r .number ≡ 2) ⊎ ((r .number ≡ 5) ⊎ (r .number ≡ 12)))))
       is (passes bytes larger t′ w′ a′ s (r .passed .sheetFits) (let k = r .passed .least in omega arith) m read)
 
   pub demand3 : Demand3 bytes s
@@ -95,7 +105,9 @@ module _ (bytes : List ℕ) (s : Sheet) (read : readSheet bytes ≡ sheet s) (cl
         (r .0, r .1, r .2);
     same = same-answer;
     spends = λ budget t w a x q. (
-      (λ h. units (s .clauses) (s .goal) .spends budget .0 (says-spent budget (search budget (s .clauses) (s .goal)) x (answer-is budget t w a x q) h)),
-      (λ h. spent-says budget (search budget (s .clauses) (s .goal)) x (answer-is budget t w a x q) (units (s .clauses) (s .goal) .spends budget .1 h)),
+      (λ h. units (s .clauses) (s .goal) .spends budget .0
+          (says-spent budget (search budget (s .clauses) (s .goal)) x (answer-is budget t w a x q) h)),
+      (λ h. spent-says budget (search budget (s .clauses) (s .goal)) x (answer-is budget t w a x q)
+          (units (s .clauses) (s .goal) .spends budget .1 h)),
     );
   }

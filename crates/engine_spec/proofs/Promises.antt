@@ -11,38 +11,46 @@ use Rattle.sheet_format.proofs.Good.{good}
 use Rattle.answer_texts.specs.Spelled.{SpellsDerivation}
 use Rattle.answer_texts.specs.Promises.{searchText}
 use Rattle.answer_texts.proofs.Promises.{textSound}
-use Rattle.engine_spec.specs.EngineRun.{Told, toldProved, toldNo, toldSpent, Answer, answered, answerTo, engineRun}
+use Rattle.engine_spec.specs.EngineRun.{Reported, reportedProved, reportedNo, reportedSpent, Answer, answered, answerTo, engineRun}
 use Rattle.engine_spec.specs.Promises.{RunSound, AllDemand3, BuffersDoNotMatter, CallersTold, ToldAgain}
 use Rattle.engine_spec.proofs.Answered.{answered-answers}
 use Rattle.engine_spec.proofs.Demand3.{demand3}
 use Rattle.engine_spec.proofs.Buffers as Buffers
 use Rattle.engine_spec.proofs.Callers.{callers-told, told-again}
 
--- an answer that tells proved has the text of a proved search
-spells : (bytes : List ℕ) (s : Sheet) (budget : ℕ) (o : Outcome) (x : Answer) → readSheet bytes ≡ sheet s → budget ≤ maxBudget → search budget (s .clauses) (s .goal) ≡ o
-    → x ≡ answerTo s budget o → x .outcome ≡ toldProved → length (x .text) ≤ maxTextBytes → SpellsDerivation s (x .text)
+-- The text of an answer that tells proved spells a derivation of an instance of the goal.
+spells : (bytes : List ℕ) (s : Sheet) (budget : ℕ) (o : Outcome) (x : Answer) → readSheet bytes ≡ sheet s → budget ≤ maxBudget
+    → search budget (s .clauses) (s .goal) ≡ o
+    → x ≡ answerTo s budget o → x .outcome ≡ reportedProved → length (x .text) ≤ maxTextBytes → SpellsDerivation s (x .text)
 unfolding answerTo
 spells bytes s budget (ends (proved store path) n) x read few q e h short =
     let t : x .text ≡ searchText s store path n = ap (λ (y : Answer). y .text) e in
-    subst (SpellsDerivation s) (sym t) (textSound bytes s read budget n store path few q (subst (λ (b : List ℕ). length b ≤ maxTextBytes) t short))
-spells bytes s budget (ends noProof n) x read few q e h short = absurd (let p = sym (ap (λ (y : Answer). y .outcome) e) ∙ h in let z : _≡_ {A = ℕ} 0 1 = cc in omega arith)
-spells bytes s budget spent x read few q e h short = absurd (let p = sym (ap (λ (y : Answer). y .outcome) e) ∙ h in let z : _≡_ {A = ℕ} 0 1 = cc in omega arith)
+    subst (SpellsDerivation s) (sym t)
+    (textSound bytes s read budget n store path few q (subst (λ (b : List ℕ). length b ≤ maxTextBytes) t short))
+spells bytes s budget (ends noProof n) x read few q e h short =
+    absurd (let p = sym (ap (λ (y : Answer). y .outcome) e) ∙ h in let z : _≡_ {A = ℕ} 0 1 = cc in omega arith)
+spells bytes s budget spent x read few q e h short =
+    absurd (let p = sym (ap (λ (y : Answer). y .outcome) e) ∙ h in let z : _≡_ {A = ℕ} 0 1 = cc in omega arith)
 
--- T5
+-- T5: a text that is told as proved spells a derivation of an instance of the goal.
 pub runSound : RunSound
 runSound bytes budget t w a x e h =
-    let r = answered-answers bytes budget t w a x e in
-    (r .s, r .read, spells bytes (r .s) budget (search budget (r .s .clauses) (r .s .goal)) x (r .read) (r .passed .most) refl (r .is) h (r .textFits))
+    let r = answered-answers bytes budget t w a x e in (
+      r .s,
+      r .read,
+      spells bytes (r .s) budget (search budget (r .s .clauses) (r .s .goal)) x (r .read) (r .passed .most) refl (r .is) h
+          (r .textFits),
+    )
 
--- T8
+-- T8: demand 3 holds of every sheet.
 pub allDemand3 : AllDemand3
 allDemand3 bytes s read = let g = good bytes s read in demand3 bytes s read (g .clausesClosed) (g .goalFree)
 
--- T10
+-- T10: what the lent buffers held before changes nothing in the result or the text.
 pub buffersDoNotMatter : BuffersDoNotMatter
 buffersDoNotMatter = Buffers.buffersDoNotMatter
 
--- T5 and T8 for callers
+-- T5 and T8 hold for callers, in the numbers handed back.
 pub callersTold : CallersTold
 callersTold = callers-told runSound allDemand3
 

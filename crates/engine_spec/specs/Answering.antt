@@ -20,8 +20,8 @@ use Rattle.engine_spec.specs.Handed.{handed}
 
 -- Refusals 1, 2, 3 and 5: the number of the first that arises, or 0. The sheet's length, the budget, the lengths of table and work
 -- buffer.
-unfoldable pub earlyNumber : ℕ → ℕ → ℕ → ℕ → ℕ
-earlyNumber sheet budget table work =
+unfoldable pub runRefusal : ℕ → ℕ → ℕ → ℕ → ℕ
+runRefusal sheet budget table work =
     cond (ltb maxSheetBytes sheet) 1
     (cond (ltb table tableNumbers) 2 (cond (eqb budget 0) 3 (cond (ltb maxBudget budget) 3 (cond (ltb work (demanded budget)) 5 0))))
 
@@ -34,19 +34,20 @@ pub record Ended : Type 0 where
   pub buffer : List ℕ
   pub run : Run
 
--- the two together
+-- A buffer and a run make a record.
 abbrev pub ended : List ℕ → Run → Ended
 ended out r = record { buffer = out; run = r }
 
 -- What is told and written of what the machine came to.
-unfoldable pub tell : List ℕ → List ℕ → ℕ → ℕ → Made → List ℕ → Ended
-tell sheet t goal budget m out =
+unfoldable pub reportOutcome : List ℕ → List ℕ → ℕ → ℕ → Made → List ℕ → Ended
+reportOutcome sheet t goal budget m out =
     let acts = m .registers .acts in
     let p = writeProof sheet t goal m acts out in
     let n = writeNo acts out in
     let s = writeSpent budget out in
     cond (eqb (m .registers .mode) provedMode) (ended (p .buffer) (reported Proved acts (p .length)))
-    (cond (eqb (m .registers .mode) noMode) (ended (n .buffer) (reported No acts (n .at))) (ended (s .buffer) (reported Spent budget (s .at))))
+    (cond (eqb (m .registers .mode) noMode) (ended (n .buffer) (reported No acts (n .at)))
+    (ended (s .buffer) (reported Spent budget (s .at))))
 
 -- Past refusals 1 to 5: what is handed back, and what the answer buffer then holds.
 pub record Answering (bytes : List ℕ) (budget : ℕ) (answer answer′ : List ℕ) (r : Run) : Type 0 where

@@ -13,12 +13,12 @@ use Rattle.answer_texts.specs.Spelling.{noText, spentText}
 use Rattle.answer_texts.specs.Promises.{searchText}
 
 -- "Outcomes are `proved`, `no`, `spent`".
-pub data Told : Type 0 where
-  toldProved toldNo toldSpent : Told
+pub data Reported : Type 0 where
+  reportedProved reportedNo reportedSpent : Reported
 
 -- "the run hands back outcome, units and text length"
 pub record Answer : Type 0 where
-  pub outcome : Told
+  pub outcome : Reported
   pub units : ℕ
   pub text : List ℕ
 
@@ -28,15 +28,16 @@ pub data Result : Type 0 where
 
 -- "`R`, outcome, units ... spent reports the budget"
 unfoldable pub answerTo : Sheet → ℕ → Outcome → Answer
-answerTo s budget (ends (proved store path) n) = record { outcome = toldProved; units = n; text = searchText s store path n }
-answerTo s budget (ends noProof n) = record { outcome = toldNo; units = n; text = noText n }
-answerTo s budget spent = record { outcome = toldSpent; units = budget; text = spentText budget }
+answerTo s budget (ends (proved store path) n) = record { outcome = reportedProved; units = n; text = searchText s store path n }
+answerTo s budget (ends noProof n) = record { outcome = reportedNo; units = n; text = noText n }
+answerTo s budget spent = record { outcome = reportedSpent; units = budget; text = spentText budget }
 
 -- 12: "The answer text is over 65,535 bytes or longer than the answer buffer"
 unfoldable pub fit : ℕ → Answer → Result
-fit answerLength a = cond (ltb maxTextBytes (length (a .text)) || ltb answerLength (length (a .text))) (turnedBack (refusal 12 0)) (answered a)
+fit answerLength a =
+    cond (ltb maxTextBytes (length (a .text)) || ltb answerLength (length (a .text))) (turnedBack (refusal 12 0)) (answered a)
 
--- 6 to 11, then the search
+-- Refusals 6 to 11 come first, then the search.
 unfoldable pub runSheet : ℕ → ℕ → Read → Result
 runSheet budget answerLength (refused r) = turnedBack r
 runSheet budget answerLength (sheet s) = fit answerLength (answerTo s budget (search budget (s .clauses) (s .goal)))

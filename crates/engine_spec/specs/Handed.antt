@@ -5,4 +5,11 @@ use Rattle.engine_spec.specs.Promises.{HandedBack}
 
 -- "the run hands back outcome, units and text length", a refusal its number and line.
 unfoldable pub handed : Run → HandedBack
-handed r = record { outcome = outcomeCode (r .outcome); units = r .units; length = r .length; number = refusalNumber (r .outcome); line = refusalLine (r .outcome) }
+handed r =
+    record {
+      outcome = outcomeCode (r .outcome);
+      units = r .units;
+      length = r .length;
+      number = refusalNumber (r .outcome);
+      line = refusalLine (r .outcome);
+    }

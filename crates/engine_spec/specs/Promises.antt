@@ -11,7 +11,8 @@ use Rattle.search.specs.Search.{Verdict, proved, noProof, ComesTo, ends}
 use Rattle.sheet_format.specs.Limits.{maxBudget}
 use Rattle.sheet_format.specs.Sheets.{Sheet, Refusal, Read, sheet, readSheet}
 use Rattle.answer_texts.specs.Spelled.{SpellsDerivation}
-use Rattle.engine_spec.specs.EngineRun.{Told, toldProved, toldNo, toldSpent, Answer, Result, answered, turnedBack, answerTo, engineRun, tableAfter, workAfter, answerAfter}
+use Rattle.engine_spec.specs.EngineRun.{Reported, reportedProved, reportedNo, reportedSpent, Answer, Result, answered, turnedBack}
+use Rattle.engine_spec.specs.EngineRun.{answerTo, engineRun, tableAfter, workAfter, answerAfter}
 
 -- What the run hands back, in document 01's numbers: 0 proved, 1 no, 2 spent, 3 refused; units and text length, both 0 where it
 -- is refused; refusal number and line, both 0 where it is not.
@@ -22,10 +23,10 @@ pub record HandedBack : Type 0 where
   pub number : ℕ
   pub line : ℕ
 
-unfoldable pub outcomeNumber : Told → ℕ
-outcomeNumber toldProved = 0
-outcomeNumber toldNo = 1
-outcomeNumber toldSpent = 2
+unfoldable pub outcomeNumber : Reported → ℕ
+outcomeNumber reportedProved = 0
+outcomeNumber reportedNo = 1
+outcomeNumber reportedSpent = 2
 
 unfoldable pub handedBack : Result → HandedBack
 handedBack (answered a) = record { outcome = outcomeNumber (a .outcome); units = a .units; length = length (a .text); number = 0; line = 0 }
@@ -40,7 +41,7 @@ pub record RunContract (bytes : List ℕ) (budget : ℕ) (table work answer tabl
 
 -- T5 of the run: what is told as proved spells a derivation of an instance of the goal.
 abbrev pub RunSound : Type 0
-RunSound = (bytes : List ℕ) (budget t w a : ℕ) (x : Answer) → engineRun bytes budget t w a ≡ answered x → x .outcome ≡ toldProved
+RunSound = (bytes : List ℕ) (budget t w a : ℕ) (x : Answer) → engineRun bytes budget t w a ≡ answered x → x .outcome ≡ reportedProved
     → (s : Sheet) × (readSheet bytes ≡ sheet s) × SpellsDerivation s (x .text)
 
 -- T8, demand 3, point e of document 01 observed: "told is what an answer says; a refusal tells no outcome".
@@ -48,48 +49,54 @@ pub record Demand3 (bytes : List ℕ) (s : Sheet) : Type 0 where
   -- "whoever holds a sequent derivation of some instance of the goal, its free variables replaced by terms of level 0, is never
   -- told no"
   pub neverNo : (e : Environment Symbol) → InstanceDerivation (s .clauses) (s .goal) e
-      → (budget t w a : ℕ) (x : Answer) → engineRun bytes budget t w a ≡ answered x → x .outcome ≡ toldNo → ⊥
+      → (budget t w a : ℕ) (x : Answer) → engineRun bytes budget t w a ≡ answered x → x .outcome ≡ reportedNo → ⊥
   -- "Whoever is told proved or no is told what the walk of document 01 comes to, with its units and its text"
-  pub comesTo : (budget t w a : ℕ) (x : Answer) → engineRun bytes budget t w a ≡ answered x → (x .outcome ≡ toldSpent → ⊥)
+  pub comesTo : (budget t w a : ℕ) (x : Answer) → engineRun bytes budget t w a ≡ answered x → (x .outcome ≡ reportedSpent → ⊥)
       → (v : Verdict) × ComesTo (s .clauses) (s .goal) (x .units) v × (x ≡ answerTo s budget (ends v (x .units)))
-  -- "and is told the same under every larger permitted budget with the buffers for it": any for which refusals 2, 5 and 12 do
-  -- not arise
-  pub same : (budget t w a : ℕ) (x : Answer) → engineRun bytes budget t w a ≡ answered x → (x .outcome ≡ toldSpent → ⊥)
+  -- "and is told the same under every larger permitted budget with the buffers for it": these are any for which refusals 2, 5
+  -- and 12 do not arise.
+  pub same : (budget t w a : ℕ) (x : Answer) → engineRun bytes budget t w a ≡ answered x → (x .outcome ≡ reportedSpent → ⊥)
       → (larger t′ w′ a′ : ℕ) → budget ≤ larger → larger ≤ maxBudget
       → (engineRun bytes larger t′ w′ a′ ≡ answered x)
       ⊎ ((r : Refusal) × (engineRun bytes larger t′ w′ a′ ≡ turnedBack r) × ((r .number ≡ 2) ⊎ ((r .number ≡ 5) ⊎ (r .number ≡ 12))))
   -- "Whoever is told an outcome is told spent exactly if the walk needs more units than the budget."
   pub spends : (budget t w a : ℕ) (x : Answer) → engineRun bytes budget t w a ≡ answered x
-      → (x .outcome ≡ toldSpent) ↔ ((n : ℕ) (v : Verdict) → ComesTo (s .clauses) (s .goal) n v → budget < n)
+      → (x .outcome ≡ reportedSpent) ↔ ((n : ℕ) (v : Verdict) → ComesTo (s .clauses) (s .goal) n v → budget < n)
 
 abbrev pub AllDemand3 : Type 0
 AllDemand3 = (bytes : List ℕ) (s : Sheet) → readSheet bytes ≡ sheet s → Demand3 bytes s
 
 -- T10: what the lent buffers held before changes nothing in the result or the text.
 abbrev pub BuffersDoNotMatter : Type 0
-BuffersDoNotMatter = (bytes : List ℕ) (budget : ℕ) (table work answer table′ work′ answer′ : List ℕ) (r : HandedBack) (table₂ work₂ answer₂ table₂′ work₂′ answer₂′ : List ℕ) (r₂ : HandedBack)
-    → RunContract bytes budget table work answer table′ work′ answer′ r → RunContract bytes budget table₂ work₂ answer₂ table₂′ work₂′ answer₂′ r₂
+BuffersDoNotMatter =
+    (bytes : List ℕ) (budget : ℕ) (table work answer table′ work′ answer′ : List ℕ) (r : HandedBack)
+    (table₂ work₂ answer₂ table₂′ work₂′ answer₂′ : List ℕ) (r₂ : HandedBack)
+    → RunContract bytes budget table work answer table′ work′ answer′ r
+    → RunContract bytes budget table₂ work₂ answer₂ table₂′ work₂′ answer₂′ r₂
     → length table ≡ length table₂ → length work ≡ length work₂ → length answer ≡ length answer₂
     → (r ≡ r₂) × (take (r .length) answer′ ≡ take (r₂ .length) answer₂′)
 
 -- What a search comes to, in the numbers handed back.
-unfoldable pub verdictTold : Verdict → ℕ
-verdictTold (proved s ls) = 0
-verdictTold noProof = 1
+unfoldable pub reportedVerdict : Verdict → ℕ
+reportedVerdict (proved s ls) = 0
+reportedVerdict noProof = 1
 
 -- T5 and T8 in the numbers handed back: what a caller is told by a run that keeps T1.
 pub record CallerTold (bytes : List ℕ) (budget : ℕ) (answer answer′ : List ℕ) (r : HandedBack) : Type 0 where
-  -- told an outcome: the bytes are a sheet
+  -- If an outcome is told, the bytes are a sheet.
   pub isSheet : r .outcome ≤ 2 → (s : Sheet) × (readSheet bytes ≡ sheet s)
-  -- told proved: the text in the answer buffer spells a derivation of an instance of the goal
+  -- If proved is told, the text in the answer buffer spells a derivation of an instance of the goal.
   pub spells : (s : Sheet) → readSheet bytes ≡ sheet s → r .outcome ≡ 0 → SpellsDerivation s (take (r .length) answer′)
-  -- told no: no instance of the goal has a derivation
-  pub neverNo : (s : Sheet) → readSheet bytes ≡ sheet s → r .outcome ≡ 1 → (e : Environment Symbol) → InstanceDerivation (s .clauses) (s .goal) e → ⊥
-  -- told proved or no: what the walk comes to, after as many units as are told
-  pub comesTo : (s : Sheet) → readSheet bytes ≡ sheet s → r .outcome ≤ 1 → (v : Verdict) × ComesTo (s .clauses) (s .goal) (r .units) v × (r .outcome ≡ verdictTold v)
-  -- told an outcome: spent exactly if the walk needs more units than the budget
-  pub spends : (s : Sheet) → readSheet bytes ≡ sheet s → r .outcome ≤ 2 → (r .outcome ≡ 2) ↔ ((n : ℕ) (v : Verdict) → ComesTo (s .clauses) (s .goal) n v → budget < n)
-  -- the text lies in the answer buffer
+  -- If no is told, no instance of the goal has a derivation.
+  pub neverNo : (s : Sheet) → readSheet bytes ≡ sheet s → r .outcome ≡ 1 → (e : Environment Symbol)
+      → InstanceDerivation (s .clauses) (s .goal) e → ⊥
+  -- If proved or no is told, it is what the walk comes to, after as many units as are told.
+  pub comesTo : (s : Sheet) → readSheet bytes ≡ sheet s → r .outcome ≤ 1 → (v : Verdict) × ComesTo (s .clauses) (s .goal) (r .units) v
+      × (r .outcome ≡ reportedVerdict v)
+  -- If an outcome is told, it is spent exactly if the walk needs more units than the budget.
+  pub spends : (s : Sheet) → readSheet bytes ≡ sheet s → r .outcome ≤ 2 → (r .outcome ≡ 2)
+      ↔ ((n : ℕ) (v : Verdict) → ComesTo (s .clauses) (s .goal) n v → budget < n)
+  -- The text lies in the answer buffer.
   pub fits : r .length ≤ length answer
 
 -- Every caller of such a run.
@@ -100,7 +107,10 @@ CallersTold = (bytes : List ℕ) (budget : ℕ) (table work answer table′ work
 -- T8 in the numbers handed back: who was told proved or no and asks again with a larger permitted budget is handed back the same,
 -- with the same text, or refusal 2, 5 or 12.
 abbrev pub ToldAgain : Type 0
-ToldAgain = (bytes : List ℕ) (budget : ℕ) (table work answer table′ work′ answer′ : List ℕ) (r : HandedBack) (larger : ℕ) (table₂ work₂ answer₂ table₂′ work₂′ answer₂′ : List ℕ) (r₂ : HandedBack)
-    → RunContract bytes budget table work answer table′ work′ answer′ r → RunContract bytes larger table₂ work₂ answer₂ table₂′ work₂′ answer₂′ r₂
+ToldAgain =
+    (bytes : List ℕ) (budget : ℕ) (table work answer table′ work′ answer′ : List ℕ) (r : HandedBack) (larger : ℕ)
+    (table₂ work₂ answer₂ table₂′ work₂′ answer₂′ : List ℕ) (r₂ : HandedBack)
+    → RunContract bytes budget table work answer table′ work′ answer′ r
+    → RunContract bytes larger table₂ work₂ answer₂ table₂′ work₂′ answer₂′ r₂
     → r .outcome ≤ 1 → budget ≤ larger → larger ≤ maxBudget
     → ((r₂ ≡ r) × (take (r₂ .length) answer₂′ ≡ take (r .length) answer′)) ⊎ ((r₂ .number ≡ 2) ⊎ ((r₂ .number ≡ 5) ⊎ (r₂ .number ≡ 12)))

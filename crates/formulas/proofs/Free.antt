@@ -16,24 +16,24 @@ use Rattle.formulas.specs.Members.{Member, members, quantify, standsFree
 
 -- tests
 
--- the left side of a test that is true makes the whole true
+-- A true left side makes a disjunction true.
 pub or-left : (a b : Bool) → a ≡ true → (a || b) ≡ true
 or-left true b h = refl
 or-left false b h = absurd (true≢false (sym h))
 
--- and so does the right side
+-- A true right side makes a disjunction true.
 pub or-right : (a b : Bool) → b ≡ true → (a || b) ≡ true
 or-right true b h = refl
 or-right false b h = h
 
--- a conjunction that is true has two true sides
+-- A conjunction that is true has two true sides.
 pub and-parts : (a b : Bool) → (a && b) ≡ true → (a ≡ true) × (b ≡ true)
 and-parts true b h = (refl, h)
 and-parts false b h = absurd (true≢false (sym h))
 
 -- terms
 
--- a leaf that appears stands free
+-- A leaf that appears in a term stands free in it.
 mutual
   unfolding Appears freeT
 
@@ -46,8 +46,9 @@ mutual
   appearsIn-free (cons t ts) v (inl h) = or-left (freeT t v) (freeTs ts v) (appears-free t v h)
   appearsIn-free (cons t ts) v (inr h) = or-right (freeT t v) (freeTs ts v) (appearsIn-free ts v h)
 
--- terms under environments that agree on the names that stand free in them are the same
-pub substitutes-free : {A : Type 0} (ts : Terms ℕ) (e f : ℕ → Term A) → ((v : ℕ) → freeTs ts v ≡ true → e v ≡ f v) → substitutes ts e ≡ substitutes ts f
+-- Terms under environments that agree on the names that stand free in them are equal.
+pub substitutes-free : {A : Type 0} (ts : Terms ℕ) (e f : ℕ → Term A) → ((v : ℕ) → freeTs ts v ≡ true → e v ≡ f v)
+    → substitutes ts e ≡ substitutes ts f
 substitutes-free ts e f h = substitutes-agree ts e f (λ v k. h v (appearsIn-free ts v k))
 
 -- members
@@ -56,29 +57,31 @@ substitutes-free ts e f h = substitutes-agree ts e f (λ v k. h v (appearsIn-fre
 abbrev pub Within : Clause → Member → Type 0
 Within c m = (v : ℕ) → standsFree v m ≡ true → freeC c v ≡ true
 
--- a quantifier binds its name in each member, whether or not it joins the prefix
+-- A quantifier binds its name in each member, whether or not it joins the prefix.
 pub quantify-within : (w : ℕ) (c : Clause) (m : Member) → Within c m → Within (each w c) (quantify w m)
 unfolding quantify freeC standsFree elem
 quantify-within w c m h v = go (standsFree w m) refl
   where
-    -- w joins the prefix
-    joins : (b : Bool) → (not (elim b [ true ↦ true | false ↦ elem v (m .prefix) ]) && (freeTs (m .arguments) v || freeB (m .body) v)) ≡ true
+    -- The name w joins the prefix.
+    joins : (b : Bool)
+        → (not (elim b [ true ↦ true | false ↦ elem v (m .prefix) ]) && (freeTs (m .arguments) v || freeB (m .body) v)) ≡ true
         → (not b && freeC c v) ≡ true
     joins true k = k
     joins false k = h v k
 
-    -- w does not stand free
+    -- The name w does not stand free.
     absent : standsFree w m ≡ false → standsFree v m ≡ true → (b : Bool) → eqb w v ≡ b → (not b && freeC c v) ≡ true
     absent n k true e = absurd (true≢false (sym k ∙ ap (λ (x : ℕ). standsFree x m) (sym (eqb-true w v e)) ∙ n))
     absent n k false e = h v k
 
     go : (b : Bool) → standsFree w m ≡ b
-        → standsFree v (cond b (record { prefix = w ∷ m .prefix; predicate = m .predicate; arguments = m .arguments; body = m .body }) m) ≡ true
+        → standsFree v (cond b (record { prefix = w ∷ m .prefix; predicate = m .predicate; arguments = m .arguments; body = m .body }) m)
+        ≡ true
         → (not (eqb w v) && freeC c v) ≡ true
     go true e k = joins (eqb w v) k
     go false e k = absent e k (eqb w v) refl
 
--- so it is with every member of a clause
+-- The names that stand free in a member of a clause stand free in the clause.
 pub members-within : (c : Clause) → All (Within c) (members c)
 unfolding members freeC standsFree freeB elem
 members-within (fact p ts) = (λ v h. sym (or-false (freeTs ts v)) ∙ h, tt)

@@ -49,7 +49,7 @@ unfoldable mutual
   freeC (both a b) v = freeC a v || freeC b v
   freeC (each w c) v = not (eqb w v) && freeC c v
 
--- of the body of a member, if it has one
+-- The name v stands free in the body of a member, if it has one.
 unfoldable pub freeB : Option Goal → ℕ → Bool
 freeB none v = false
 freeB (some g) v = freeG g v

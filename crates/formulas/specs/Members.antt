@@ -15,7 +15,7 @@ pub record Member : Type 0 where
   pub arguments : Terms ℕ
   pub body : Option Goal
 
--- v stands free in the member, below the quantifiers that it has already
+-- The name v stands free in the member, below the quantifiers that it has already.
 unfoldable pub standsFree : ℕ → Member → Bool
 standsFree v m = not (elem v (m .prefix)) && (freeTs (m .arguments) v || freeB (m .body) v)
 

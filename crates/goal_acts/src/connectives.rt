@@ -5,13 +5,13 @@ use machine::lines;
 use machine_memory::records::put_assumption;
 use machine_memory::records::put_goal;
 use machine_memory::records::put_path;
-use machine_memory::registers::on_choice;
-use machine_memory::registers::on_goal;
-use machine_memory::registers::on_goals;
-use machine_memory::registers::on_member;
-use machine_memory::registers::on_path;
 use machine_memory::registers::save_choice;
-use machine_memory::words::up;
+use machine_memory::registers::with_choice;
+use machine_memory::registers::with_goal;
+use machine_memory::registers::with_goals;
+use machine_memory::registers::with_member;
+use machine_memory::registers::with_path;
+use machine_memory::words::increment;
 use node_table::child;
 ghost use mathlib.Core.Path.{_≡_};
 ghost use Rattle.machine.specs.Records.{made};
@@ -26,18 +26,18 @@ pub fn take_and(t: &[u32], w: &mut [u32], r: Registers) -> Registers
     let right = child(t, r.node, 1);
     put_path(w, act, r.path, r.line);
     put_goal(w, act, right, r.frame, r.program, r.level, r.goals);
-    let next = up(act);
-    let s = on_goals(on_path(r, next, lines::AND), next);
-    on_goal(s, left, r.frame, r.program, r.level)
+    let next = increment(act);
+    let s = with_goals(with_path(r, next, lines::AND), next);
+    with_goal(s, left, r.frame, r.program, r.level)
 }
 
 // |: left; right is the alternative.
 pub fn right_branch(t: &[u32], r: Registers) -> Registers
     ensures { λ s. ⌜ s ≡ rightBranch (now (t .entry)) r ⌝ }
 {
-    let s = on_path(r, up(r.acts), lines::RIGHT);
-    let goal = on_goal(s, child(t, r.node, 1), r.frame, r.program, r.level);
-    on_member(goal, 0, 0, 0, 0)
+    let s = with_path(r, increment(r.acts), lines::RIGHT);
+    let goal = with_goal(s, child(t, r.node, 1), r.frame, r.program, r.level);
+    with_member(goal, 0, 0, 0, 0)
 }
 
 pub fn take_or(t: &[u32], w: &mut [u32], r: Registers) -> Registers
@@ -46,9 +46,9 @@ pub fn take_or(t: &[u32], w: &mut [u32], r: Registers) -> Registers
     let act = r.acts;
     put_path(w, act, r.path, r.line);
     save_choice(w, act, right_branch(t, r));
-    let next = up(act);
-    let s = on_choice(on_path(r, next, lines::LEFT), next);
-    on_goal(s, child(t, r.node, 0), r.frame, r.program, r.level)
+    let next = increment(act);
+    let s = with_choice(with_path(r, next, lines::LEFT), next);
+    with_goal(s, child(t, r.node, 0), r.frame, r.program, r.level)
 }
 
 // >: the clause is assumed, in the goal's frame, in front of that goal's program.
@@ -60,7 +60,7 @@ pub fn take_implies(t: &[u32], w: &mut [u32], r: Registers) -> Registers
     let goal = child(t, r.node, 1);
     put_path(w, act, r.path, r.line);
     put_assumption(w, act, clause, r.frame, r.program);
-    let next = up(act);
-    let s = on_path(r, next, lines::ASSUME);
-    on_goal(s, goal, r.frame, next, r.level)
+    let next = increment(act);
+    let s = with_path(r, next, lines::ASSUME);
+    with_goal(s, goal, r.frame, next, r.level)
 }

@@ -6,27 +6,27 @@ use machine::lines;
 use machine::modes;
 use machine_memory::choice_points::failed;
 use machine_memory::records::put_path;
-use machine_memory::registers::on_goal;
-use machine_memory::registers::on_goals;
-use machine_memory::registers::on_member;
-use machine_memory::registers::on_mode;
-use machine_memory::registers::on_path;
-use machine_memory::words::up;
+use machine_memory::registers::with_goal;
+use machine_memory::registers::with_goals;
+use machine_memory::registers::with_member;
+use machine_memory::registers::with_mode;
+use machine_memory::registers::with_path;
+use machine_memory::words::increment;
+use memory::field;
 ghost use mathlib.Core.Path.{_≡_};
 ghost use Rattle.machine.specs.Records.{made};
 ghost use Rattle.machine.specs.Goals.{dueGoal, proceed, membersLeft, tryFrom, takeAtom, takeTrue};
-use memory::field;
 
 // The goal that waits in record q is due.
 pub fn due_goal(w: &[u32], r: Registers, q: u32) -> Registers
     ensures { λ s. ⌜ s ≡ dueGoal (now (w .entry)) r q ⌝ }
 {
-    let s = on_goals(r, field(w, q, fields::GOAL_NEXT));
+    let s = with_goals(r, field(w, q, fields::GOAL_NEXT));
     let node = field(w, q, fields::GOAL_NODE);
     let frame = field(w, q, fields::GOAL_FRAME);
     let program = field(w, q, fields::GOAL_PROGRAM);
     let level = field(w, q, fields::GOAL_LEVEL);
-    on_goal(s, node, frame, program, level)
+    with_goal(s, node, frame, program, level)
 }
 
 // The front goal is due; where none waits, all is proved.
@@ -35,7 +35,7 @@ pub fn proceed(w: &[u32], r: Registers) -> Registers
 {
     let goals = r.goals;
     if goals == 0 {
-        return on_mode(r, modes::PROVED);
+        return with_mode(r, modes::PROVED);
     }
     due_goal(w, r, goals - 1)
 }
@@ -57,7 +57,7 @@ pub fn try_from(c: u32, w: &mut [u32], r: Registers) -> Registers
     ensures { λ s. ⌜ made (now (w .exit)) s ≡ tryFrom c (now (w .entry)) r ⌝ }
 {
     if members_left(c, r) {
-        return on_mode(r, modes::TRY);
+        return with_mode(r, modes::TRY);
     }
     failed(w, r)
 }
@@ -66,7 +66,7 @@ pub fn try_from(c: u32, w: &mut [u32], r: Registers) -> Registers
 pub fn take_atom(c: u32, w: &mut [u32], r: Registers) -> Registers
     ensures { λ s. ⌜ made (now (w .exit)) s ≡ takeAtom c (now (w .entry)) r ⌝ }
 {
-    try_from(c, w, on_member(r, r.program, 0, 0, 1))
+    try_from(c, w, with_member(r, r.program, 0, 0, 1))
 }
 
 // Y: nothing.
@@ -75,5 +75,5 @@ pub fn take_true(w: &mut [u32], r: Registers) -> Registers
 {
     let act = r.acts;
     put_path(w, act, r.path, r.line);
-    proceed(w, on_path(r, up(act), lines::TRUE))
+    proceed(w, with_path(r, increment(act), lines::TRUE))
 }

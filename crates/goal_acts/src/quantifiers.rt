@@ -7,18 +7,18 @@ use machine_memory::cells::put_slot;
 use machine_memory::frames::copy_frame;
 use machine_memory::frames::put_fresh;
 use machine_memory::records::put_path;
-use machine_memory::registers::on_goal;
-use machine_memory::registers::on_next;
-use machine_memory::registers::on_path;
+use machine_memory::registers::with_goal;
+use machine_memory::registers::with_next;
+use machine_memory::registers::with_path;
 use machine_memory::words::constant_word;
-use machine_memory::words::up;
+use machine_memory::words::increment;
+use memory::put_field;
 use node_table::child;
 use node_table::label;
 use sheet_format::limits;
 ghost use mathlib.Core.Path.{_≡_};
 ghost use Rattle.machine.specs.Records.{made};
 ghost use Rattle.machine.specs.Goals.{takeExists, putConstant, takeForall};
-use memory::put_field;
 
 // E: a fresh variable of the goal's level.
 pub fn take_exists(t: &[u32], w: &mut [u32], r: Registers) -> Registers
@@ -30,9 +30,9 @@ pub fn take_exists(t: &[u32], w: &mut [u32], r: Registers) -> Registers
     put_fresh(1, w, act, name, r.next, r.level);
     put_path(w, act, r.path, r.line);
     put_field(w, act, fields::VARIABLES, r.next);
-    let next = up(act);
-    let s = on_next(on_path(r, next, lines::SOME), up(r.next));
-    on_goal(s, child(t, r.node, 0), next, r.program, r.level)
+    let next = increment(act);
+    let s = with_next(with_path(r, next, lines::SOME), increment(r.next));
+    with_goal(s, child(t, r.node, 0), next, r.program, r.level)
 }
 
 // The constant of act u, of level i, for name v in the frame of record u.
@@ -49,11 +49,11 @@ pub fn take_forall(t: &[u32], w: &mut [u32], r: Registers) -> Registers
 {
     let act = r.acts;
     let name = label(t, r.node);
-    let level = up(r.level);
+    let level = increment(r.level);
     copy_frame(limits::VARIABLE_NAMES, w, act, r.frame, 0);
     put_constant(w, act, name, level);
     put_path(w, act, r.path, r.line);
-    let next = up(act);
-    let s = on_path(r, next, lines::ALL);
-    on_goal(s, child(t, r.node, 0), next, r.program, level)
+    let next = increment(act);
+    let s = with_path(r, next, lines::ALL);
+    with_goal(s, child(t, r.node, 0), next, r.program, level)
 }

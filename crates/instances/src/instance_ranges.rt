@@ -1,9 +1,10 @@
-// Whether a range of the text spells an instance of a sheet term: a node of the table with a frame, whose names are places in the
+// Whether a range of the text spells an instance of a sheet term: a node of the table with a frame, whose names are positions in the
 // text.
+use super::Instance;
 use super::frames::slot_end;
 use super::frames::slot_start;
 use memory::byte;
-use memory::wide;
+use memory::widen;
 use node_table::child;
 use node_table::child_count;
 use node_table::kind;
@@ -20,8 +21,7 @@ ghost use Prim.Native.Nat.{_+_, _-_, _<_};
 ghost use mathlib.Core.Bool.{cond};
 ghost use lib.Dec.{eqb};
 ghost use lib.ListN.{getD};
-ghost use Rattle.scanning.specs.Instances.{sameSlots, alongRange, alongName, alongSlot, along, isInstance};
-use super::Instance;
+ghost use Rattle.scanning.specs.Instances.{sameSlots, matchRange, matchName, matchSlot, matchInstance, isInstance};
 
 // A range of the text.
 pub struct Range {
@@ -43,9 +43,9 @@ pub fn same_slots(text: &[u8], a: Range, b: Range) -> bool
     false
 }
 
-// Whether the n bytes of a from s on stand at place i, and where they end.
-fn along_range(n: usize, a: &[u8], s: usize, text: &[u8], i: usize) -> Reach
-    ensures { λ r. ⌜ r ≡ alongRange n (now (a .entry)) s (now (text .entry)) i ⌝ }
+// Whether the n bytes of a from s on stand at position i, and where they end.
+fn match_range(n: usize, a: &[u8], s: usize, text: &[u8], i: usize) -> Reach
+    ensures { λ r. ⌜ r ≡ matchRange n (now (a .entry)) s (now (text .entry)) i ⌝ }
 {
     if n <= monus(text.len(), i) {
         if same_range(n, a, s, text, i) {
@@ -57,24 +57,24 @@ fn along_range(n: usize, a: &[u8], s: usize, text: &[u8], i: usize) -> Reach
 }
 
 // Whether the name of symbol k does.
-fn along_name(sheet: &[u8], t: &[u32], k: u32, text: &[u8], i: usize) -> Reach
-    ensures { λ r. ⌜ r ≡ alongName (now (sheet .entry)) (now (t .entry)) k (now (text .entry)) i ⌝ }
+fn match_name(sheet: &[u8], t: &[u32], k: u32, text: &[u8], i: usize) -> Reach
+    ensures { λ r. ⌜ r ≡ matchName (now (sheet .entry)) (now (t .entry)) k (now (text .entry)) i ⌝ }
 {
     let n = name_size(sheet, t, k);
-    along_range(n, sheet, wide(name_start(t, k)), text, i)
+    match_range(n, sheet, widen(name_start(t, k)), text, i)
 }
 
 // Whether the term of name v in frame g does.
-fn along_slot(text: &[u8], w: &[u32], g: u32, v: u32, i: usize) -> Reach
-    ensures { λ r. ⌜ r ≡ alongSlot (now (text .entry)) (now (w .entry)) g v i ⌝ }
+fn match_slot(text: &[u8], w: &[u32], g: u32, v: u32, i: usize) -> Reach
+    ensures { λ r. ⌜ r ≡ matchSlot (now (text .entry)) (now (w .entry)) g v i ⌝ }
 {
-    let s = wide(slot_start(w, g, v));
-    let e = wide(slot_end(w, g, v));
-    along_range(monus(e, s), text, s, text, i)
+    let s = widen(slot_start(w, g, v));
+    let e = widen(slot_end(w, g, v));
+    match_range(monus(e, s), text, s, text, i)
 }
 
 // The bracket after the last child.
-fn along_close(text: &[u8], i: usize) -> Reach
+fn match_close(text: &[u8], i: usize) -> Reach
     ensures { λ r. ⌜ r ≡ cond (eqb (getD (now (text .entry)) i 0) 41) (Reach.To (i + 1)) Reach.Differs ⌝ }
 {
     if byte(text, i) == b')' {
@@ -83,8 +83,8 @@ fn along_close(text: &[u8], i: usize) -> Reach
     Reach::Differs
 }
 
-// Whether the instance stands at place i, and where it ends. The rank is above the node's number.
-fn along_instance(
+// Whether the instance stands at position i, and where it ends. The rank is above the node's number.
+fn match_instance(
     rank: u32,
     sheet: &[u8],
     t: &[u32],
@@ -93,7 +93,8 @@ fn along_instance(
     instance: Instance,
     i: usize,
 ) -> Reach
-    ensures { λ r. ⌜ r ≡ along rank (now (sheet .entry)) (now (t .entry)) (now (text .entry)) (now (w .entry)) (instance .frame) (instance .node) i ⌝ }
+    ensures { λ r. ⌜ r ≡ matchInstance rank (now (sheet .entry)) (now (t .entry)) (now (text .entry)) (now (w .entry)) (instance .frame)
+        (instance .node) i ⌝ }
 {
     if rank == 0 {
         return Reach::Differs;
@@ -101,9 +102,9 @@ fn along_instance(
     let m = instance.node;
     let name = label(t, m);
     if kind(t, m) == kinds::VARIABLE {
-        return along_slot(text, w, instance.frame, name, i);
+        return match_slot(text, w, instance.frame, name, i);
     }
-    let Reach::To(e) = along_name(sheet, t, name, text, i) else {
+    let Reach::To(e) = match_name(sheet, t, name, text, i) else {
         return Reach::Differs;
     };
     let mut left = child_count(t, m);
@@ -119,7 +120,7 @@ fn along_instance(
                 node: child(t, m, j),
                 frame: instance.frame,
             };
-            let Reach::To(p) = along_instance(rank - 1, sheet, t, text, w, part, at + 1) else {
+            let Reach::To(p) = match_instance(rank - 1, sheet, t, text, w, part, at + 1) else {
                 return Reach::Differs;
             };
             at = p;
@@ -130,7 +131,7 @@ fn along_instance(
             return Reach::Differs;
         }
     }
-    along_close(text, at)
+    match_close(text, at)
 }
 
 // Whether the term in the range of the text is the instance.
@@ -142,9 +143,11 @@ pub fn is_instance(
     range: Range,
     instance: Instance,
 ) -> bool
-    ensures { λ r. ⌜ r ≡ isInstance (now (sheet .entry)) (now (t .entry)) (now (text .entry)) (now (w .entry)) (range .start) (range .end) (instance .frame) (instance .node) ⌝ }
+    ensures { λ r. ⌜ r ≡ isInstance (now (sheet .entry)) (now (t .entry)) (now (text .entry)) (now (w .entry)) (range .start) (range .end)
+        (instance .frame) (instance .node) ⌝ }
 {
-    let Reach::To(i) = along_instance(limits::MAX_NODES, sheet, t, text, w, instance, range.start) else {
+    let Reach::To(i) = match_instance(limits::MAX_NODES, sheet, t, text, w, instance, range.start)
+    else {
         return false;
     };
     i == range.end

@@ -4,7 +4,7 @@ mod instance_ranges;
 mod name_classes;
 
 use memory::put;
-use memory::wide;
+use memory::widen;
 use name_classes::child_of;
 use name_classes::join_name;
 use name_classes::root_of;
@@ -46,7 +46,8 @@ fn same_elements(
     c: &mut [u32],
     pair: Pair,
 ) -> bool
-    ensures { λ r. ⌜ compared (now (c .exit)) r ≡ sameElements rank (now (sheet .entry)) (now (t .entry)) (now (text .entry)) (now (w .entry)) (pair .left) (pair .right) (now (c .entry)) (pair .first) (pair .second) ⌝ }
+    ensures { λ r. ⌜ compared (now (c .exit)) r ≡ sameElements rank (now (sheet .entry)) (now (t .entry)) (now (text .entry))
+        (now (w .entry)) (pair .left) (pair .right) (now (c .entry)) (pair .first) (pair .second) ⌝ }
 {
     if rank == 0 {
         return false;
@@ -94,7 +95,7 @@ fn same_elements(
                 return false;
             }
         }
-        put(c, wide(a), b);
+        put(c, widen(a), b);
         return true;
     }
     false
@@ -109,7 +110,8 @@ pub fn same_atoms(
     left: Instance,
     right: Instance,
 ) -> bool
-    ensures { λ r. ⌜ r ≡ sameAtoms (now (sheet .entry)) (now (t .entry)) (now (text .entry)) (now (w .entry)) (left .frame) (right .frame) (left .node) (right .node) ⌝ }
+    ensures { λ r. ⌜ r ≡ sameAtoms (now (sheet .entry)) (now (t .entry)) (now (text .entry)) (now (w .entry)) (left .frame) (right .frame)
+        (left .node) (right .node) ⌝ }
 {
     let mut c = [0u32; class_elements::COUNT];
     let atoms = Pair {

@@ -1,11 +1,14 @@
 // The classes of names that stand for one term: their roots, and joining a name to a class (union-find).
+use super::Instance;
+use super::Pair;
 use super::frames::slot_end;
 use super::frames::slot_start;
+use super::instance_ranges::Range;
 use super::instance_ranges::is_instance;
 use super::instance_ranges::same_slots;
 use memory::get;
 use memory::put;
-use memory::wide;
+use memory::widen;
 use node_table::child;
 use node_table::kind;
 use node_table::kinds;
@@ -14,11 +17,8 @@ use scanning::class_elements;
 use sheet_format::limits;
 ghost use mathlib.Core.Path.{_≡_};
 ghost use Prim.Native.Nat.{_+_, _-_, _<_};
-ghost use Rattle.scanning.specs.Classes.{elementOf, elementChild, frameOn, rooted, rootOf};
+ghost use Rattle.scanning.specs.Classes.{elementOf, elementChild, sideFrame, rooted, rootOf};
 ghost use Rattle.scanning.specs.Instances.{compared, startOf, endOf, sameName, joinName};
-use super::Instance;
-use super::Pair;
-use super::instance_ranges::Range;
 
 // The element of node m on side s.
 fn element_of(t: &[u32], s: u32, m: u32) -> u32
@@ -45,15 +45,15 @@ pub fn root_of(c: &mut [u32], i: u32) -> u32
     let mut at = i;
     let mut left: u32 = class_elements::ROOT_STEPS;
     while 0 < left {
-        let p = get(c, wide(at));
+        let p = get(c, widen(at));
         if p == 0 {
             return at;
         }
-        let q = get(c, wide(p));
+        let q = get(c, widen(p));
         if q == 0 {
             return p;
         }
-        put(c, wide(at), q);
+        put(c, widen(at), q);
         at = q;
         left -= 1;
     }
@@ -61,8 +61,8 @@ pub fn root_of(c: &mut [u32], i: u32) -> u32
 }
 
 // The frame of side s.
-fn frame_on(f: u32, g: u32, s: u32) -> u32
-    ensures { λ r. ⌜ r ≡ frameOn f g s ⌝ }
+fn side_frame(f: u32, g: u32, s: u32) -> u32
+    ensures { λ r. ⌜ r ≡ sideFrame f g s ⌝ }
 {
     if s == 0 {
         return f;
@@ -74,18 +74,19 @@ fn frame_on(f: u32, g: u32, s: u32) -> u32
 fn start_of(w: &[u32], f: u32, g: u32, i: u32) -> usize
     ensures { λ r. ⌜ r ≡ startOf (now (w .entry)) f g i ⌝ }
 {
-    wide(slot_start(w, frame_on(f, g, i % 2), i / 2 % limits::VARIABLE_NAMES))
+    widen(slot_start(w, side_frame(f, g, i % 2), i / 2 % limits::VARIABLE_NAMES))
 }
 
 fn end_of(w: &[u32], f: u32, g: u32, i: u32) -> usize
     ensures { λ r. ⌜ r ≡ endOf (now (w .entry)) f g i ⌝ }
 {
-    wide(slot_end(w, frame_on(f, g, i % 2), i / 2 % limits::VARIABLE_NAMES))
+    widen(slot_end(w, side_frame(f, g, i % 2), i / 2 % limits::VARIABLE_NAMES))
 }
 
 // Whether the first element, a name, has the term of the second.
 fn same_name(sheet: &[u8], t: &[u32], text: &[u8], w: &[u32], pair: Pair) -> bool
-    ensures { λ r. ⌜ r ≡ sameName (now (sheet .entry)) (now (t .entry)) (now (text .entry)) (now (w .entry)) (pair .left) (pair .right) (pair .first) (pair .second) ⌝ }
+    ensures { λ r. ⌜ r ≡ sameName (now (sheet .entry)) (now (t .entry)) (now (text .entry)) (now (w .entry)) (pair .left) (pair .right)
+        (pair .first) (pair .second) ⌝ }
 {
     let f = pair.left;
     let g = pair.right;
@@ -104,17 +105,18 @@ fn same_name(sheet: &[u8], t: &[u32], text: &[u8], w: &[u32], pair: Pair) -> boo
     }
     let instance = Instance {
         node: j / 2 % limits::MAX_NODES,
-        frame: frame_on(f, g, j % 2),
+        frame: side_frame(f, g, j % 2),
     };
     is_instance(sheet, t, text, w, range, instance)
 }
 
 // The same; if so, the name joins the class of the second element.
 pub fn join_name(sheet: &[u8], t: &[u32], text: &[u8], w: &[u32], c: &mut [u32], pair: Pair) -> bool
-    ensures { λ r. ⌜ compared (now (c .exit)) r ≡ joinName (now (sheet .entry)) (now (t .entry)) (now (text .entry)) (now (w .entry)) (pair .left) (pair .right) (now (c .entry)) (pair .first) (pair .second) ⌝ }
+    ensures { λ r. ⌜ compared (now (c .exit)) r ≡ joinName (now (sheet .entry)) (now (t .entry)) (now (text .entry)) (now (w .entry))
+        (pair .left) (pair .right) (now (c .entry)) (pair .first) (pair .second) ⌝ }
 {
     if same_name(sheet, t, text, w, pair) {
-        put(c, wide(pair.first), pair.second);
+        put(c, widen(pair.first), pair.second);
         return true;
     }
     false

@@ -32,42 +32,50 @@ use Rattle.scanning.specs.declared.Number.{Number}
 use Rattle.scanning.specs.declared.Number.the-variants.{Value, Missing}
 use Rattle.scanning.specs.declared.Scan.{Scan}
 use Rattle.scanning.specs.declared.Scan.the-variants.{Term as Scanned, Malformed}
-use Rattle.scanning.specs.Ranges.{readNumber}
+use Rattle.scanning.specs.Ranges.{scanNumber}
 use Rattle.scanning.specs.Frames.{bindFrame}
-use Rattle.scanning.proofs.Places.{byte-is, drop-next, drop-past}
+use Rattle.scanning.proofs.Positions.{byte-is, drop-next, drop-past}
 use Rattle.scanning.proofs.Ranges.{begins}
-use Rattle.scanning.proofs.Placed.{Placed, spelling-injective}
+use Rattle.scanning.proofs.TermsInText.{SpelledAt, spelling-injective}
 use Rattle.scanning.proofs.Records.{Room}
 use Rattle.scanning.proofs.Frames.{frame-bind}
-use Rattle.scanning.proofs.Marks.{read-decimal}
-use Rattle.scanning.proofs.Along.{Frame, frame-fewer}
+use Rattle.scanning.proofs.SymbolsInText.{read-decimal}
+use Rattle.scanning.proofs.InstanceSpelling.{Frame, frame-fewer}
 use Rattle.line_checking.specs.declared.Registers.{Registers}
-use Rattle.line_checking.specs.Sequents.{Made, made, broken, onBinding, onSequent, freeFrom as nextFree, boundFrom, bound, brokenStage}
-use Rattle.line_checking.specs.Bindings.{beginsWith, openWith, openUnits, openLine, bindWith, bindTerm, bindsVariable, bindLine}
+use Rattle.line_checking.specs.Sequents.{Made, made, broken, withBinding, withSequent, freeFrom as nextFree, boundFrom, bound}
+use Rattle.line_checking.specs.Sequents.{brokenStage}
+use Rattle.line_checking.specs.Bindings.{beginsWith, checkResultWith, checkUnits, checkResult, bindWith, bindTerm, bindsVariable}
+use Rattle.line_checking.specs.Bindings.{bindLine}
 use Rattle.line_checking.proofs.Lines.{bytes-result, bytes-binding, decimal-one, isWord, wordByte}
-use Rattle.line_checking.proofs.Holds.{Setting, declared, sheetOf, Filled, names-of, HypothesesAt, SequentsAt, BindingAt, Holds}
-use Rattle.line_checking.proofs.Results.{Result, is-wrong, either-side, begins-with, word-there, word-absent, no-more, ReadsNumber, number-there}
+use Rattle.line_checking.proofs.Representation.{Setting, declared, sheetOf, Filled, names-of, HypothesesAt, SequentsAt, BindingAt}
+use Rattle.line_checking.proofs.Representation.{Holds}
+use Rattle.line_checking.proofs.Results.{Result, is-wrong, either-side, begins-with, word-there, word-absent, no-more, ReadsNumber}
+use Rattle.line_checking.proofs.Results.{number-there}
 use Rattle.line_checking.proofs.Terms.{scanAt, TermCase, is-term, no-term, term-case}
 
 -- registers after B lines
 
--- none is a broken stage
+-- The stage after B lines is not the broken stage.
 pub bound-stage : (t : List ℕ) (goal : ℕ) (r : Registers) (v f : ℕ) → bound t goal r v f .stage ≡ brokenStage → ⊥
-unfolding bound boundFrom onBinding onSequent
-bound-stage t goal r v f = either-side (λ (s : Registers). s .stage ≡ brokenStage → ⊥) (ltb (nextFree (8 - v) (maskOf t goal) v) 8) _ _ (λ h e. omega arith) (λ h e. omega arith)
+unfolding bound boundFrom withBinding withSequent
+bound-stage t goal r v f =
+    either-side (λ (s : Registers). s .stage ≡ brokenStage → ⊥) (ltb (nextFree (8 - v) (maskOf t goal) v) 8) _ _ (λ h e. omega arith)
+    (λ h e. omega arith)
 
--- the counts stay
+-- The count of made constants stays after B lines.
 pub bound-made : (t : List ℕ) (goal : ℕ) (r : Registers) (v f : ℕ) → bound t goal r v f .made ≡ r .made
-unfolding bound boundFrom onBinding onSequent
-bound-made t goal r v f = either-side (λ (s : Registers). s .made ≡ r .made) (ltb (nextFree (8 - v) (maskOf t goal) v) 8) _ _ (λ h. refl) (λ h. refl)
+unfolding bound boundFrom withBinding withSequent
+bound-made t goal r v f =
+    either-side (λ (s : Registers). s .made ≡ r .made) (ltb (nextFree (8 - v) (maskOf t goal) v) 8) _ _ (λ h. refl) (λ h. refl)
 
--- both of them
+-- The count of leftover variables stays after B lines.
 pub bound-leftover : (t : List ℕ) (goal : ℕ) (r : Registers) (v f : ℕ) → bound t goal r v f .leftover ≡ r .leftover
-unfolding bound boundFrom onBinding onSequent
-bound-leftover t goal r v f = either-side (λ (s : Registers). s .leftover ≡ r .leftover) (ltb (nextFree (8 - v) (maskOf t goal) v) 8) _ _ (λ h. refl) (λ h. refl)
+unfolding bound boundFrom withBinding withSequent
+bound-leftover t goal r v f =
+    either-side (λ (s : Registers). s .leftover ≡ r .leftover) (ltb (nextFree (8 - v) (maskOf t goal) v) 8) _ _ (λ h. refl) (λ h. refl)
 
 module _ (c : Setting) (filled : Filled c) where
-  -- the goal
+  -- This is the goal of the sheet.
   abbrev G : Goal
   G = goalAt (c .table) (c .goal)
 
@@ -75,10 +83,10 @@ module _ (c : Setting) (filled : Filled c) where
   abbrev Before : ℕ → ℕ → Bool
   Before v u = freeG G u && ltb u v
 
-  -- the goal is due, all its free variables having their terms
+  -- The goal is due where all its free variables have their terms.
   goal-due : (k : ℕ) (w : List ℕ) (r : Registers) (f : ℕ) (e : Environment Symbol) → f < k → Frame (declared c) (c .text) w f e (Before 8)
-      → Holds c k w (onSequent r (c .goal) f 0 0 0) (boundStage (sheetOf c) [] e)
-  unfolding Holds boundStage onSequent SequentsAt HypothesesAt sheetOf decodeSheet instanceOf sheetProgram
+      → Holds c k w (withSequent r (c .goal) f 0 0 0) (boundStage (sheetOf c) [] e)
+  unfolding Holds boundStage withSequent SequentsAt HypothesesAt sheetOf decodeSheet instanceOf sheetProgram
   goal-due k w r f e l h = (
     refl,
     record {
@@ -94,10 +102,11 @@ module _ (c : Setting) (filled : Filled c) where
     refl,
   )
 
-  -- of n variables from v on
-  bound-from : (n v : ℕ) (k : ℕ) (w : List ℕ) (r : Registers) (f : ℕ) (e : Environment Symbol) → v + n ≡ 8 → f < k → Frame (declared c) (c .text) w f e (Before v)
+  -- Of n variables from v on, B lines are due for those that stand free in the goal.
+  bound-from : (n v : ℕ) (k : ℕ) (w : List ℕ) (r : Registers) (f : ℕ) (e : Environment Symbol) → v + n ≡ 8 → f < k
+      → Frame (declared c) (c .text) w f e (Before v)
       → Holds c k w (boundFrom (c .goal) r (nextFree n (maskOf (c .table) (c .goal)) v) f) (boundStage (sheetOf c) (freeFrom n v G) e)
-  unfolding boundFrom nextFree freeFrom boundStage Holds onBinding
+  unfolding boundFrom nextFree freeFrom boundStage Holds withBinding
   bound-from zero v k w r f e s l h =
       let q : v ≡ 8 = omega arith in
       rw q (goal-due k w r f e l (subst (λ (z : ℕ). Frame (declared c) (c .text) w f e (Before z)) q h))
@@ -108,8 +117,11 @@ module _ (c : Setting) (filled : Filled c) where
       R : ℕ → Stage → Type 0
       R u a = Holds c k w (boundFrom (c .goal) r u f) a
 
-      go : (z : Bool) → freeG G v ≡ z → (Frame (declared c) (c .text) w f e (Before (suc v)) → R (nextFree n (maskOf (c .table) (c .goal)) (suc v)) (boundStage (sheetOf c) (freeFrom n (suc v) G) e))
-          → R (cond z v (nextFree n (maskOf (c .table) (c .goal)) (v + 1))) (boundStage (sheetOf c) (elim z as (λ b. List ℕ) [ true ↦ v ∷ freeFrom n (suc v) G | false ↦ freeFrom n (suc v) G ]) e)
+      go : (z : Bool) → freeG G v ≡ z
+          → (Frame (declared c) (c .text) w f e (Before (suc v))
+          → R (nextFree n (maskOf (c .table) (c .goal)) (suc v)) (boundStage (sheetOf c) (freeFrom n (suc v) G) e))
+          → R (cond z v (nextFree n (maskOf (c .table) (c .goal)) (v + 1)))
+          (boundStage (sheetOf c) (elim z as (λ b. List ℕ) [ true ↦ v ∷ freeFrom n (suc v) G | false ↦ freeFrom n (suc v) G ]) e)
       go true p ih =
           rw (lt-ltb v 8 (omega arith)) (record {
             stage = refl;
@@ -132,7 +144,8 @@ module _ (c : Setting) (filled : Filled c) where
               smaller false y i j = let d = eqb-false u v y in omega arith
 
   -- The stage after B lines for the variables below v.
-  pub bound-holds : (n v : ℕ) (k : ℕ) (w : List ℕ) (r : Registers) (f : ℕ) (e : Environment Symbol) → v + n ≡ 8 → f < k → Frame (declared c) (c .text) w f e (Before v)
+  pub bound-holds : (n v : ℕ) (k : ℕ) (w : List ℕ) (r : Registers) (f : ℕ) (e : Environment Symbol) → v + n ≡ 8 → f < k
+      → Frame (declared c) (c .text) w f e (Before v)
       → Holds c k w (bound (c .table) (c .goal) r v f) (boundStage (sheetOf c) (freeFrom n v G) e)
   unfolding bound
   bound-holds n v k w r f e s l h =
@@ -141,20 +154,22 @@ module _ (c : Setting) (filled : Filled c) where
 
   -- the R line
 
-  -- only an R line can be right before it
-  only-result : (l : List ℕ) → ((n : ℕ) → l ≡ ascii "R\tproved\t" ++ decimal n → n ≤ maxNumber → allow (sheetOf c) (resultLine n) opening ≡ none)
+  -- At the opening stage only an R line can be right.
+  only-result : (l : List ℕ) → ((n : ℕ) → l ≡ ascii "R\tproved\t" ++ decimal n → n ≤ maxNumber
+      → allow (sheetOf c) (resultLine n) opening ≡ none)
       → (line : TextLine) → l ≡ lineBytes (declared c) line → Writable (declared c) line → allow (sheetOf c) line opening ≡ none
   unfolding allow Writable
   only-result l h (resultLine n) e w = h n (e ∙ bytes-result (declared c) n) w
   only-result l h (bindingLine v t) e w = refl
   only-result l h (derivationLine d) e w = refl
 
-  -- what the first line does
+  -- `resultLine` finds whether the first line is right or wrong.
   pub open-result : (q : ℕ) (w l rest : List ℕ) (i e : ℕ) (r : Registers) → drop i (c .text) ≡ l ++ (lf ∷ rest) → e ≡ i + length l
-      → Result c q l opening r (openLine (c .table) (c .goal) (c .text) w r i e)
-  unfolding openLine openUnits openWith allow ascii isWord wordByte isDigit Holds boundStage bound boundFrom onBinding onSequent freeVariables Writable sheetOf decodeSheet
+      → Result c q l opening r (checkResult (c .table) (c .goal) (c .text) w r i e)
+  unfolding checkResult checkUnits checkResultWith allow ascii isWord wordByte isDigit Holds boundStage bound boundFrom withBinding
+      withSequent freeVariables Writable sheetOf decodeSheet
   open-result q w l rest i e r d k =
-      either-side R (beginsWith word (c .text) i) (openUnits (c .table) (c .goal) (c .text) (i + 9) w r e) (broken w r)
+      either-side R (beginsWith word (c .text) i) (checkUnits (c .table) (c .goal) (c .text) (i + 9) w r e) (broken w r)
       (λ b. let s = word-there word (c .text) i l rest refl d b in units (s .0) (s .1) (s .2))
       (λ b. is-wrong c q l opening w r r (only-result l (λ n p u. absurd (word-absent word (c .text) i l rest (decimal n) refl d b p))))
     where
@@ -164,28 +179,36 @@ module _ (c : Setting) (filled : Filled c) where
       R : Made → Type 0
       R = Result c q l opening r
 
-      -- an R line with the number n is read so
-      reading : (n : ℕ) → l ≡ word ++ decimal n → n ≤ maxNumber → readNumber (c .text) (i + 9) ≡ Value n e
+      -- An R line with the number n is read as that number up to its end.
+      reading : (n : ℕ) → l ≡ word ++ decimal n → n ≤ maxNumber → scanNumber (c .text) (i + 9) ≡ Value n e
       reading n p u =
-          let y : drop (i + 9) (c .text) ≡ decimal n ++ (lf ∷ rest) = drop-past (c .text) i word (decimal n ++ (lf ∷ rest)) (d ∙ ap (_++ (lf ∷ rest)) p ∙ append-assoc word (decimal n) (lf ∷ rest)) in
+          let y : drop (i + 9) (c .text) ≡ decimal n ++ (lf ∷ rest) =
+          drop-past (c .text) i word (decimal n ++ (lf ∷ rest)) (d ∙ ap (_++ (lf ∷ rest)) p ∙ append-assoc word (decimal n) (lf ∷ rest)) in
           let z : i + 9 + length (decimal n) ≡ e = (let a = ap length p ∙ length-append word (decimal n) in omega arith) in
           read-decimal (c .text) (i + 9) n (lf ∷ rest) y u refl ∙ ap (Value n) z
 
-      -- so that no other R line fits
-      wrong : (n j : ℕ) → readNumber (c .text) (i + 9) ≡ Value n j → (eqb j e ≡ false) ⊎ ((leb 1 n && leb n maxBudget) ≡ false) → R (broken w r)
+      -- A line whose number does not end with the line, or is out of range, is wrong.
+      wrong : (n j : ℕ) → scanNumber (c .text) (i + 9) ≡ Value n j → (eqb j e ≡ false) ⊎ ((leb 1 n && leb n maxBudget) ≡ false)
+          → R (broken w r)
       wrong n j h f = is-wrong c q l opening w r r (only-result l (λ k p u. unfit k (sym h ∙ reading k p u) f))
         where
-          unfit : (k : ℕ) → Value n j ≡ Value k e → (eqb j e ≡ false) ⊎ ((leb 1 n && leb n maxBudget) ≡ false) → allow (sheetOf c) (resultLine k) opening ≡ none
+          unfit : (k : ℕ) → Value n j ≡ Value k e → (eqb j e ≡ false) ⊎ ((leb 1 n && leb n maxBudget) ≡ false)
+              → allow (sheetOf c) (resultLine k) opening ≡ none
           unfit k y (inl z) = absurd (eqb-false j e z (let o : j ≡ e = cc in o))
-          unfit k y (inr z) = ap (λ (b : Bool). cond b (some (boundStage (sheetOf c) (freeVariables (sheetOf c .goal)) blank)) none) (ap (λ (o : ℕ). leb 1 o && leb o maxBudget) (let o : k ≡ n = cc in o) ∙ z)
+          unfit k y (inr z) =
+              ap (λ (b : Bool). cond b (some (boundStage (sheetOf c) (freeVariables (sheetOf c .goal)) blank)) none)
+              (ap (λ (o : ℕ). leb 1 o && leb o maxBudget) (let o : k ≡ n = cc in o) ∙ z)
 
-      right : (m : List ℕ) (n : ℕ) → l ≡ word ++ m → m ≡ decimal n → n ≤ maxNumber → leb 1 n ≡ true → leb n maxBudget ≡ true → R (made w (bound (c .table) (c .goal) r 0 0))
+      right : (m : List ℕ) (n : ℕ) → l ≡ word ++ m → m ≡ decimal n → n ≤ maxNumber → leb 1 n ≡ true → leb n maxBudget ≡ true
+          → R (made w (bound (c .table) (c .goal) r 0 0))
       right m n p o u a b = inl (record {
         line = resultLine n;
         spelled = p ∙ ap (word ++_) o ∙ sym (bytes-result (declared c) n);
         writable = u;
         after = boundStage (sheetOf c) (freeVariables (sheetOf c .goal)) blank;
-        allowed = ap (λ (z : Bool). cond z (some (boundStage (sheetOf c) (freeVariables (sheetOf c .goal)) blank)) none) (and-both (leb 1 n) (leb n maxBudget) a b);
+        allowed =
+            ap (λ (z : Bool). cond z (some (boundStage (sheetOf c) (freeVariables (sheetOf c .goal)) blank)) none)
+            (and-both (leb 1 n) (leb n maxBudget) a b);
         holds = bound-holds 8 0 (suc q) w r 0 blank (omega arith) (omega arith) (λ v y g. absurd (nobody v g));
         goes-on = bound-stage (c .table) (c .goal) r 0 0;
         same-made = bound-made (c .table) (c .goal) r 0 0;
@@ -195,7 +218,7 @@ module _ (c : Setting) (filled : Filled c) where
           nobody : (v : ℕ) → Before 0 v ≡ true → ⊥
           nobody v g = let y = ltb-true v 0 (and-parts (freeG G v) (ltb v 0) g .1) in omega arith
 
-      -- the number is all that is left of the line
+      -- The number is all that is left of the line.
       whole : (m : List ℕ) (n j : ℕ) → ReadsNumber (c .text) (i + 9) m rest n j → l ≡ word ++ m → j ≡ e → m ≡ decimal n
       whole m n j s p f =
           let a = s .end in
@@ -203,11 +226,16 @@ module _ (c : Setting) (filled : Filled c) where
           let o = ap length (s .spelled) in
           s .spelled ∙ ap (decimal n ++_) (no-more (decimal n) (s .more) (i + 9) e (omega arith) (omega arith)) ∙ append-nil (decimal n)
 
-      units : (m : List ℕ) → l ≡ word ++ m → drop (i + 9) (c .text) ≡ m ++ (lf ∷ rest) → R (openUnits (c .table) (c .goal) (c .text) (i + 9) w r e)
-      units m p y = go (readNumber (c .text) (i + 9)) refl
+      units : (m : List ℕ) → l ≡ word ++ m → drop (i + 9) (c .text) ≡ m ++ (lf ∷ rest)
+          → R (checkUnits (c .table) (c .goal) (c .text) (i + 9) w r e)
+      units m p y = go (scanNumber (c .text) (i + 9)) refl
         where
-          go : (o : Number) → readNumber (c .text) (i + 9) ≡ o → R (elim o as (λ z. Made) [ Value n j ↦ openWith (c .table) (c .goal) w r n j e | Missing ↦ broken w r ])
-          go Missing h = is-wrong c q l opening w r r (only-result l (λ n o u. absurd (let z : Missing ≡ Value n e = sym h ∙ reading n o u in let v : _≡_ {A = ℕ} 0 1 = cc in omega arith)))
+          go : (o : Number) → scanNumber (c .text) (i + 9) ≡ o
+              → R (elim o as (λ z. Made) [ Value n j ↦ checkResultWith (c .table) (c .goal) w r n j e | Missing ↦ broken w r ])
+          go Missing h =
+              is-wrong c q l opening w r r
+              (only-result l (λ n o u. absurd (let z : Missing ≡ Value n e = sym h
+              ∙ reading n o u in let v : _≡_ {A = ℕ} 0 1 = cc in omega arith)))
           go (Value n j) h =
               let s = number-there (c .text) (i + 9) m rest n j y h in
               either-side R (eqb j e) _ (broken w r)
@@ -220,7 +248,7 @@ module _ (c : Setting) (filled : Filled c) where
 
 -- a B line's beginning
 
--- the line begins with `B`, the variable and tabs
+-- If `bindsVariable` is true, the line begins with `B`, the variable and tabs.
 pub binds-there : (x : List ℕ) (i v : ℕ) (l r : List ℕ) → drop i x ≡ l ++ (lf ∷ r) → bindsVariable x i v ≡ true
     → (m : List ℕ) × (l ≡ ascii "B\t" ++ ((48 + v) ∷ 9 ∷ m)) × (drop (i + 4) x ≡ m ++ (lf ∷ r))
 unfolding bindsVariable ascii isWord wordByte
@@ -233,11 +261,18 @@ binds-there x i v l r d h = go (beginsWith (ascii "B\t") x i) refl h
     tab [] p y q = absurd (true≢false (sym q ∙ ap (λ (z : ℕ). eqb z 9) (byte-is x (i + 3) lf r y)))
     tab (a ∷ m) p y q =
         let z : a ≡ 9 = sym (byte-is x (i + 3) a (m ++ (lf ∷ r)) y) ∙ eqb-true (getD x (i + 3) 0) 9 q in
-        let j : i + 3 + 1 ≡ i + 4 = omega arith in
-        (m, p ∙ ap (λ (u : ℕ). ascii "B\t" ++ ((48 + v) ∷ u ∷ m)) z, ap (λ (u : ℕ). drop u x) (sym j) ∙ drop-next x (i + 3) a (m ++ (lf ∷ r)) y)
+        let j : i + 3 + 1 ≡ i + 4 = omega arith in (
+          m,
+          p ∙ ap (λ (u : ℕ). ascii "B\t" ++ ((48 + v) ∷ u ∷ m)) z,
+          ap (λ (u : ℕ). drop u x) (sym j)
+              ∙ drop-next x (i + 3) a (m ++ (lf ∷ r)) y,
+        )
 
-    digit : (m : List ℕ) → l ≡ ascii "B\t" ++ m → drop (i + 2) x ≡ m ++ (lf ∷ r) → cond (eqb (getD x (i + 2) 0) (48 + v)) (eqb (getD x (i + 3) 0) 9) false ≡ true → R
-    digit [] p y q = absurd (true≢false (sym q ∙ ap (λ (z : ℕ). cond (eqb z (48 + v)) (eqb (getD x (i + 3) 0) 9) false) (byte-is x (i + 2) lf r y) ∙ rw (ne-eqb lf (48 + v) (λ z. omega arith))))
+    digit : (m : List ℕ) → l ≡ ascii "B\t" ++ m → drop (i + 2) x ≡ m ++ (lf ∷ r)
+        → cond (eqb (getD x (i + 2) 0) (48 + v)) (eqb (getD x (i + 3) 0) 9) false ≡ true → R
+    digit [] p y q =
+        absurd (true≢false (sym q ∙ ap (λ (z : ℕ). cond (eqb z (48 + v)) (eqb (getD x (i + 3) 0) 9) false) (byte-is x (i + 2) lf r y)
+        ∙ rw (ne-eqb lf (48 + v) (λ z. omega arith))))
     digit (a ∷ m) p y q = test (eqb (getD x (i + 2) 0) (48 + v)) refl q
       where
         test : (b : Bool) → eqb (getD x (i + 2) 0) (48 + v) ≡ b → cond b (eqb (getD x (i + 3) 0) 9) false ≡ true → R
@@ -245,39 +280,51 @@ binds-there x i v l r d h = go (beginsWith (ascii "B\t") x i) refl h
         test true u z =
             let n : a ≡ 48 + v = sym (byte-is x (i + 2) a (m ++ (lf ∷ r)) y) ∙ eqb-true (getD x (i + 2) 0) (48 + v) u in
             let j : i + 2 + 1 ≡ i + 3 = omega arith in
-            tab m (p ∙ ap (λ (k : ℕ). ascii "B\t" ++ (k ∷ m)) n) (ap (λ (k : ℕ). drop k x) (sym j) ∙ drop-next x (i + 2) a (m ++ (lf ∷ r)) y) z
+            tab m (p ∙ ap (λ (k : ℕ). ascii "B\t" ++ (k ∷ m)) n) (ap (λ (k : ℕ). drop k x) (sym j)
+            ∙ drop-next x (i + 2) a (m ++ (lf ∷ r)) y) z
 
-    go : (b : Bool) → beginsWith (ascii "B\t") x i ≡ b → cond b (cond (eqb (getD x (i + 2) 0) (48 + v)) (eqb (getD x (i + 3) 0) 9) false) false ≡ true → R
+    go : (b : Bool) → beginsWith (ascii "B\t") x i ≡ b
+        → cond b (cond (eqb (getD x (i + 2) 0) (48 + v)) (eqb (getD x (i + 3) 0) 9) false) false ≡ true → R
     go false p q = absurd (true≢false (sym q))
     go true p q = let s = word-there (ascii "B\t") x i l r refl d p in digit (s .0) (s .1) (s .2) q
 
--- or it does not
-pub binds-absent : (x : List ℕ) (i v : ℕ) (l r m : List ℕ) → drop i x ≡ l ++ (lf ∷ r) → bindsVariable x i v ≡ false → l ≡ ascii "B\t" ++ ((48 + v) ∷ 9 ∷ m) → ⊥
+-- If `bindsVariable` is false, the line does not begin with `B`, the variable and tabs.
+pub binds-absent : (x : List ℕ) (i v : ℕ) (l r m : List ℕ) → drop i x ≡ l ++ (lf ∷ r) → bindsVariable x i v ≡ false
+    → l ≡ ascii "B\t" ++ ((48 + v) ∷ 9 ∷ m) → ⊥
 unfolding bindsVariable ascii isWord wordByte begins
 binds-absent x i v l r m d h p =
     let a : drop i x ≡ 66 ∷ 9 ∷ (48 + v) ∷ 9 ∷ (m ++ (lf ∷ r)) = d ∙ ap (_++ (lf ∷ r)) p in
     let b : drop (i + 2) x ≡ (48 + v) ∷ 9 ∷ (m ++ (lf ∷ r)) = drop-past x i (ascii "B\t") ((48 + v) ∷ 9 ∷ (m ++ (lf ∷ r))) a in
     let j : i + 2 + 1 ≡ i + 3 = omega arith in
-    let e : drop (i + 3) x ≡ 9 ∷ (m ++ (lf ∷ r)) = ap (λ (k : ℕ). drop k x) (sym j) ∙ drop-next x (i + 2) (48 + v) (9 ∷ (m ++ (lf ∷ r))) b in
+    let e : drop (i + 3) x ≡ 9 ∷ (m ++ (lf ∷ r)) = ap (λ (k : ℕ). drop k x) (sym j)
+    ∙ drop-next x (i + 2) (48 + v) (9 ∷ (m ++ (lf ∷ r))) b in
     let f : beginsWith (ascii "B\t") x i ≡ true = begins-with (ascii "B\t") x i refl ∙ ap (begins (ascii "B\t")) a in
-    true≢false (sym (rw (f, byte-is x (i + 2) (48 + v) (9 ∷ (m ++ (lf ∷ r))) b, eq-eqb (48 + v) (48 + v) refl, byte-is x (i + 3) 9 (m ++ (lf ∷ r)) e)) ∙ h)
+    true≢false
+    (sym (rw (
+      f,
+      byte-is x (i + 2) (48 + v) (9 ∷ (m ++ (lf ∷ r))) b,
+      eq-eqb (48 + v) (48 + v) refl,
+      byte-is x (i + 3) 9 (m ++ (lf ∷ r)) e,
+    )) ∙ h)
 
-module _ (c : Setting) (filled : Filled c) (q : ℕ) (w : List ℕ) (room : Room q w) (r : Registers) (v : ℕ) (vs : List ℕ) (f : Environment Symbol) (at : BindingAt c q w r v vs f)
+module _ (c : Setting) (filled : Filled c) (q : ℕ) (w : List ℕ) (room : Room q w) (r : Registers) (v : ℕ) (vs : List ℕ)
+    (f : Environment Symbol) (at : BindingAt c q w r v vs f)
     (l rest : List ℕ) (i e : ℕ) (here : drop i (c .text) ≡ l ++ (lf ∷ rest)) (end : e ≡ i + length l) where
-  -- the declared symbols
+  -- The declared symbols are those of the table.
   abbrev ds : List Declaration
   ds = declared c
 
-  -- the stage
+  -- This is the stage with B lines due for v and vs.
   abbrev a : Stage
   a = bindings (v ∷ vs) f
 
-  -- they have proper names
+  -- The declared symbols have proper names.
   names : Names ds
   names = names-of c filled
 
-  -- only a B line for the variable that is due can be right
-  only-binding : ((t : Ground) → l ≡ ascii "B\t" ++ ((48 + v) ∷ 9 ∷ spellTerm t ds) → WritableTerm t ds → allow (sheetOf c) (bindingLine v t) a ≡ none)
+  -- Only a B line for the variable that is due can be right.
+  only-binding : ((t : Ground) → l ≡ ascii "B\t" ++ ((48 + v) ∷ 9 ∷ spellTerm t ds) → WritableTerm t ds
+      → allow (sheetOf c) (bindingLine v t) a ≡ none)
       → (line : TextLine) → l ≡ lineBytes ds line → Writable ds line → allow (sheetOf c) line a ≡ none
   unfolding allow Writable
   only-binding h (resultLine n) p y = refl
@@ -289,26 +336,33 @@ module _ (c : Setting) (filled : Filled c) (q : ℕ) (w : List ℕ) (room : Room
       go true z =
           let k = eqb-true u v z in
           sym (ap (λ (b : Bool). cond (b && leb (level t) 0) (some (boundStage (sheetOf c) vs (update f v t))) none) (eq-eqb v v refl))
-          ∙ h t (p ∙ bytes-binding ds u t ∙ ap (λ (s : List ℕ). ascii "B\t" ++ (s ++ (9 ∷ spellTerm t ds))) (ap decimal k ∙ decimal-one v (at .small))) (y .1)
+          ∙ h t (p ∙ bytes-binding ds u t ∙ ap (λ (s : List ℕ). ascii "B\t" ++ (s ++ (9 ∷ spellTerm t ds))) (ap decimal k
+          ∙ decimal-one v (at .small))) (y .1)
 
-  -- a term that fits
-  fits : (t : Ground) (m : List ℕ) → l ≡ ascii "B\t" ++ ((48 + v) ∷ 9 ∷ m) → m ≡ spellTerm t ds → Placed ds (c .text) (i + 4) e t → level t ≡ 0
+  -- A line whose term has level 0 is right.
+  fits : (t : Ground) (m : List ℕ) → l ≡ ascii "B\t" ++ ((48 + v) ∷ 9 ∷ m) → m ≡ spellTerm t ds → SpelledAt ds (c .text) (i + 4) e t
+      → level t ≡ 0
       → Result c q l a r (made (bindFrame w q (r .frame) (r .node) (i + 4) e) (bound (c .table) (c .goal) r (r .node + 1) q))
   unfolding allow Writable
   fits t m p y s k =
-      subst (λ (u : ℕ). Result c q l a r (made (bindFrame w q (r .frame) u (i + 4) e) (bound (c .table) (c .goal) r (u + 1) q))) (sym (at .variable))
+      subst (λ (u : ℕ). Result c q l a r (made (bindFrame w q (r .frame) u (i + 4) e) (bound (c .table) (c .goal) r (u + 1) q)))
+      (sym (at .variable))
       (rw (add-one v) (inl (record {
         line = bindingLine v t;
         spelled = p ∙ ap (λ (u : List ℕ). ascii "B\t" ++ ((48 + v) ∷ 9 ∷ u)) y
-            ∙ ap (λ (u : List ℕ). ascii "B\t" ++ (u ++ (9 ∷ spellTerm t ds))) (sym (decimal-one v (at .small))) ∙ sym (bytes-binding ds v t);
+            ∙ ap (λ (u : List ℕ). ascii "B\t" ++ (u ++ (9 ∷ spellTerm t ds))) (sym (decimal-one v (at .small)))
+            ∙ sym (bytes-binding ds v t);
         writable = (let u = at .small in omega arith, s .writable);
         after = boundStage (sheetOf c) vs (update f v t);
-        allowed = ap (λ (b : Bool). cond b (some (boundStage (sheetOf c) vs (update f v t))) none) (and-both (eqb v v) (leb (level t) 0) (eq-eqb v v refl) (le-leb (level t) 0 (omega arith)));
+        allowed =
+            ap (λ (b : Bool). cond b (some (boundStage (sheetOf c) vs (update f v t))) none)
+            (and-both (eqb v v) (leb (level t) 0) (eq-eqb v v refl) (le-leb (level t) 0 (omega arith)));
         holds =
             subst (λ (us : List ℕ). Holds c (suc q) w′ (bound (c .table) (c .goal) r (suc v) q) (boundStage (sheetOf c) us (update f v t)))
             (sym (at .later (7 - v) (let u = at .small in omega arith)))
             (bound-holds c filled (7 - v) (suc v) (suc q) w′ r q (update f v t) (let u = at .small in omega arith) (omega arith)
-            (frame-bind ds (c .text) q (r .frame) v (i + 4) e t w f (Before c filled v) (Before c filled (suc v)) room (λ u. let o = at .older in omega arith) (at .small) s fewer (at .frame)));
+            (frame-bind ds (c .text) q (r .frame) v (i + 4) e t w f (Before c filled v) (Before c filled (suc v)) room
+            (λ u. let o = at .older in omega arith) (at .small) s fewer (at .frame)));
         goes-on = bound-stage (c .table) (c .goal) r (suc v) q;
         same-made = bound-made (c .table) (c .goal) r (suc v) q;
         same-leftover = bound-leftover (c .table) (c .goal) r (suc v) q;
@@ -323,7 +377,7 @@ module _ (c : Setting) (filled : Filled c) (q : ℕ) (w : List ℕ) (room : Room
           let u = ltb-true z (suc v) (b .1) in
           and-both (freeG (G c filled) z) (ltb z v) (b .0) (lt-ltb z v (let o : (z ≡ v → ⊥) = d in omega arith))
 
-  -- the term, m being the rest of the line
+  -- `bindTerm` finds whether the line is right or wrong by its term m, the rest of the line.
   bind-term : (m : List ℕ) → l ≡ ascii "B\t" ++ ((48 + v) ∷ 9 ∷ m) → drop (i + 4) (c .text) ≡ m ++ (lf ∷ rest)
       → Result c q l a r (bindTerm (c .bytes) (c .table) (c .symbols) (c .goal) (c .text) w r q (i + 4) e)
   unfolding bindTerm bindWith allow ascii
@@ -345,7 +399,8 @@ module _ (c : Setting) (filled : Filled c) (q : ℕ) (w : List ℕ) (room : Room
       go (is-term t o h s) =
           rw (bindTerm, h) (rw (eq-eqb e e refl)
           (either-side R (eqb (level t) 0) _ (broken w r) (λ b. fits t m p o s (eqb-true (level t) 0 b))
-          (λ b. is-wrong c q l a w r r (only-binding (λ u k x. too-high u (spelling-injective t u ds names (s .writable) x (sym o ∙ rests u k)) b)))))
+          (λ b. is-wrong c q l a w r r
+          (only-binding (λ u k x. too-high u (spelling-injective t u ds names (s .writable) x (sym o ∙ rests u k)) b)))))
         where
           too-high : (u : Ground) → t ≡ u → eqb (level t) 0 ≡ false → allow (sheetOf c) (bindingLine v u) a ≡ none
           too-high u k b =
@@ -357,10 +412,15 @@ module _ (c : Setting) (filled : Filled c) (q : ℕ) (w : List ℕ) (room : Room
               none-and true = refl
               none-and false = refl
 
-  -- what the line does
+  -- `bindLine` finds whether the line is right or wrong.
   pub bind-result : Result c q l a r (bindLine (c .bytes) (c .table) (c .symbols) (c .goal) (c .text) w r q i e)
   unfolding bindLine
   bind-result =
-      either-side (Result c q l a r) (bindsVariable (c .text) i (r .node)) (bindTerm (c .bytes) (c .table) (c .symbols) (c .goal) (c .text) w r q (i + 4) e) (broken w r)
-      (λ b. let s = binds-there (c .text) i v l rest here (ap (bindsVariable (c .text) i) (sym (at .variable)) ∙ b) in bind-term (s .0) (s .1) (s .2))
-      (λ b. is-wrong c q l a w r r (only-binding (λ t p y. absurd (binds-absent (c .text) i v l rest (spellTerm t ds) here (ap (bindsVariable (c .text) i) (sym (at .variable)) ∙ b) p))))
+      either-side (Result c q l a r) (bindsVariable (c .text) i (r .node))
+      (bindTerm (c .bytes) (c .table) (c .symbols) (c .goal) (c .text) w r q (i + 4) e) (broken w r)
+      (λ b. let s = binds-there (c .text) i v l rest here (ap (bindsVariable (c .text) i) (sym (at .variable)) ∙ b) in
+      bind-term (s .0) (s .1) (s .2))
+      (λ b. is-wrong c q l a w r r
+      (only-binding
+      (λ t p y. absurd (binds-absent (c .text) i v l rest (spellTerm t ds) here (ap (bindsVariable (c .text) i) (sym (at .variable))
+      ∙ b) p))))

@@ -15,15 +15,16 @@ use Rattle.answer_texts.specs.Spelled.{WritableLine, Writable, sequents}
 use Rattle.answer_texts.specs.Judging.{infer, allow}
 use Rattle.answer_texts.proofs.Reading.{lineBytes}
 use Rattle.line_checking.specs.declared.Registers.{Registers}
-use Rattle.line_checking.specs.Sequents.{Made, made, onStage, broken, onSequent, dueSequent, proceed, brokenStage}
-use Rattle.line_checking.proofs.Holds.{Setting, declared, sheetOf, SequentsAt, Holds}
+use Rattle.line_checking.specs.Sequents.{Made, made, withStage, broken, withSequent, openSequent, nextSequent, brokenStage}
+use Rattle.line_checking.proofs.Representation.{Setting, declared, sheetOf, SequentsAt, Holds}
 use Rattle.line_checking.proofs.Results.{Result, is-wrong, either-side}
 
 -- the next sequent
 
--- it is held
-pub proceed-holds : (c : Setting) (k : ℕ) (w : List ℕ) (r : Registers) (gs : List (Sequent Symbol)) → SequentsAt c k w (r .rest) gs → Holds c k w (proceed w r) (sequents gs)
-unfolding proceed onStage dueSequent onSequent Holds SequentsAt
+-- After `nextSequent` the registers hold the sequents left.
+pub proceed-holds : (c : Setting) (k : ℕ) (w : List ℕ) (r : Registers) (gs : List (Sequent Symbol)) → SequentsAt c k w (r .rest) gs
+    → Holds c k w (nextSequent w r) (sequents gs)
+unfolding nextSequent withStage openSequent withSequent Holds SequentsAt
 proceed-holds c k w r [] h = rw h
 proceed-holds c k w r (g ∷ gs) h =
     let p = h .0 in
@@ -31,19 +32,20 @@ proceed-holds c k w r (g ∷ gs) h =
     let z : suc p - 1 ≡ p = omega arith in
     rw (e, ne-eqb (suc p) 0 (λ q. omega arith), z) (refl, h .3, h .4)
 
--- the line goes on
-pub proceed-stage : (w : List ℕ) (r : Registers) → proceed w r .stage ≡ brokenStage → ⊥
-unfolding proceed onStage dueSequent onSequent
-proceed-stage w r = either-side (λ (s : Registers). s .stage ≡ brokenStage → ⊥) (eqb (r .rest) 0) _ _ (λ h e. omega arith) (λ h e. omega arith)
+-- The stage after `nextSequent` is not the broken stage.
+pub proceed-stage : (w : List ℕ) (r : Registers) → nextSequent w r .stage ≡ brokenStage → ⊥
+unfolding nextSequent withStage openSequent withSequent
+proceed-stage w r =
+    either-side (λ (s : Registers). s .stage ≡ brokenStage → ⊥) (eqb (r .rest) 0) _ _ (λ h e. omega arith) (λ h e. omega arith)
 
--- the counts stay
-pub proceed-made : (w : List ℕ) (r : Registers) → proceed w r .made ≡ r .made
-unfolding proceed onStage dueSequent onSequent
+-- The count of made constants stays after `nextSequent`.
+pub proceed-made : (w : List ℕ) (r : Registers) → nextSequent w r .made ≡ r .made
+unfolding nextSequent withStage openSequent withSequent
 proceed-made w r = either-side (λ (s : Registers). s .made ≡ r .made) (eqb (r .rest) 0) _ _ (λ h. refl) (λ h. refl)
 
--- both of them
-pub proceed-leftover : (w : List ℕ) (r : Registers) → proceed w r .leftover ≡ r .leftover
-unfolding proceed onStage dueSequent onSequent
+-- The count of leftover variables stays after `nextSequent`.
+pub proceed-leftover : (w : List ℕ) (r : Registers) → nextSequent w r .leftover ≡ r .leftover
+unfolding nextSequent withStage openSequent withSequent
 proceed-leftover w r = either-side (λ (s : Registers). s .leftover ≡ r .leftover) (eqb (r .rest) 0) _ _ (λ h. refl) (λ h. refl)
 
 -- lines for the sequent g, before the sequents gs
@@ -53,25 +55,30 @@ module _ (c : Setting) (q : ℕ) (l : List ℕ) (g : Sequent Symbol) (gs : List 
   abbrev pub inferred : Line Symbol → Option (List (Sequent Symbol))
   inferred d = infer d G (g .environment) (g .program) (g .level)
 
-  -- that is what is allowed
-  allow-is : (d : Line Symbol) → allow (sheetOf c) (derivationLine d) (sequents (g ∷ gs)) ≡ Option·map (λ new. sequents (new ++ gs)) (inferred d)
+  -- What a D line leaves to derive, before the sequents gs, is what `allow` gives.
+  allow-is : (d : Line Symbol) → allow (sheetOf c) (derivationLine d) (sequents (g ∷ gs)) ≡ Option·map (λ new. sequents (new ++ gs))
+      (inferred d)
   unfolding allow
   allow-is d = ap (λ (y : Goal). Option·map (λ new. sequents (new ++ gs)) (infer d y (g .environment) (g .program) (g .level))) goal
 
   -- A line is wrong where no D line that could be so written is a step.
-  pub wrong-line : (w : List ℕ) (r s : Registers) → ((d : Line Symbol) → l ≡ lineBytes (declared c) (derivationLine d) → WritableLine (declared c) d → inferred d ≡ none)
+  pub wrong-line : (w : List ℕ) (r s : Registers)
+      → ((d : Line Symbol) → l ≡ lineBytes (declared c) (derivationLine d) → WritableLine (declared c) d → inferred d ≡ none)
       → Result c q l (sequents (g ∷ gs)) r (broken w s)
   unfolding allow Writable
   wrong-line w r s h = is-wrong c q l (sequents (g ∷ gs)) w r s unfit
     where
-      unfit : (line : TextLine) → l ≡ lineBytes (declared c) line → Writable (declared c) line → allow (sheetOf c) line (sequents (g ∷ gs)) ≡ none
+      unfit : (line : TextLine) → l ≡ lineBytes (declared c) line → Writable (declared c) line
+          → allow (sheetOf c) line (sequents (g ∷ gs)) ≡ none
       unfit (resultLine n) p y = refl
       unfit (bindingLine v t) p y = refl
       unfit (derivationLine d) p y = allow-is d ∙ ap (Option·map (λ new. sequents (new ++ gs))) (h d p y)
 
   -- A line is right where it is that of a step.
-  pub right-line : (r : Registers) (m : Made) (d : Line Symbol) (new : List (Sequent Symbol)) → l ≡ lineBytes (declared c) (derivationLine d) → WritableLine (declared c) d
-      → inferred d ≡ some new → Holds c (suc q) (m .memory) (m .registers) (sequents (new ++ gs)) → (m .registers .stage ≡ brokenStage → ⊥) → m .registers .made ≡ r .made
+  pub right-line : (r : Registers) (m : Made) (d : Line Symbol) (new : List (Sequent Symbol))
+      → l ≡ lineBytes (declared c) (derivationLine d) → WritableLine (declared c) d
+      → inferred d ≡ some new → Holds c (suc q) (m .memory) (m .registers) (sequents (new ++ gs))
+      → (m .registers .stage ≡ brokenStage → ⊥) → m .registers .made ≡ r .made
       → m .registers .leftover ≡ r .leftover → Result c q l (sequents (g ∷ gs)) r m
   unfolding Writable
   right-line r m d new p y k h z a b = inl (record {

@@ -22,18 +22,18 @@ use Rattle.answer_texts.specs.Judging.{Seen, showSymbols, allow, Progress, prog
 use Rattle.answer_texts.proofs.Splitting.{join-fields}
 use Rattle.answer_texts.proofs.Reading.{lineBytes, read-spell, spell-read, fields-spell}
 use Rattle.answer_texts.proofs.Showings.{shows-append, unseen}
-use Rattle.scanning.specs.declared.Shown.{Shown}
-use Rattle.scanning.specs.declared.Shown.the-variants.{Counts, Misnumbered}
-use Rattle.scanning.specs.Showing.{showFrom}
-use Rattle.scanning.proofs.Places.{drop-length, drop-past}
+use Rattle.scanning.specs.declared.SymbolCounts.{SymbolCounts}
+use Rattle.scanning.specs.declared.SymbolCounts.the-variants.{Counts, Misnumbered}
+use Rattle.scanning.specs.Numbering.{checkNumbering}
+use Rattle.scanning.proofs.Positions.{drop-length, drop-past}
 use Rattle.scanning.proofs.Records.{Room, Kept}
-use Rattle.scanning.proofs.Marks.{marksIn, marks-append, plain-marks}
-use Rattle.scanning.proofs.Showing.{ShowsAs, show-from}
+use Rattle.scanning.proofs.SymbolsInText.{startsIn, starts-append, plain-starts}
+use Rattle.scanning.proofs.Numbering.{ShowsAs, check-numbering}
 use Rattle.line_checking.specs.declared.Registers.{Registers}
-use Rattle.line_checking.specs.Sequents.{Made, made, onStage, broken, onCounts, brokenStage}
+use Rattle.line_checking.specs.Sequents.{Made, made, withStage, broken, withCounts, brokenStage}
 use Rattle.line_checking.specs.Judging.{stageLine, countLine, orderLine, judgeLine}
-use Rattle.line_checking.proofs.Lines.{line-marks}
-use Rattle.line_checking.proofs.Holds.{Setting, declared, sheetOf, Filled, names-of, Holds}
+use Rattle.line_checking.proofs.Lines.{line-starts}
+use Rattle.line_checking.proofs.Representation.{Setting, declared, sheetOf, Filled, names-of, Holds}
 use Rattle.line_checking.proofs.Results.{Right, Wrong, Result}
 use Rattle.line_checking.proofs.Stages.{stage-result}
 
@@ -42,7 +42,7 @@ pub record State (c : Setting) (q i : ℕ) (w : List ℕ) (r : Registers) (p : P
   pub holds : Holds c q w r (p .stage)
   pub made-count : r .made ≡ length (p .seen .ofMade)
   pub leftover-count : r .leftover ≡ length (p .seen .ofLeftover)
-  pub seen : showSymbols (marksIn i (c .text) 0) unseen ≡ some (p .seen)
+  pub seen : showSymbols (startsIn i (c .text) 0) unseen ≡ some (p .seen)
   pub inside : i ≤ length (c .text)
 
 -- A line that breaks stops; one that does not goes on.
@@ -50,9 +50,9 @@ abbrev pub Judges : Setting → ℕ → ℕ → Made → Option Progress → Typ
 Judges c q i a none = a .registers .stage ≡ brokenStage
 Judges c q i a (some p) = (a .registers .stage ≡ brokenStage → ⊥) × State c q i (a .memory) (a .registers) p
 
--- other counts change nothing else
-counts-hold : (c : Setting) (k : ℕ) (w : List ℕ) (r : Registers) (m l : ℕ) (a : Stage) → Holds c k w r a → Holds c k w (onCounts r m l) a
-unfolding Holds onCounts
+-- Other counts do not change the stage that is held.
+counts-hold : (c : Setting) (k : ℕ) (w : List ℕ) (r : Registers) (m l : ℕ) (a : Stage) → Holds c k w r a → Holds c k w (withCounts r m l) a
+unfolding Holds withCounts
 counts-hold c k w r m l opening h = h
 counts-hold c k w r m l (bindings [] e) h = h
 counts-hold c k w r m l (bindings (v ∷ vs) e) h =
@@ -62,38 +62,43 @@ counts-hold c k w r m l (sequents (g ∷ gs)) h = h
 
 module _ (c : Setting) (filled : Filled c) (q : ℕ) (w : List ℕ) (room : Room q w) (r : Registers) (p : Progress) (l rest : List ℕ) (i e : ℕ)
     (here : drop i (c .text) ≡ l ++ (lf ∷ rest)) (end : e ≡ i + length l) (state : State c q i w r p) where
-  -- the sheet
+  -- This is the sheet.
   abbrev s : Sheet
   s = sheetOf c
 
-  -- what comes of the line
+  -- This says what comes of the line.
   abbrev After : Made → Option Progress → Type 0
   After m o = Judges c (suc q) (e + 1) m o
 
   -- numbering is checked where the line is right so far
 
-  -- it is not where the line broke
+  -- The numbering is not checked where the line broke.
   order-stops : (m : Made) → m .registers .stage ≡ brokenStage → orderLine (c .text) m i e ≡ m
   unfolding orderLine
   order-stops m h = ap (λ (z : ℕ). cond (eqb z 4) m (countLine (c .text) m i e)) h
 
-  -- it is where it did not
+  -- The numbering is checked where the line did not break.
   order-goes : (m : Made) → (m .registers .stage ≡ brokenStage → ⊥) → orderLine (c .text) m i e ≡ countLine (c .text) m i e
   unfolding orderLine
   order-goes m h = ap (λ (b : Bool). cond b m (countLine (c .text) m i e)) (ne-eqb (m .registers .stage) brokenStage h)
 
-  -- it writes nothing
+  -- Checking the numbering writes nothing.
   order-memory : (m : Made) → orderLine (c .text) m i e .memory ≡ m .memory
   unfolding orderLine countLine broken
-  order-memory m = go (eqb (m .registers .stage) brokenStage) (showFrom (e - i) (c .text) i (m .registers .made) (m .registers .leftover))
+  order-memory m =
+      go (eqb (m .registers .stage) brokenStage) (checkNumbering (e - i) (c .text) i (m .registers .made) (m .registers .leftover))
     where
-      go : (b : Bool) (o : Shown)
-          → cond b m (elim o as (λ z. Made) [ Counts x y ↦ made (m .memory) (onCounts (m .registers) x y) | Misnumbered ↦ broken (m .memory) (m .registers) ]) .memory ≡ m .memory
+      go : (b : Bool) (o : SymbolCounts)
+          → cond b m (elim o as (λ z. Made) [
+            | Counts x y ↦ made (m .memory) (withCounts (m .registers) x y)
+            | Misnumbered ↦
+                broken (m .memory) (m .registers)
+          ]) .memory ≡ m .memory
       go true o = refl
       go false (Counts x y) = refl
       go false Misnumbered = refl
 
-  -- a line that is wrong at its stage
+  -- The judgement stops at a line that is wrong at its stage.
   wrong : (m : Made) → Wrong c l (p .stage) m → After (orderLine (c .text) m i e) (judgeBytes s l p)
   unfolding judgeBytes judgeRead progress sheetOf decodeSheet
   wrong m h = subst (λ (z : Made). After z (judgeBytes s l p)) (sym (order-stops m (h .stops))) (go (readLine (declared c) (fields l)) refl)
@@ -104,51 +109,61 @@ module _ (c : Setting) (filled : Filled c) (q : ℕ) (w : List ℕ) (room : Room
           let y = spell-read (declared c) (fields l) x z in
           rw (h .unfit x (sym (ap join (y .0) ∙ join-fields l)) (y .1)) (h .stops)
 
-  -- one that is right is judged by its symbols
+  -- A line that is right at its stage is judged by its symbols.
   right-judged : (x : TextLine) (b : Stage) → l ≡ lineBytes (declared c) x → Writable (declared c) x → allow s x (p .stage) ≡ some b
       → judgeBytes s l p ≡ progress (some b) (showSymbols (symbolsOf (termsOf x)) (p .seen))
   unfolding judgeBytes judgeRead sheetOf decodeSheet
   right-judged x b h y k =
       ap (λ (o : Option TextLine). judgeRead s o p)
-      (ap (λ (z : List ℕ). readLine (declared c) (fields z)) h ∙ ap (readLine (declared c)) (fields-spell (declared c) x (names-of c filled) y) ∙ read-spell (declared c) x (names-of c filled) y)
+      (ap (λ (z : List ℕ). readLine (declared c) (fields z)) h
+      ∙ ap (readLine (declared c)) (fields-spell (declared c) x (names-of c filled) y) ∙ read-spell (declared c) x (names-of c filled) y)
       ∙ ap (λ (o : Option Stage). progress o (showSymbols (symbolsOf (termsOf x)) (p .seen))) k
 
-  -- the symbols up to the next line
-  next-marks : marksIn (e + 1) (c .text) 0 ≡ marksIn i (c .text) 0 ++ marksIn (length l) (c .text) i
-  next-marks =
+  -- The symbols up to the next line are those before this line, then those of this line.
+  next-starts : startsIn (e + 1) (c .text) 0 ≡ startsIn i (c .text) 0 ++ startsIn (length l) (c .text) i
+  next-starts =
       let a : e + 1 ≡ i + (length l + 1) = omega arith in
       let b : 0 + i ≡ i = omega arith in
-      ap (λ (n : ℕ). marksIn n (c .text) 0) a ∙ marks-append i (length l + 1) (c .text) 0
-      ∙ ap (λ (n : ℕ). marksIn i (c .text) 0 ++ marksIn (length l + 1) (c .text) n) b
-      ∙ ap (marksIn i (c .text) 0 ++_) (marks-append (length l) 1 (c .text) i
-      ∙ ap (marksIn (length l) (c .text) i ++_) (plain-marks (lf ∷ []) rest (c .text) (i + length l) (drop-past (c .text) i l (lf ∷ rest) here) ((refl, refl), tt))
-      ∙ append-nil (marksIn (length l) (c .text) i))
+      ap (λ (n : ℕ). startsIn n (c .text) 0) a ∙ starts-append i (length l + 1) (c .text) 0
+      ∙ ap (λ (n : ℕ). startsIn i (c .text) 0 ++ startsIn (length l + 1) (c .text) n) b
+      ∙ ap (startsIn i (c .text) 0 ++_) (starts-append (length l) 1 (c .text) i
+      ∙ ap (startsIn (length l) (c .text) i ++_)
+      (plain-starts (lf ∷ []) rest (c .text) (i + length l) (drop-past (c .text) i l (lf ∷ rest) here) ((refl, refl), tt))
+      ∙ append-nil (startsIn (length l) (c .text) i))
 
-  -- a line that is right at its stage
+  -- A line that is right at its stage is judged by its numbering.
   right : (m : Made) → Right c q l (p .stage) r m → After (orderLine (c .text) m i e) (judgeBytes s l p)
-  unfolding countLine progress broken onStage onCounts
+  unfolding countLine progress broken withStage withCounts
   right m h =
       subst (λ (z : Made). After z (judgeBytes s l p)) (sym (order-goes m (h .goes-on)))
       (subst (After (countLine (c .text) m i e)) (sym (right-judged (h .line) (h .after) (h .spelled) (h .writable) (h .allowed))) counted)
     where
-      marks : marksIn (length l) (c .text) i ≡ symbolsOf (termsOf (h .line))
+      marks : startsIn (length l) (c .text) i ≡ symbolsOf (termsOf (h .line))
       marks =
-          ap (λ (z : List ℕ). marksIn (length z) (c .text) i) (h .spelled)
-          ∙ line-marks (declared c) (names-of c filled) (c .text) (h .line) rest i (here ∙ ap (_++ (lf ∷ rest)) (h .spelled)) (h .writable)
+          ap (λ (z : List ℕ). startsIn (length z) (c .text) i) (h .spelled)
+          ∙ line-starts (declared c) (names-of c filled) (c .text) (h .line) rest i (here ∙ ap (_++ (lf ∷ rest)) (h .spelled)) (h .writable)
 
-      shown : ShowsAs (showFrom (e - i) (c .text) i (m .registers .made) (m .registers .leftover)) (showSymbols (symbolsOf (termsOf (h .line))) (p .seen))
+      shown : ShowsAs (checkNumbering (e - i) (c .text) i (m .registers .made) (m .registers .leftover))
+          (showSymbols (symbolsOf (termsOf (h .line))) (p .seen))
       shown =
           let a : e - i ≡ length l = omega arith in
           let b = drop-length (c .text) i (l ++ (lf ∷ rest)) here in
           let d = length-append l (lf ∷ rest) in
           let f = state .inside in
-          rw (a, h .same-made ∙ state .made-count, h .same-leftover ∙ state .leftover-count, ← marks) (show-from (length l) (c .text) i (p .seen) (omega arith) (state .seen))
+          rw (a, h .same-made ∙ state .made-count, h .same-leftover ∙ state .leftover-count, ← marks)
+          (check-numbering (length l) (c .text) i (p .seen) (omega arith) (state .seen))
 
       counted : After (countLine (c .text) m i e) (progress (some (h .after)) (showSymbols (symbolsOf (termsOf (h .line))) (p .seen)))
-      counted = go (showFrom (e - i) (c .text) i (m .registers .made) (m .registers .leftover)) (showSymbols (symbolsOf (termsOf (h .line))) (p .seen)) refl shown
+      counted =
+          go (checkNumbering (e - i) (c .text) i (m .registers .made) (m .registers .leftover))
+          (showSymbols (symbolsOf (termsOf (h .line))) (p .seen)) refl shown
         where
-          go : (o : Shown) (u : Option Seen) → showSymbols (symbolsOf (termsOf (h .line))) (p .seen) ≡ u → ShowsAs o u
-              → After (elim o as (λ z. Made) [ Counts x y ↦ made (m .memory) (onCounts (m .registers) x y) | Misnumbered ↦ broken (m .memory) (m .registers) ]) (progress (some (h .after)) u)
+          go : (o : SymbolCounts) (u : Option Seen) → showSymbols (symbolsOf (termsOf (h .line))) (p .seen) ≡ u → ShowsAs o u
+              → After (elim o as (λ z. Made) [
+                | Counts x y ↦ made (m .memory) (withCounts (m .registers) x y)
+                | Misnumbered ↦
+                    broken (m .memory) (m .registers)
+              ]) (progress (some (h .after)) u)
           go Misnumbered none z k = refl
           go Misnumbered (some u) z k = absurd k
           go (Counts x y) none z k = absurd k
@@ -158,9 +173,12 @@ module _ (c : Setting) (filled : Filled c) (q : ℕ) (w : List ℕ) (room : Room
               holds = counts-hold c (suc q) (m .memory) (m .registers) x y (h .after) (h .holds);
               made-count = k .0;
               leftover-count = k .1;
-              seen = ap (λ (n : List Symbol). showSymbols n unseen) next-marks
-                  ∙ shows-append (marksIn i (c .text) 0) (marksIn (length l) (c .text) i) unseen (p .seen) (state .seen) ∙ ap (λ (n : List Symbol). showSymbols n (p .seen)) marks ∙ z;
-              inside = let b = drop-length (c .text) i (l ++ (lf ∷ rest)) here in let d = length-append l (lf ∷ rest) in let f = state .inside in omega arith;
+              seen = ap (λ (n : List Symbol). showSymbols n unseen) next-starts
+                  ∙ shows-append (startsIn i (c .text) 0) (startsIn (length l) (c .text) i) unseen (p .seen) (state .seen)
+                  ∙ ap (λ (n : List Symbol). showSymbols n (p .seen)) marks ∙ z;
+              inside =
+                  let b = drop-length (c .text) i (l ++ (lf ∷ rest)) here in let d = length-append l (lf ∷ rest) in let f =
+                  state .inside in omega arith;
             },
           )
 

@@ -1,7 +1,7 @@
 -- Laws of the checker's work on flat memory.
 pub mod Lines
-pub mod Holds
-pub mod Keeps
+pub mod Representation
+pub mod Preservation
 pub mod Results
 pub mod Terms
 pub mod Bindings

@@ -20,15 +20,15 @@ use Rattle.answer_texts.specs.Reading.{span}
 use Rattle.answer_texts.proofs.Spans.{span-split}
 use Rattle.answer_texts.proofs.Reading.{lineBytes}
 use Rattle.scanning.specs.declared.Number.the-variants.{Value}
-use Rattle.scanning.specs.Ranges.{readNumber}
-use Rattle.scanning.proofs.Places.{drop-past}
+use Rattle.scanning.specs.Ranges.{scanNumber}
+use Rattle.scanning.proofs.Positions.{drop-past}
 use Rattle.scanning.proofs.Ranges.{begins, begins-rest, rest-begins, range-begins, numberTo, read-number}
-use Rattle.scanning.proofs.Placed.{split-lf}
+use Rattle.scanning.proofs.TermsInText.{split-lf}
 use Rattle.line_checking.specs.declared.Registers.{Registers}
-use Rattle.line_checking.specs.Sequents.{Made, made, onStage, broken, brokenStage}
+use Rattle.line_checking.specs.Sequents.{Made, made, withStage, broken, brokenStage}
 use Rattle.line_checking.specs.Bindings.{beginsWith, isLine}
 use Rattle.line_checking.proofs.Lines.{isWord, word-solid, word-without}
-use Rattle.line_checking.proofs.Holds.{Setting, declared, sheetOf, Holds}
+use Rattle.line_checking.proofs.Representation.{Setting, declared, sheetOf, Holds}
 
 module _ (c : Setting) where
   -- Line q is l; before it the registers were r, at the stage a; it leaves m.
@@ -52,25 +52,26 @@ module _ (c : Setting) where
   abbrev pub Result : ℕ → List ℕ → Stage → Registers → Made → Type 0
   Result q l a r m = Right q l a r m ⊎ Wrong l a m
 
-  -- a line that was found wrong
+  -- A line is wrong where no line that is so written is allowed.
   pub is-wrong : (q : ℕ) (l : List ℕ) (a : Stage) (w : List ℕ) (r s : Registers)
-      → ((line : TextLine) → l ≡ lineBytes (declared c) line → Writable (declared c) line → allow (sheetOf c) line a ≡ none) → Result q l a r (broken w s)
-  unfolding broken onStage
+      → ((line : TextLine) → l ≡ lineBytes (declared c) line → Writable (declared c) line → allow (sheetOf c) line a ≡ none)
+      → Result q l a r (broken w s)
+  unfolding broken withStage
   is-wrong q l a w r s h = inr (record { stops = refl; unfit = h })
 
--- of a test's two sides
+-- What holds on both sides of a test holds of the value chosen.
 pub either-side : {A : Type 0} (P : A → Type 0) (b : Bool) (x y : A) → (b ≡ true → P x) → (b ≡ false → P y) → P (cond b x y)
 either-side P true x y h k = h refl
 either-side P false x y h k = k refl
 
 -- words at the beginning of a line
 
--- the test is that of a beginning
+-- `beginsWith` tests whether the text from i on begins with the word.
 pub begins-with : (a x : List ℕ) (i : ℕ) → isWord a ≡ true → beginsWith a x i ≡ begins a (drop i x)
 unfolding beginsWith
 begins-with a x i h = range-begins a [] a 0 x i (sym (append-nil a)) (word-solid a h)
 
--- the word is there, with the rest of the line
+-- If `beginsWith` is true, the word is there, with the rest of the line.
 pub word-there : (a x : List ℕ) (i : ℕ) (l r : List ℕ) → isWord a ≡ true → drop i x ≡ l ++ (lf ∷ r) → beginsWith a x i ≡ true
     → (m : List ℕ) × (l ≡ a ++ m) × (drop (i + length a) x ≡ m ++ (lf ∷ r))
 word-there a x i l r h d b =
@@ -78,14 +79,16 @@ word-there a x i l r h d b =
     let s = split-lf l r a (p .0) (sym d ∙ p .1) (word-without a h) in
     (s .0, s .1, drop-past x i a (p .0) (p .1) ∙ s .2)
 
--- or no line begins with it
-pub word-absent : (a x : List ℕ) (i : ℕ) (l r m : List ℕ) → isWord a ≡ true → drop i x ≡ l ++ (lf ∷ r) → beginsWith a x i ≡ false → l ≡ a ++ m → ⊥
+-- If `beginsWith` is false, the line does not begin with the word.
+pub word-absent : (a x : List ℕ) (i : ℕ) (l r m : List ℕ) → isWord a ≡ true → drop i x ≡ l ++ (lf ∷ r) → beginsWith a x i ≡ false
+    → l ≡ a ++ m → ⊥
 word-absent a x i l r m h d b e =
     true≢false (sym (rest-begins a (m ++ (lf ∷ r)))
     ∙ ap (begins a) (sym (d ∙ ap (_++ (lf ∷ r)) e ∙ append-assoc a m (lf ∷ r))) ∙ sym (begins-with a x i h) ∙ b)
 
--- a line that is the word
-pub line-there : (a x : List ℕ) (i e : ℕ) (l r : List ℕ) → isWord a ≡ true → drop i x ≡ l ++ (lf ∷ r) → e ≡ i + length l → isLine a x i e ≡ true → l ≡ a
+-- If `isLine` is true, the line is the word.
+pub line-there : (a x : List ℕ) (i e : ℕ) (l r : List ℕ) → isWord a ≡ true → drop i x ≡ l ++ (lf ∷ r) → e ≡ i + length l
+    → isLine a x i e ≡ true → l ≡ a
 unfolding isLine
 line-there a x i e l r h d k b = go (eqb (e - i) (length a)) refl b
   where
@@ -93,27 +96,29 @@ line-there a x i e l r h d k b = go (eqb (e - i) (length a)) refl b
     go false p q = absurd (true≢false (sym q))
     go true p q =
         let s = word-there a x i l r h d q in
-        let n : length (s .0) ≡ 0 = (let y = eqb-true (e - i) (length a) p in let z = ap length (s .1) ∙ length-append a (s .0) in omega arith) in
+        let n : length (s .0) ≡ 0 = (let y = eqb-true (e - i) (length a) p in let z = ap length (s .1)
+        ∙ length-append a (s .0) in omega arith) in
         s .1 ∙ empty (s .0) n
       where
         empty : (m : List ℕ) → length m ≡ 0 → a ++ m ≡ a
         empty [] y = append-nil a
         empty (u ∷ m) y = absurd (omega arith)
 
--- or it is another
-pub line-absent : (a x : List ℕ) (i e : ℕ) (l r : List ℕ) → isWord a ≡ true → drop i x ≡ l ++ (lf ∷ r) → e ≡ i + length l → isLine a x i e ≡ false → l ≡ a → ⊥
+-- If `isLine` is false, the line is not the word.
+pub line-absent : (a x : List ℕ) (i e : ℕ) (l r : List ℕ) → isWord a ≡ true → drop i x ≡ l ++ (lf ∷ r) → e ≡ i + length l
+    → isLine a x i e ≡ false → l ≡ a → ⊥
 unfolding isLine
 line-absent a x i e l r h d k b p =
     let n : e - i ≡ length a = (let z = ap length p in omega arith) in
     let t : beginsWith a x i ≡ true = begins-with a x i h ∙ ap (begins a) (d ∙ ap (_++ (lf ∷ r)) p) ∙ rest-begins a (lf ∷ r) in
     true≢false (sym (rw (n, eq-eqb (length a) (length a) refl) t) ∙ b)
 
--- nothing is left where a part ends with the line
+-- Nothing is left where a part ends with the line.
 pub no-more : (a m : List ℕ) (i e : ℕ) → e ≡ i + length (a ++ m) → e ≡ i + length a → m ≡ []
 no-more a [] i e h k = refl
 no-more a (u ∷ m) i e h k = let l = length-append a (u ∷ m) in absurd (omega arith)
 
--- A number at place i of a line, of which l is left there.
+-- A number at position i of a line, of which l is left there.
 pub record ReadsNumber (x : List ℕ) (i : ℕ) (l r : List ℕ) (n e : ℕ) : Type 0 where
   pub more : List ℕ
   pub spelled : l ≡ decimal n ++ more
@@ -121,21 +126,24 @@ pub record ReadsNumber (x : List ℕ) (i : ℕ) (l r : List ℕ) (n e : ℕ) : T
   pub end : e ≡ i + length (decimal n)
   pub rest : drop e x ≡ more ++ (lf ∷ r)
 
--- what is read is a number
-pub number-there : (x : List ℕ) (i : ℕ) (l r : List ℕ) (n e : ℕ) → drop i x ≡ l ++ (lf ∷ r) → readNumber x i ≡ Value n e → ReadsNumber x i l r n e
+-- What is read as a number is a number spelled there.
+pub number-there : (x : List ℕ) (i : ℕ) (l r : List ℕ) (n e : ℕ) → drop i x ≡ l ++ (lf ∷ r) → scanNumber x i ≡ Value n e
+    → ReadsNumber x i l r n e
 unfolding isDigit
 number-there x i l r n e d h = go (number a) refl (number-some a) (sym (read-number x i) ∙ h)
   where
     a : List ℕ
     a = span isDigit (drop i x) .taken
 
-    go : (o : Option ℕ) → number a ≡ o → OnSome (λ k. (a ≡ decimal k) × (k ≤ maxNumber)) o → numberTo (i + length a) o ≡ Value n e → ReadsNumber x i l r n e
+    go : (o : Option ℕ) → number a ≡ o → OnSome (λ k. (a ≡ decimal k) × (k ≤ maxNumber)) o → numberTo (i + length a) o ≡ Value n e
+        → ReadsNumber x i l r n e
     go none p q y = absurd (let z : _≡_ {A = ℕ} 0 1 = cc in omega arith)
     go (some k) p q y =
         let u : k ≡ n = cc in
         let v : i + length a ≡ e = cc in
         let b : a ≡ decimal n = q .0 ∙ ap decimal u in
-        let s = split-lf l r (decimal n) (span isDigit (drop i x) .rest) (sym d ∙ span-split isDigit (drop i x) ∙ ap (_++ span isDigit (drop i x) .rest) b)
+        let s = split-lf l r (decimal n) (span isDigit (drop i x) .rest) (sym d ∙ span-split isDigit (drop i x)
+        ∙ ap (_++ span isDigit (drop i x) .rest) b)
         (decimal-without n lf refl) in
         record {
           more = s .0;

@@ -14,7 +14,8 @@ use Rattle.terms.specs.Terms.{leaf, app, count, levelBy}
 use Rattle.formulas.specs.Formulas.{Goal, truth, and, or, implies, exists, forall, Clause, freeG, freeC}
 use Rattle.formulas.proofs.Free.{or-left, or-right}
 use Rattle.sequents.specs.Symbols.{Symbol, made, leftover, symbolLevel, Ground, level}
-use Rattle.sequents.specs.Sequents.{Environment, hypothesis, Program, Sequent, sequent, Dtrue, Dand, Dleft, Dright, Dassume, Line, plain, Dsome, Dall, Dclause}
+use Rattle.sequents.specs.Sequents.{Environment, hypothesis, Program, Sequent, sequent, Dtrue, Dand, Dleft, Dright, Dassume, Line, plain}
+use Rattle.sequents.specs.Sequents.{Dsome, Dall, Dclause}
 use Rattle.sheet_format.specs.Bytes.{ascii, lf, isName}
 use Rattle.sheet_format.specs.Nodes.{Declaration}
 use Rattle.sheet_format.proofs.Bytes.{letter-bounds, name-nonempty, name-letter}
@@ -31,64 +32,72 @@ use Rattle.answer_texts.specs.Judging.{infer, isPlain, sameWord, wordNumber, in
 use Rattle.answer_texts.proofs.Reading.{lineBytes}
 use Rattle.answer_texts.proofs.Symbols.{marked, has-arity, name-of}
 use Rattle.scanning.specs.Fields as fields
-use Rattle.scanning.proofs.Places.{byte-is, drop-past, within}
+use Rattle.scanning.proofs.Positions.{byte-is, drop-past, within}
 use Rattle.scanning.specs.declared.Scan.{Scan}
 use Rattle.scanning.specs.declared.Scan.the-variants.{Term as Scanned, Malformed}
 use Rattle.scanning.specs.Scanning.{scanSymbol, scanTerm}
 use Rattle.scanning.specs.Frames.{bindFrame}
-use Rattle.scanning.proofs.Placed.{Placed, spelling-injective}
-use Rattle.scanning.proofs.Along.{Frame, frame-fewer}
+use Rattle.scanning.proofs.TermsInText.{SpelledAt, spelling-injective}
+use Rattle.scanning.proofs.InstanceSpelling.{Frame, frame-fewer}
 use Rattle.scanning.proofs.Records.{Room, Kept, kept-self, puts-kept, bind-kept}
 use Rattle.scanning.proofs.Frames.{frame-kept, frame-bind}
 use Rattle.line_checking.specs.declared.Registers.{Registers}
-use Rattle.line_checking.specs.Sequents.{Made, made as left, broken, onSequent, putSequent, proceed, putHypothesis}
+use Rattle.line_checking.specs.Sequents.{Made, made as left, broken, withSequent, putSequent, nextSequent, putHypothesis}
 use Rattle.line_checking.specs.Bindings.{beginsWith, isLine}
-use Rattle.line_checking.specs.Rules.{onChild, trueLine, andLine, orLine, assumeLine, bindGoal, someWith, someTerm, someLine, allWith, allConstant, allLine}
+use Rattle.line_checking.specs.Rules.{withChild, trueLine, andLine, orLine, assumeLine, bindGoal, someWith, someTerm, someLine}
+use Rattle.line_checking.specs.Rules.{allWith, allConstant, allLine}
 use Rattle.line_checking.proofs.Lines.{isWord, wordByte, bytes-some, bytes-all}
-use Rattle.line_checking.proofs.Holds.{Setting, declared, Filled, names-of, HypothesisAt, HypothesesAt, ProgramAt, SequentAt, SequentsAt, Holds}
-use Rattle.line_checking.proofs.Keeps.{program-on, hypotheses-keep, sequents-on}
+use Rattle.line_checking.proofs.Representation.{Setting, declared, Filled, names-of, HypothesisAt, HypothesesAt, ProgramAt}
+use Rattle.line_checking.proofs.Representation.{SequentAt, SequentsAt, Holds}
+use Rattle.line_checking.proofs.Preservation.{program-on, hypotheses-keep, sequents-on}
 use Rattle.line_checking.proofs.Results.{Result, either-side, word-there, word-absent, line-there, line-absent}
 use Rattle.line_checking.proofs.Terms.{scanAt, TermCase, is-term, no-term, term-case}
-use Rattle.line_checking.proofs.Derivations.{proceed-holds, proceed-stage, proceed-made, proceed-leftover, inferred, wrong-line, right-line}
+use Rattle.line_checking.proofs.Derivations.{proceed-holds, proceed-stage, proceed-made, proceed-leftover, inferred, wrong-line}
+use Rattle.line_checking.proofs.Derivations.{right-line}
 use Rattle.memory.proofs.Records.{puts, puts-at}
 use Rattle.memory.specs.Records.{field}
 
-module _ (c : Setting) (filled : Filled c) (q : ℕ) (w : List ℕ) (room : Room q w) (r : Registers) (g : Sequent Symbol) (gs : List (Sequent Symbol))
-    (at : SequentAt c q w (r .node) (r .frame) (r .hypotheses) (r .level) g) (others : SequentsAt c q w (r .rest) gs) (l rest : List ℕ) (i e : ℕ)
+module _ (c : Setting) (filled : Filled c) (q : ℕ) (w : List ℕ) (room : Room q w) (r : Registers) (g : Sequent Symbol)
+    (gs : List (Sequent Symbol))
+    (at : SequentAt c q w (r .node) (r .frame) (r .hypotheses) (r .level) g) (others : SequentsAt c q w (r .rest) gs) (l rest : List ℕ)
+    (i e : ℕ)
     (here : drop i (c .text) ≡ l ++ (lf ∷ rest)) (end : e ≡ i + length l) where
-  -- the table
+  -- This is the table.
   abbrev t : List ℕ
   t = c .table
 
-  -- the goal's node
+  -- This is the node of the goal.
   abbrev n : ℕ
   n = r .node
 
-  -- the declared symbols
+  -- The declared symbols are those of the table.
   abbrev ds : List Declaration
   ds = declared c
 
-  -- what comes of a line
+  -- This says that the line is right or wrong, with what it leaves.
   abbrev R : Made → Type 0
   R = Result c q l (sequents (g ∷ gs)) r
 
-  -- its nodes are as the reader makes them
+  -- The nodes of the table are as the reader makes them.
   table : Nodes t (c .nodes)
   table = nodes-of t (c .nodes) (c .clauses) (c .goal) (filled .wellMade)
 
-  -- so is the goal's
+  -- The node of the goal is as the reader makes it.
   node : GoalNode t n
   node = table .goal n (at .node) (at .is)
 
-  -- a sequent for a part of the goal, after the line
-  part : (w′ : List ℕ) (m f h i : ℕ) (d : Environment Symbol) (P : Program Symbol) (lv : ℕ) → m < n → IsGoal t m → FormedGoal (goalAt t m) ds → f < suc q
-      → Frame ds (c .text) w′ f d (freeG (goalAt t m)) → ProgramAt c (suc q) w′ h P → lv ≡ i → SequentAt c (suc q) w′ m f h i (sequent (goalAt t m) d P lv)
+  -- A part of the goal makes a sequent after the line.
+  part : (w′ : List ℕ) (m f h i : ℕ) (d : Environment Symbol) (P : Program Symbol) (lv : ℕ) → m < n → IsGoal t m
+      → FormedGoal (goalAt t m) ds → f < suc q
+      → Frame ds (c .text) w′ f d (freeG (goalAt t m)) → ProgramAt c (suc q) w′ h P → lv ≡ i
+      → SequentAt c (suc q) w′ m f h i (sequent (goalAt t m) d P lv)
   part w′ m f h i d P lv a b k o y p z =
       let u = at .node in
       record { node = omega arith; is = b; goal = refl; formed = k; older = o; frame = y; program = p; level = z }
 
-  -- one in the frame that there is
-  same-frame : (w′ : List ℕ) → Kept q w w′ → (m : ℕ) → ((v : ℕ) → freeG (goalAt t m) v ≡ true → freeG (goalAt t n) v ≡ true) → m < n → IsGoal t m → FormedGoal (goalAt t m) ds
+  -- A part of the goal makes a sequent in the frame that there is.
+  same-frame : (w′ : List ℕ) → Kept q w w′ → (m : ℕ) → ((v : ℕ) → freeG (goalAt t m) v ≡ true → freeG (goalAt t n) v ≡ true) → m < n
+      → IsGoal t m → FormedGoal (goalAt t m) ds
       → SequentAt c (suc q) w′ m (r .frame) (r .hypotheses) (r .level) (sequent (goalAt t m) (g .environment) (g .program) (g .level))
   same-frame w′ kept m f a b k =
       let o = at .older in
@@ -101,15 +110,18 @@ module _ (c : Setting) (filled : Filled c) (q : ℕ) (w : List ℕ) (room : Room
   pub true-result : kindOf t n ≡ trueKind → R (trueLine (c .text) w r i e)
   unfolding trueLine infer isPlain sameWord wordNumber inferSome WritableLine textFields lineFields spellWord join ascii isWord wordByte
   true-result k =
-      either-side R (isLine (ascii "D\ttrue") (c .text) i e) (left w (proceed w r)) (broken w r)
-      (λ b. right-line c q l g gs truth goal r (left w (proceed w r)) (plain Dtrue) [] (line-there (ascii "D\ttrue") (c .text) i e l rest refl here end b) tt refl
-      (proceed-holds c (suc q) w r gs (sequents-on c q w w (kept-self q w) (r .rest) gs others)) (proceed-stage w r) (proceed-made w r) (proceed-leftover w r))
+      either-side R (isLine (ascii "D\ttrue") (c .text) i e) (left w (nextSequent w r)) (broken w r)
+      (λ b. right-line c q l g gs truth goal r (left w (nextSequent w r)) (plain Dtrue) []
+      (line-there (ascii "D\ttrue") (c .text) i e l rest refl here end b) tt refl
+      (proceed-holds c (suc q) w r gs (sequents-on c q w w (kept-self q w) (r .rest) gs others)) (proceed-stage w r) (proceed-made w r)
+      (proceed-leftover w r))
       (λ b. wrong-line c q l g gs truth goal w r r (unfit b))
     where
       goal : g .goal ≡ truth
       goal = at .goal ∙ goal-true t (c .nodes) table n (at .node) k
 
-      unfit : isLine (ascii "D\ttrue") (c .text) i e ≡ false → (d : Line Symbol) → l ≡ lineBytes ds (derivationLine d) → WritableLine ds d → inferred c q l g gs truth goal d ≡ none
+      unfit : isLine (ascii "D\ttrue") (c .text) i e ≡ false → (d : Line Symbol) → l ≡ lineBytes ds (derivationLine d) → WritableLine ds d
+          → inferred c q l g gs truth goal d ≡ none
       unfit b (plain Dtrue) p y = absurd (line-absent (ascii "D\ttrue") (c .text) i e l rest refl here end b p)
       unfit b (plain Dand) p y = refl
       unfit b (plain Dleft) p y = refl
@@ -121,10 +133,12 @@ module _ (c : Setting) (filled : Filled c) (q : ℕ) (w : List ℕ) (room : Room
 
   -- "&: left, then right"
   pub and-result : kindOf t n ≡ andKind → R (andLine t (c .text) w r q i e)
-  unfolding andLine putSequent puts onSequent infer isPlain sameWord wordNumber WritableLine textFields lineFields spellWord join ascii isWord wordByte Holds SequentsAt FormedGoal freeG
+  unfolding andLine putSequent puts withSequent infer isPlain sameWord wordNumber WritableLine textFields lineFields spellWord join ascii
+      isWord wordByte Holds SequentsAt FormedGoal freeG
   and-result k =
       either-side R (isLine (ascii "D\tand") (c .text) i e) _ (broken w r)
-      (λ b. right-line c q l g gs G goal r (left w′ regs) (plain Dand) _ (line-there (ascii "D\tand") (c .text) i e l rest refl here end b) tt refl holds (λ z. omega arith) refl refl)
+      (λ b. right-line c q l g gs G goal r (left w′ regs) (plain Dand) _
+      (line-there (ascii "D\tand") (c .text) i e l rest refl here end b) tt refl holds (λ z. omega arith) refl refl)
       (λ b. wrong-line c q l g gs G goal w r r (unfit b))
     where
       G : Goal
@@ -146,7 +160,7 @@ module _ (c : Setting) (filled : Filled c) (q : ℕ) (w : List ℕ) (room : Room
       kept = puts-kept values w q fields.sequentNode (omega arith)
 
       regs : Registers
-      regs = onSequent r (childOf t n 0) (r .frame) (r .hypotheses) (r .level) (q + 1)
+      regs = withSequent r (childOf t n 0) (r .frame) (r .hypotheses) (r .level) (q + 1)
 
       formed : FormedGoal G ds
       formed = subst (λ (y : Goal). FormedGoal y ds) tree (at .formed)
@@ -157,26 +171,47 @@ module _ (c : Setting) (filled : Filled c) (q : ℕ) (w : List ℕ) (room : Room
       B : Goal
       B = goalAt t (childOf t n 1)
 
-      one : SequentAt c (suc q) w′ (childOf t n 0) (r .frame) (r .hypotheses) (r .level) (sequent A (g .environment) (g .program) (g .level))
+      one : SequentAt c (suc q) w′ (childOf t n 0) (r .frame) (r .hypotheses) (r .level)
+          (sequent A (g .environment) (g .program) (g .level))
       one =
           let m = node .and k in
-          same-frame w′ kept (childOf t n 0) (λ v f. subst (λ (y : Goal). freeG y v ≡ true) (sym tree) (or-left (freeG A v) (freeG B v) f)) (m .0) (m .1) (formed .0)
+          same-frame w′ kept (childOf t n 0)
+          (λ v f. subst (λ (y : Goal). freeG y v ≡ true) (sym tree) (or-left (freeG A v) (freeG B v) f)) (m .0) (m .1) (formed .0)
 
-      two : SequentAt c (suc q) w′ (childOf t n 1) (r .frame) (r .hypotheses) (r .level) (sequent B (g .environment) (g .program) (g .level))
+      two : SequentAt c (suc q) w′ (childOf t n 1) (r .frame) (r .hypotheses) (r .level)
+          (sequent B (g .environment) (g .program) (g .level))
       two =
           let m = node .and k in
-          same-frame w′ kept (childOf t n 1) (λ v f. subst (λ (y : Goal). freeG y v ≡ true) (sym tree) (or-right (freeG A v) (freeG B v) f)) (m .2) (m .3) (formed .1)
+          same-frame w′ kept (childOf t n 1)
+          (λ v f. subst (λ (y : Goal). freeG y v ≡ true) (sym tree) (or-right (freeG A v) (freeG B v) f)) (m .2) (m .3) (formed .1)
 
-      holds : Holds c (suc q) w′ regs (sequents ((sequent A (g .environment) (g .program) (g .level) ∷ sequent B (g .environment) (g .program) (g .level) ∷ []) ++ gs))
+      holds : Holds c (suc q) w′ regs
+          (sequents ((sequent A (g .environment) (g .program) (g .level) ∷ sequent B (g .environment) (g .program) (g .level) ∷ []) ++ gs))
       holds =
-          let a : field w′ q fields.sequentNode ≡ childOf t n 1 = puts-at values w q fields.sequentNode 0 (omega arith) (omega arith) (omega arith) in
-          let b : field w′ q fields.sequentFrame ≡ r .frame = puts-at values w q fields.sequentNode 1 (omega arith) (omega arith) (omega arith) in
-          let h : field w′ q fields.sequentHypotheses ≡ r .hypotheses = puts-at values w q fields.sequentNode 2 (omega arith) (omega arith) (omega arith) in
-          let y : field w′ q fields.sequentLevel ≡ r .level = puts-at values w q fields.sequentNode 3 (omega arith) (omega arith) (omega arith) in
-          let z : field w′ q fields.sequentNext ≡ r .rest = puts-at values w q fields.sequentNode 4 (omega arith) (omega arith) (omega arith) in
-          (refl, one, (q, add-one q, omega arith, rw (a, b, h, y) two, subst (λ (p : ℕ). SequentsAt c (suc q) w′ p gs) (sym z) (sequents-on c q w w′ kept (r .rest) gs others)))
+          let a : field w′ q fields.sequentNode ≡ childOf t n 1 =
+          puts-at values w q fields.sequentNode 0 (omega arith) (omega arith) (omega arith) in
+          let b : field w′ q fields.sequentFrame ≡ r .frame =
+          puts-at values w q fields.sequentNode 1 (omega arith) (omega arith) (omega arith) in
+          let h : field w′ q fields.sequentHypotheses ≡ r .hypotheses =
+          puts-at values w q fields.sequentNode 2 (omega arith) (omega arith) (omega arith) in
+          let y : field w′ q fields.sequentLevel ≡ r .level =
+          puts-at values w q fields.sequentNode 3 (omega arith) (omega arith) (omega arith) in
+          let z : field w′ q fields.sequentNext ≡ r .rest =
+          puts-at values w q fields.sequentNode 4 (omega arith) (omega arith) (omega arith) in (
+            refl,
+            one,
+            (
+              q,
+              add-one q,
+              omega arith,
+              rw (a, b, h, y) two,
+              subst (λ (p : ℕ). SequentsAt c (suc q) w′ p gs) (sym z)
+                  (sequents-on c q w w′ kept (r .rest) gs others),
+            ),
+          )
 
-      unfit : isLine (ascii "D\tand") (c .text) i e ≡ false → (d : Line Symbol) → l ≡ lineBytes ds (derivationLine d) → WritableLine ds d → inferred c q l g gs G goal d ≡ none
+      unfit : isLine (ascii "D\tand") (c .text) i e ≡ false → (d : Line Symbol) → l ≡ lineBytes ds (derivationLine d) → WritableLine ds d
+          → inferred c q l g gs G goal d ≡ none
       unfit b (plain Dtrue) p y = refl
       unfit b (plain Dand) p y = absurd (line-absent (ascii "D\tand") (c .text) i e l rest refl here end b p)
       unfit b (plain Dleft) p y = refl
@@ -188,13 +223,16 @@ module _ (c : Setting) (filled : Filled c) (q : ℕ) (w : List ℕ) (room : Room
 
   -- "| either side"
   pub or-result : kindOf t n ≡ orKind → R (orLine t (c .text) w r i e)
-  unfolding orLine onChild onSequent infer isPlain sameWord wordNumber WritableLine textFields lineFields spellWord join ascii isWord wordByte Holds FormedGoal freeG
+  unfolding orLine withChild withSequent infer isPlain sameWord wordNumber WritableLine textFields lineFields spellWord join ascii isWord
+      wordByte Holds FormedGoal freeG
   or-result k =
-      either-side R (isLine (ascii "D\tleft") (c .text) i e) (left w (onChild t r 0)) _
-      (λ b. right-line c q l g gs G goal r (left w (onChild t r 0)) (plain Dleft) _ (line-there (ascii "D\tleft") (c .text) i e l rest refl here end b) tt refl
+      either-side R (isLine (ascii "D\tleft") (c .text) i e) (left w (withChild t r 0)) _
+      (λ b. right-line c q l g gs G goal r (left w (withChild t r 0)) (plain Dleft) _
+      (line-there (ascii "D\tleft") (c .text) i e l rest refl here end b) tt refl
       (refl, one, after) (λ z. omega arith) refl refl)
-      (λ b. either-side R (isLine (ascii "D\tright") (c .text) i e) (left w (onChild t r 1)) (broken w r)
-      (λ a. right-line c q l g gs G goal r (left w (onChild t r 1)) (plain Dright) _ (line-there (ascii "D\tright") (c .text) i e l rest refl here end a) tt refl
+      (λ b. either-side R (isLine (ascii "D\tright") (c .text) i e) (left w (withChild t r 1)) (broken w r)
+      (λ a. right-line c q l g gs G goal r (left w (withChild t r 1)) (plain Dright) _
+      (line-there (ascii "D\tright") (c .text) i e l rest refl here end a) tt refl
       (refl, two, after) (λ z. omega arith) refl refl)
       (λ a. wrong-line c q l g gs G goal w r r (unfit b a)))
     where
@@ -219,17 +257,20 @@ module _ (c : Setting) (filled : Filled c) (q : ℕ) (w : List ℕ) (room : Room
       one : SequentAt c (suc q) w (childOf t n 0) (r .frame) (r .hypotheses) (r .level) (sequent A (g .environment) (g .program) (g .level))
       one =
           let m = node .or k in
-          same-frame w (kept-self q w) (childOf t n 0) (λ v f. subst (λ (y : Goal). freeG y v ≡ true) (sym tree) (or-left (freeG A v) (freeG B v) f)) (m .0) (m .1) (formed .0)
+          same-frame w (kept-self q w) (childOf t n 0)
+          (λ v f. subst (λ (y : Goal). freeG y v ≡ true) (sym tree) (or-left (freeG A v) (freeG B v) f)) (m .0) (m .1) (formed .0)
 
       two : SequentAt c (suc q) w (childOf t n 1) (r .frame) (r .hypotheses) (r .level) (sequent B (g .environment) (g .program) (g .level))
       two =
           let m = node .or k in
-          same-frame w (kept-self q w) (childOf t n 1) (λ v f. subst (λ (y : Goal). freeG y v ≡ true) (sym tree) (or-right (freeG A v) (freeG B v) f)) (m .2) (m .3) (formed .1)
+          same-frame w (kept-self q w) (childOf t n 1)
+          (λ v f. subst (λ (y : Goal). freeG y v ≡ true) (sym tree) (or-right (freeG A v) (freeG B v) f)) (m .2) (m .3) (formed .1)
 
       after : SequentsAt c (suc q) w (r .rest) gs
       after = sequents-on c q w w (kept-self q w) (r .rest) gs others
 
-      unfit : isLine (ascii "D\tleft") (c .text) i e ≡ false → isLine (ascii "D\tright") (c .text) i e ≡ false → (d : Line Symbol) → l ≡ lineBytes ds (derivationLine d) → WritableLine ds d
+      unfit : isLine (ascii "D\tleft") (c .text) i e ≡ false → isLine (ascii "D\tright") (c .text) i e ≡ false → (d : Line Symbol)
+          → l ≡ lineBytes ds (derivationLine d) → WritableLine ds d
           → inferred c q l g gs G goal d ≡ none
       unfit b a (plain Dtrue) p y = refl
       unfit b a (plain Dand) p y = refl
@@ -242,10 +283,12 @@ module _ (c : Setting) (filled : Filled c) (q : ℕ) (w : List ℕ) (room : Room
 
   -- ">: the clause is assumed"
   pub assume-result : kindOf t n ≡ impliesKind → R (assumeLine t (c .text) w r q i e)
-  unfolding assumeLine putHypothesis puts onSequent infer isPlain sameWord wordNumber WritableLine textFields lineFields spellWord join ascii isWord wordByte Holds HypothesesAt FormedGoal freeG
+  unfolding assumeLine putHypothesis puts withSequent infer isPlain sameWord wordNumber WritableLine textFields lineFields spellWord join
+      ascii isWord wordByte Holds HypothesesAt FormedGoal freeG
   assume-result k =
       either-side R (isLine (ascii "D\tassume") (c .text) i e) _ (broken w r)
-      (λ b. right-line c q l g gs G goal r (left w′ regs) (plain Dassume) _ (line-there (ascii "D\tassume") (c .text) i e l rest refl here end b) tt refl holds (λ z. omega arith) refl refl)
+      (λ b. right-line c q l g gs G goal r (left w′ regs) (plain Dassume) _
+      (line-there (ascii "D\tassume") (c .text) i e l rest refl here end b) tt refl holds (λ z. omega arith) refl refl)
       (λ b. wrong-line c q l g gs G goal w r r (unfit b))
     where
       C : Clause
@@ -273,25 +316,28 @@ module _ (c : Setting) (filled : Filled c) (q : ℕ) (w : List ℕ) (room : Room
       kept = puts-kept values w q fields.hypothesisNode (omega arith)
 
       regs : Registers
-      regs = onSequent r (childOf t n 1) (r .frame) (q + 1) (r .level) (r .rest)
+      regs = withSequent r (childOf t n 1) (r .frame) (q + 1) (r .level) (r .rest)
 
       formed : FormedGoal G ds
       formed = subst (λ (y : Goal). FormedGoal y ds) tree (at .formed)
 
-      -- the frame in the new memory, for fewer names
+      -- The frame is kept in the new memory, for fewer names.
       frame : (p : ℕ → Bool) → ((v : ℕ) → p v ≡ true → freeG G v ≡ true) → Frame ds (c .text) w′ (r .frame) (g .environment) p
       frame p f =
           let o = at .older in
           frame-kept ds (c .text) q (r .frame) w w′ (g .environment) p kept (λ z. omega arith)
-          (frame-fewer ds (c .text) w (r .frame) (g .environment) (freeG (goalAt t n)) p (λ v b. subst (λ (y : Goal). freeG y v ≡ true) (sym tree) (f v b)) (at .frame))
+          (frame-fewer ds (c .text) w (r .frame) (g .environment) (freeG (goalAt t n)) p
+          (λ v b. subst (λ (y : Goal). freeG y v ≡ true) (sym tree) (f v b)) (at .frame))
 
       assumed : HypothesisAt c (suc q) w′ q (hypothesis C (g .environment))
       assumed =
           let m = node .implies k in
           let u = at .node in
           let o = at .older in
-          let a : field w′ q fields.hypothesisNode ≡ childOf t n 0 = puts-at values w q fields.hypothesisNode 0 (omega arith) (omega arith) (omega arith) in
-          let b : field w′ q fields.hypothesisFrame ≡ r .frame = puts-at values w q fields.hypothesisNode 1 (omega arith) (omega arith) (omega arith) in
+          let a : field w′ q fields.hypothesisNode ≡ childOf t n 0 =
+          puts-at values w q fields.hypothesisNode 0 (omega arith) (omega arith) (omega arith) in
+          let b : field w′ q fields.hypothesisFrame ≡ r .frame =
+          puts-at values w q fields.hypothesisNode 1 (omega arith) (omega arith) (omega arith) in
           record {
             below = omega arith;
             node = rw a (omega (arith, m .0));
@@ -305,25 +351,35 @@ module _ (c : Setting) (filled : Filled c) (q : ℕ) (w : List ℕ) (room : Room
       program : ProgramAt c (suc q) w′ (q + 1) (hypothesis C (g .environment) ∷ g .program)
       program =
           let p = at .program in
-          let z : field w′ q fields.hypothesisNext ≡ r .hypotheses = puts-at values w q fields.hypothesisNode 2 (omega arith) (omega arith) (omega arith) in
+          let z : field w′ q fields.hypothesisNext ≡ r .hypotheses =
+          puts-at values w q fields.hypothesisNode 2 (omega arith) (omega arith) (omega arith) in
           record {
             hypotheses = hypothesis C (g .environment) ∷ p .hypotheses;
             environment = p .environment;
             is = ap (hypothesis C (g .environment) ∷_) (p .is);
-            at = (q, add-one q, assumed, subst (λ (h : ℕ). HypothesesAt c q w′ h (p .hypotheses)) (sym z) (hypotheses-keep c q w w′ kept q (r .hypotheses) (p .hypotheses) (omega arith) (p .at)));
+            at = (
+              q,
+              add-one q,
+              assumed,
+              subst (λ (h : ℕ). HypothesesAt c q w′ h (p .hypotheses)) (sym z)
+                  (hypotheses-keep c q w w′ kept q (r .hypotheses) (p .hypotheses) (omega arith) (p .at)),
+            );
           }
 
-      holds : Holds c (suc q) w′ regs (sequents ((sequent B (g .environment) (hypothesis C (g .environment) ∷ g .program) (g .level) ∷ []) ++ gs))
+      holds : Holds c (suc q) w′ regs
+          (sequents ((sequent B (g .environment) (hypothesis C (g .environment) ∷ g .program) (g .level) ∷ []) ++ gs))
       holds =
           let m = node .implies k in
           let o = at .older in (
             refl,
-            part w′ (childOf t n 1) (r .frame) (q + 1) (r .level) (g .environment) (hypothesis C (g .environment) ∷ g .program) (g .level) (m .2) (m .3) (formed .1) (omega arith)
+            part w′ (childOf t n 1) (r .frame) (q + 1) (r .level) (g .environment) (hypothesis C (g .environment) ∷ g .program) (g .level)
+                (m .2) (m .3) (formed .1) (omega arith)
                 (frame (freeG B) (λ v f. or-right (freeC C v) (freeG B v) f)) program (at .level),
             sequents-on c q w w′ kept (r .rest) gs others,
           )
 
-      unfit : isLine (ascii "D\tassume") (c .text) i e ≡ false → (d : Line Symbol) → l ≡ lineBytes ds (derivationLine d) → WritableLine ds d → inferred c q l g gs G goal d ≡ none
+      unfit : isLine (ascii "D\tassume") (c .text) i e ≡ false → (d : Line Symbol) → l ≡ lineBytes ds (derivationLine d)
+          → WritableLine ds d → inferred c q l g gs G goal d ≡ none
       unfit b (plain Dtrue) p y = refl
       unfit b (plain Dand) p y = refl
       unfit b (plain Dleft) p y = refl
@@ -333,15 +389,19 @@ module _ (c : Setting) (filled : Filled c) (q : ℕ) (w : List ℕ) (room : Room
       unfit b (Dall u) p y = refl
       unfit b (Dclause j us) p y = refl
 
-  -- the body of a quantified goal, its variable v standing for a term of the text
-  body : (B : Goal) (v : ℕ) → v ≡ labelOf t n → B ≡ goalAt t (childOf t n 0) → v < variableNames → childOf t n 0 < n → IsGoal t (childOf t n 0) → FormedGoal B ds
-      → ((z : ℕ) → freeG (goalAt t n) z ≡ (not (eqb v z) && freeG B z)) → (s j : ℕ) (u : Ground) → Placed ds (c .text) s j u → (lv k : ℕ) → lv ≡ k
-      → Holds c (suc q) (bindGoal t w r q s j k .memory) (bindGoal t w r q s j k .registers) (sequents ((sequent B (update (g .environment) v u) (g .program) lv ∷ []) ++ gs))
-  unfolding bindGoal onSequent Holds
+  -- The body of a quantified goal is due, its variable v standing for a term of the text.
+  body : (B : Goal) (v : ℕ) → v ≡ labelOf t n → B ≡ goalAt t (childOf t n 0) → v < variableNames → childOf t n 0 < n
+      → IsGoal t (childOf t n 0) → FormedGoal B ds
+      → ((z : ℕ) → freeG (goalAt t n) z ≡ (not (eqb v z) && freeG B z)) → (s j : ℕ) (u : Ground) → SpelledAt ds (c .text) s j u
+      → (lv k : ℕ) → lv ≡ k
+      → Holds c (suc q) (bindGoal t w r q s j k .memory) (bindGoal t w r q s j k .registers)
+      (sequents ((sequent B (update (g .environment) v u) (g .program) lv ∷ []) ++ gs))
+  unfolding bindGoal withSequent Holds
   body B v a b small m is formed free s j u p lv k h =
       rw (b) (
         refl,
-        part w′ (childOf t n 0) q (r .hypotheses) k (update (g .environment) v u) (g .program) lv m is (subst (λ (y : Goal). FormedGoal y ds) b formed) (omega arith)
+        part w′ (childOf t n 0) q (r .hypotheses) k (update (g .environment) v u) (g .program) lv m is
+            (subst (λ (y : Goal). FormedGoal y ds) b formed) (omega arith)
             frame (program-on c q w w′ kept (r .hypotheses) (g .program) (at .program)) h,
         sequents-on c q w w′ kept (r .rest) gs others,
       )
@@ -360,16 +420,19 @@ module _ (c : Setting) (filled : Filled c) (q : ℕ) (w : List ℕ) (room : Room
       frame : Frame ds (c .text) w′ q (update (g .environment) v u) (freeG (goalAt t (childOf t n 0)))
       frame =
           let o = at .older in
-          subst (λ (y : ℕ). Frame ds (c .text) (bindFrame w q (r .frame) y s j) q (update (g .environment) v u) (freeG (goalAt t (childOf t n 0)))) a
-          (frame-bind ds (c .text) q (r .frame) v s j u w (g .environment) (freeG (goalAt t n)) (freeG (goalAt t (childOf t n 0))) room (λ z. omega arith) small p still (at .frame))
+          subst (λ (y : ℕ). Frame ds (c .text) (bindFrame w q (r .frame) y s j) q (update (g .environment) v u)
+          (freeG (goalAt t (childOf t n 0)))) a
+          (frame-bind ds (c .text) q (r .frame) v s j u w (g .environment) (freeG (goalAt t n)) (freeG (goalAt t (childOf t n 0))) room
+          (λ z. omega arith) small p still (at .frame))
 
   -- "E given any term whose symbols have level at most I"
   pub some-result : kindOf t n ≡ existsKind → R (someLine (c .bytes) t (c .symbols) (c .text) w r q i e)
-  unfolding someLine someTerm someWith infer inferSome WritableLine ascii isWord wordByte FormedGoal freeG bindGoal onSequent
+  unfolding someLine someTerm someWith infer inferSome WritableLine ascii isWord wordByte FormedGoal freeG bindGoal withSequent
   some-result k =
       either-side R (beginsWith word (c .text) i) (someTerm (c .bytes) t (c .symbols) (c .text) w r q (i + 7) e) (broken w r)
       (λ b. let s = word-there word (c .text) i l rest refl here b in term (s .0) (s .1) (s .2))
-      (λ b. wrong-line c q l g gs G goal w r r (only (λ u p y. absurd (word-absent word (c .text) i l rest (spellTerm u ds) refl here b p))))
+      (λ b. wrong-line c q l g gs G goal w r r
+      (only (λ u p y. absurd (word-absent word (c .text) i l rest (spellTerm u ds) refl here b p))))
     where
       word : List ℕ
       word = ascii "D\tsome\t"
@@ -392,7 +455,7 @@ module _ (c : Setting) (filled : Filled c) (q : ℕ) (w : List ℕ) (room : Room
       formed : FormedGoal G ds
       formed = subst (λ (y : Goal). FormedGoal y ds) tree (at .formed)
 
-      -- only a line with a witness can be right
+      -- Only a line with a witness can be right.
       only : ((u : Ground) → l ≡ word ++ spellTerm u ds → WritableTerm u ds → inferred c q l g gs G goal (Dsome u) ≡ none)
           → (d : Line Symbol) → l ≡ lineBytes ds (derivationLine d) → WritableLine ds d → inferred c q l g gs G goal d ≡ none
       only h (plain x) p y = refl
@@ -400,8 +463,10 @@ module _ (c : Setting) (filled : Filled c) (q : ℕ) (w : List ℕ) (room : Room
       only h (Dall u) p y = refl
       only h (Dclause j us) p y = refl
 
-      term : (m : List ℕ) → l ≡ word ++ m → drop (i + 7) (c .text) ≡ m ++ (lf ∷ rest) → R (someTerm (c .bytes) t (c .symbols) (c .text) w r q (i + 7) e)
-      term m p y = go (term-case c (names-of c filled) (i + 7) e m rest y (let z = ap length p ∙ length-append word m in let o = end in omega arith))
+      term : (m : List ℕ) → l ≡ word ++ m → drop (i + 7) (c .text) ≡ m ++ (lf ∷ rest)
+          → R (someTerm (c .bytes) t (c .symbols) (c .text) w r q (i + 7) e)
+      term m p y =
+          go (term-case c (names-of c filled) (i + 7) e m rest y (let z = ap length p ∙ length-append word m in let o = end in omega arith))
         where
           rests : (u : Ground) → l ≡ word ++ spellTerm u ds → m ≡ spellTerm u ds
           rests u o = append-cancel-left word m (spellTerm u ds) (sym p ∙ o)
@@ -412,26 +477,34 @@ module _ (c : Setting) (filled : Filled c) (q : ℕ) (w : List ℕ) (room : Room
           scan (Scanned j k) h b = rw (h j k refl) b
 
           high : (u x : Ground) → u ≡ x → leb (level u) (r .level) ≡ false → inferred c q l g gs G goal (Dsome x) ≡ none
-          high u x a b = ap (λ (z : Bool). cond z (some (sequent B (update (g .environment) v x) (g .program) (g .level) ∷ [])) none) (ap₂ (λ (z : Ground) (o : ℕ). leb (level z) o) (sym a) (at .level) ∙ b)
+          high u x a b =
+              ap (λ (z : Bool). cond z (some (sequent B (update (g .environment) v x) (g .program) (g .level) ∷ [])) none)
+              (ap₂ (λ (z : Ground) (o : ℕ). leb (level z) o) (sym a) (at .level) ∙ b)
 
           go : TermCase c (i + 7) e m → R (someTerm (c .bytes) t (c .symbols) (c .text) w r q (i + 7) e)
           go (no-term a h) = scan (scanAt c (i + 7)) h (wrong-line c q l g gs G goal w r r (only (λ u o z. absurd (a u (rests u o) z))))
           go (is-term u o h s) =
               rw (someTerm, h) (rw (eq-eqb e e refl)
               (either-side R (leb (level u) (r .level)) _ (broken w r)
-              (λ b. right-line c q l g gs G goal r (bindGoal t w r q (i + 7) e (r .level)) (Dsome u) (sequent B (update (g .environment) v u) (g .program) (g .level) ∷ [])
+              (λ b. right-line c q l g gs G goal r (bindGoal t w r q (i + 7) e (r .level)) (Dsome u)
+              (sequent B (update (g .environment) v u) (g .program) (g .level) ∷ [])
               (p ∙ ap (word ++_) o ∙ sym (bytes-some ds u)) (s .writable)
-              (ap (λ (z : Bool). cond z (some (sequent B (update (g .environment) v u) (g .program) (g .level) ∷ [])) none) (ap (leb (level u)) (at .level) ∙ b))
-              (let a = node .exists k in body B v refl refl (a .0) (a .1) (a .2) (formed .1) (λ z. ap (λ (y : Goal). freeG y z) tree) (i + 7) e u s (g .level) (r .level) (at .level))
+              (ap (λ (z : Bool). cond z (some (sequent B (update (g .environment) v u) (g .program) (g .level) ∷ [])) none)
+              (ap (leb (level u)) (at .level) ∙ b))
+              (let a = node .exists k in body B v refl refl (a .0) (a .1) (a .2) (formed .1) (λ z. ap (λ (y : Goal). freeG y z) tree)
+              (i + 7) e u s (g .level) (r .level) (at .level))
               (λ z. omega arith) refl refl)
-              (λ b. wrong-line c q l g gs G goal w r r (only (λ x z y. high u x (spelling-injective u x ds (names-of c filled) (s .writable) y (sym o ∙ rests x z)) b)))))
+              (λ b. wrong-line c q l g gs G goal w r r
+              (only (λ x z y. high u x (spelling-injective u x ds (names-of c filled) (s .writable) y (sym o ∙ rests x z)) b)))))
 
   -- "U any made constant of level I + 1"
   pub all-result : kindOf t n ≡ forallKind → R (allLine t (c .text) w r q i e)
-  unfolding allLine allConstant allWith infer inferAll inferConstant WritableLine WritableTerm ascii isWord wordByte FormedGoal freeG bindGoal onSequent spellTerm spellSymbol level symbolLevel levelBy scanTerm
+  unfolding allLine allConstant allWith infer inferAll inferConstant WritableLine WritableTerm ascii isWord wordByte FormedGoal freeG
+      bindGoal withSequent spellTerm spellSymbol level symbolLevel levelBy scanTerm
   all-result k =
       either-side R (beginsWith word (c .text) i) (allConstant t (c .text) w r q (i + 6) e) (broken w r)
-      (λ b. let s = word-there word (c .text) i l rest refl here b in constant (s .0) (s .1) (drop-past (c .text) i (ascii "D\tall\t") (33 ∷ (s .0 ++ (lf ∷ rest))) (here ∙ ap (_++ (lf ∷ rest)) (s .1))))
+      (λ b. let s = word-there word (c .text) i l rest refl here b in
+      constant (s .0) (s .1) (drop-past (c .text) i (ascii "D\tall\t") (33 ∷ (s .0 ++ (lf ∷ rest))) (here ∙ ap (_++ (lf ∷ rest)) (s .1))))
       (λ b. wrong-line c q l g gs G goal w r r (only (λ a j p y. absurd (word-absent word (c .text) i l rest (marked a j) refl here b p))))
     where
       word : List ℕ
@@ -455,8 +528,9 @@ module _ (c : Setting) (filled : Filled c) (q : ℕ) (w : List ℕ) (room : Room
       formed : FormedGoal G ds
       formed = subst (λ (y : Goal). FormedGoal y ds) tree (at .formed)
 
-      -- only a line with a made constant can be right
-      only : ((a j : ℕ) → l ≡ ascii "D\tall\t" ++ spellTerm (leaf (made a j)) ds → WritableTerm (leaf (made a j)) ds → inferred c q l g gs G goal (Dall (leaf (made a j))) ≡ none)
+      -- Only a line with a made constant can be right.
+      only : ((a j : ℕ) → l ≡ ascii "D\tall\t" ++ spellTerm (leaf (made a j)) ds → WritableTerm (leaf (made a j)) ds
+          → inferred c q l g gs G goal (Dall (leaf (made a j))) ≡ none)
           → (d : Line Symbol) → l ≡ lineBytes ds (derivationLine d) → WritableLine ds d → inferred c q l g gs G goal d ≡ none
       only h (plain x) p y = refl
       only h (Dsome u) p y = refl
@@ -465,7 +539,8 @@ module _ (c : Setting) (filled : Filled c) (q : ℕ) (w : List ℕ) (room : Room
       only h (Dall (app f us)) p y = refl
       only h (Dclause j us) p y = refl
 
-      constant : (m : List ℕ) → l ≡ ascii "D\tall\t" ++ (33 ∷ m) → drop (i + 6) (c .text) ≡ (33 ∷ m) ++ (lf ∷ rest) → R (allConstant t (c .text) w r q (i + 6) e)
+      constant : (m : List ℕ) → l ≡ ascii "D\tall\t" ++ (33 ∷ m) → drop (i + 6) (c .text) ≡ (33 ∷ m) ++ (lf ∷ rest)
+          → R (allConstant t (c .text) w r q (i + 6) e)
       constant m p y = go (term-case c (names-of c filled) (i + 6) e (33 ∷ m) rest y (let z = ap length p in let o = end in omega arith))
         where
           rests : (u : Ground) → l ≡ ascii "D\tall\t" ++ spellTerm u ds → 33 ∷ m ≡ spellTerm u ds
@@ -476,36 +551,47 @@ module _ (c : Setting) (filled : Filled c) (q : ℕ) (w : List ℕ) (room : Room
           scan Malformed h b = b
           scan (Scanned j k) h b = rw (h j k refl) b
 
-          -- after its first byte the term is scanned as a symbol
+          -- After its first byte the term is scanned as a symbol.
           symbol : scanAt c (i + 6) ≡ scanSymbol (c .text) (i + 6 + 1)
           symbol = first (length (c .text)) refl
             where
-              first : (f : ℕ) → length (c .text) ≡ f → scanTerm f (c .bytes) t (c .symbols) (c .text) (i + 6) ≡ scanSymbol (c .text) (i + 6 + 1)
+              first : (f : ℕ) → length (c .text) ≡ f
+                  → scanTerm f (c .bytes) t (c .symbols) (c .text) (i + 6) ≡ scanSymbol (c .text) (i + 6 + 1)
               first zero z = let o = within (c .text) (i + 6) 33 (m ++ (lf ∷ rest)) y in absurd (omega arith)
               first (suc f) z = rw (scanTerm, byte-is (c .text) (i + 6) 33 (m ++ (lf ∷ rest)) y)
 
           uneven : (a j b : ℕ) → eqb b (r .level + 1) ≡ false → j ≡ b → inferred c q l g gs G goal (Dall (leaf (made a j))) ≡ none
           uneven a j b h z =
               let o : suc (g .level) ≡ r .level + 1 = (let x = at .level in omega arith) in
-              ap (λ (x : Bool). cond x (some (sequent B (update (g .environment) v (leaf (made a j))) (g .program) (suc (g .level)) ∷ [])) none) (ap₂ eqb z o ∙ h)
+              ap (λ (x : Bool). cond x (some (sequent B (update (g .environment) v (leaf (made a j))) (g .program) (suc (g .level)) ∷ []))
+              none) (ap₂ eqb z o ∙ h)
 
-          -- a term that begins so is a made constant
-          fits : (u : Ground) → 33 ∷ m ≡ spellTerm u ds → Placed ds (c .text) (i + 6) e u
+          -- A term that begins with `!` is a made constant, and its level decides whether the line is right.
+          fits : (u : Ground) → 33 ∷ m ≡ spellTerm u ds → SpelledAt ds (c .text) (i + 6) e u
               → R (cond (eqb (level u) (r .level + 1)) (bindGoal t w r q (i + 6) e (level u)) (broken w r))
           fits (leaf (made a j)) o s =
               either-side R (eqb j (r .level + 1)) (bindGoal t w r q (i + 6) e j) (broken w r)
               (λ b. let z : suc (g .level) ≡ j = (let x = at .level in let d = eqb-true j (r .level + 1) b in omega arith) in
-              right-line c q l g gs G goal r (bindGoal t w r q (i + 6) e j) (Dall (leaf (made a j))) (sequent B (update (g .environment) v (leaf (made a j))) (g .program) (suc (g .level)) ∷ [])
+              right-line c q l g gs G goal r (bindGoal t w r q (i + 6) e j) (Dall (leaf (made a j)))
+              (sequent B (update (g .environment) v (leaf (made a j))) (g .program) (suc (g .level)) ∷ [])
               (p ∙ ap (ascii "D\tall\t" ++_) o ∙ sym (bytes-all ds (leaf (made a j)))) (s .writable)
-              (ap (λ (x : Bool). cond x (some (sequent B (update (g .environment) v (leaf (made a j))) (g .program) (suc (g .level)) ∷ [])) none) (eq-eqb j (suc (g .level)) (sym z)))
-              (let x = node .forall k in body B v refl refl (x .0) (x .1) (x .2) (formed .1) (λ y. ap (λ (d : Goal). freeG d y) tree) (i + 6) e (leaf (made a j)) s (suc (g .level)) j z)
+              (ap (λ (x : Bool). cond x
+              (some (sequent B (update (g .environment) v (leaf (made a j))) (g .program) (suc (g .level)) ∷ [])) none)
+              (eq-eqb j (suc (g .level)) (sym z)))
+              (let x = node .forall k in body B v refl refl (x .0) (x .1) (x .2) (formed .1) (λ y. ap (λ (d : Goal). freeG d y) tree)
+              (i + 6) e (leaf (made a j)) s (suc (g .level)) j z)
               (λ x. omega arith) refl refl)
-              (λ b. wrong-line c q l g gs G goal w r r (only (λ d x z y. uneven d x j b (same d x (spelling-injective (leaf (made a j)) (leaf (made d x)) ds (names-of c filled) (s .writable) y (sym o ∙ rests (leaf (made d x)) z))))))
+              (λ b. wrong-line c q l g gs G goal w r r
+              (only (λ d x z y. uneven d x j b
+              (same d x (spelling-injective (leaf (made a j)) (leaf (made d x)) ds (names-of c filled) (s .writable) y (sym o
+              ∙ rests (leaf (made d x)) z))))))
             where
               same : (d x : ℕ) → leaf (made a j) ≡ leaf (made d x) → x ≡ j
               same d x z = ap level (sym z)
           fits (leaf (leftover a j)) o s = absurd (let z : _≡_ {A = ℕ} 33 95 = cc in omega arith)
-          fits (app f us) o s = absurd (named (nameOf ds f) (spellArguments us ds) o (name-of ds f (count us) (names-of c filled) (has-arity ds f (count us) (s .writable .0))))
+          fits (app f us) o s =
+              absurd (named (nameOf ds f) (spellArguments us ds) o
+              (name-of ds f (count us) (names-of c filled) (has-arity ds f (count us) (s .writable .0))))
             where
               named : (a b : List ℕ) → 33 ∷ m ≡ a ++ b → isName a ≡ true → ⊥
               named [] b z x = name-nonempty x

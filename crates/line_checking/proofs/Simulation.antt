@@ -17,28 +17,30 @@ use Rattle.sheet_format.proofs.Bytes.{Without}
 use Rattle.sheet_format.proofs.Good.{Good, good}
 use Rattle.sheet_format.specs.Limits.{numbersPerUnit}
 use Rattle.answer_texts.specs.Spelled.{Stage, opening, bindings, sequents, unlines}
-use Rattle.answer_texts.specs.Judging.{showSymbols, Progress, Judgement, invalid, judgeLine as judgeBytes, judgeEnd, judgeFrom as judgeLines, judge}
+use Rattle.answer_texts.specs.Judging.{showSymbols, Progress, Judgement, invalid, judgeLine as judgeBytes, judgeEnd}
+use Rattle.answer_texts.specs.Judging.{judgeFrom as judgeLines, judge}
 use Rattle.answer_texts.proofs.Splitting.{linesOf-split}
 use Rattle.answer_texts.proofs.Showings.{unseen}
-use Rattle.scanning.specs.Ranges.{lineEnd}
-use Rattle.scanning.proofs.Places.{drop-length, drop-next, drop-past}
+use Rattle.scanning.specs.Ranges.{textLineEnd}
+use Rattle.scanning.proofs.Positions.{drop-length, drop-next, drop-past}
 use Rattle.scanning.proofs.Ranges.{line-end, line-open}
 use Rattle.scanning.proofs.Records.{Kept}
-use Rattle.scanning.proofs.Marks.{marksIn}
+use Rattle.scanning.proofs.SymbolsInText.{startsIn}
 use Rattle.line_checking.specs.declared.Registers.{Registers}
 use Rattle.line_checking.specs.Sequents.{Made, start, brokenStage, doneStage}
 use Rattle.line_checking.specs.Judging.{judgeLine, Judged, judged, endVerdict, judgeFrom, judgeText}
 use Rattle.line_checking.specs.Simulation.{judgementOf, lineFeeds, Simulates}
-use Rattle.line_checking.proofs.Holds.{Setting, sheetOf, Filled, Holds}
+use Rattle.line_checking.proofs.Representation.{Setting, sheetOf, Filled, Holds}
 use Rattle.line_checking.proofs.Judging.{State, Judges as JudgesLine, line-judged, line-kept}
 
 -- numbers that stay
 
--- what is the same from a place on is the same further on
+-- What is the same from a position on is the same from a later position on.
 same-further : (n m : ℕ) (w w′ : List ℕ) → n ≤ m → drop n w′ ≡ drop n w → drop m w′ ≡ drop m w
 same-further n m w w′ l h =
     let e : n + (m - n) ≡ m = omega arith in
-    ap (λ (k : ℕ). drop k w′) (sym e) ∙ sym (drop-drop (m - n) n w′) ∙ ap (drop (m - n)) h ∙ drop-drop (m - n) n w ∙ ap (λ (k : ℕ). drop k w) e
+    ap (λ (k : ℕ). drop k w′) (sym e) ∙ sym (drop-drop (m - n) n w′) ∙ ap (drop (m - n)) h ∙ drop-drop (m - n) n w
+    ∙ ap (λ (k : ℕ). drop k w) e
 
 -- What comes of the lines from line q on, in a buffer with n records.
 record Goes (c : Setting) (n : ℕ) (w : List ℕ) (a : Judged) (j : Judgement) : Type 0 where
@@ -49,7 +51,7 @@ record Goes (c : Setting) (n : ℕ) (w : List ℕ) (a : Judged) (j : Judgement) 
 -- the end
 
 module _ (c : Setting) (q i : ℕ) (w : List ℕ) (r : Registers) where
-  -- bytes are left after the last LF
+  -- If bytes are left after the last LF, the text is not valid.
   ends-open : (b : ℕ) (bs : List ℕ) (a : Stage) → judgeEnd a (b ∷ bs) (suc q) ≡ invalid (suc q)
   unfolding judgeEnd
   ends-open b bs opening = refl
@@ -57,7 +59,7 @@ module _ (c : Setting) (q i : ℕ) (w : List ℕ) (r : Registers) where
   ends-open b bs (sequents []) = refl
   ends-open b bs (sequents (g ∷ gs)) = refl
 
-  -- none is left: valid if no line is due
+  -- If no byte is left, the text is valid exactly if no line is due.
   ends-here : (a : Stage) → Holds c q w r a → judgementOf (cond (eqb (r .stage) doneStage) 0 (suc q)) ≡ judgeEnd a [] (suc q)
   unfolding judgeEnd judgementOf Holds
   ends-here opening h = ap (λ (z : ℕ). judgementOf (cond (eqb z 3) 0 (suc q))) h
@@ -66,8 +68,9 @@ module _ (c : Setting) (q i : ℕ) (w : List ℕ) (r : Registers) where
   ends-here (sequents []) h = ap (λ (z : ℕ). judgementOf (cond (eqb z 3) 0 (suc q))) h
   ends-here (sequents (g ∷ gs)) h = ap (λ (z : ℕ). judgementOf (cond (eqb z 3) 0 (suc q))) (h .0)
 
-  -- both
-  ends : (rest : List ℕ) (a : Stage) → i + length rest ≡ length (c .text) → Holds c q w r a → judgementOf (endVerdict (c .text) r q i) ≡ judgeEnd a rest (suc q)
+  -- The verdict at the end is that of `judgeEnd`, whether or not bytes are left.
+  ends : (rest : List ℕ) (a : Stage) → i + length rest ≡ length (c .text) → Holds c q w r a
+      → judgementOf (endVerdict (c .text) r q i) ≡ judgeEnd a rest (suc q)
   unfolding endVerdict judgementOf
   ends [] a h k =
       let z : i ≡ length (c .text) = omega arith in
@@ -77,13 +80,15 @@ module _ (c : Setting) (q i : ℕ) (w : List ℕ) (r : Registers) where
 -- the lines
 
 module _ (c : Setting) (filled : Filled c) where
-  -- the machine on this setting
+  -- This is the machine on this setting.
   abbrev run : ℕ → List ℕ → Registers → ℕ → ℕ → Judged
   run n w r q i = judgeFrom n (c .bytes) (c .table) (c .symbols) (c .clauses) (c .goal) (c .text) w r q i
 
-  -- from line q on
-  lines-judged : (ls : List (List ℕ)) (rest : List ℕ) (n q i : ℕ) (w : List ℕ) (r : Registers) (p : Progress) → length ls < n → drop i (c .text) ≡ unlines ls ++ rest → All (Without lf) ls
-      → Without lf rest → numbersPerUnit * (q + length ls) ≤ length w → State c q i w r p → Goes c (q + length ls) w (run n w r q i) (judgeLines (sheetOf c) ls rest (suc q) p)
+  -- From line q on, the machine's verdict is the judgement of the lines.
+  lines-judged : (ls : List (List ℕ)) (rest : List ℕ) (n q i : ℕ) (w : List ℕ) (r : Registers) (p : Progress) → length ls < n
+      → drop i (c .text) ≡ unlines ls ++ rest → All (Without lf) ls
+      → Without lf rest → numbersPerUnit * (q + length ls) ≤ length w → State c q i w r p
+      → Goes c (q + length ls) w (run n w r q i) (judgeLines (sheetOf c) ls rest (suc q) p)
   unfolding judgeFrom judgeLines unlines judgementOf
   lines-judged ls rest zero q i w r p l d a b room s = absurd (omega arith)
   lines-judged [] rest (suc n) q i w r p l d a b room s =
@@ -91,7 +96,8 @@ module _ (c : Setting) (filled : Filled c) where
       let k = drop-length (c .text) i rest d in
       let f = s .inside in
       let z : i + length rest ≡ length (c .text) = omega arith in
-      rw (le-ltb (lineEnd (c .text) i) (length (c .text)) (omega arith)) (record { verdict = ends c q i w r rest (p .stage) z (s .holds); same-length = refl; same-rest = refl })
+      rw (le-ltb (textLineEnd (c .text) i) (length (c .text)) (omega arith))
+      (record { verdict = ends c q i w r rest (p .stage) z (s .holds); same-length = refl; same-rest = refl })
   lines-judged (x ∷ ls) rest (suc n) q i w r p l d a b room s =
       let y = line-end x (unlines ls ++ rest) (c .text) i here (a .0) in
       let k = drop-length (c .text) i (x ++ (lf ∷ (unlines ls ++ rest))) here in
@@ -102,7 +108,7 @@ module _ (c : Setting) (filled : Filled c) where
       (λ w′ r′ p′ o h. lines-judged ls rest n (suc q) (e + 1) w′ r′ p′ (omega arith) (after y) (a .1) b o h))
     where
       e : ℕ
-      e = lineEnd (c .text) i
+      e = textLineEnd (c .text) i
 
       m : Made
       m = judgeLine (c .bytes) (c .table) (c .symbols) (c .clauses) (c .goal) (c .text) w r q i e
@@ -111,40 +117,53 @@ module _ (c : Setting) (filled : Filled c) where
       here = d ∙ append-assoc x (lf ∷ unlines ls) rest
 
       after : e ≡ i + length x → drop (e + 1) (c .text) ≡ unlines ls ++ rest
-      after y = ap (λ (z : ℕ). drop (z + 1) (c .text)) y ∙ drop-next (c .text) (i + length x) lf (unlines ls ++ rest) (drop-past (c .text) i x (lf ∷ (unlines ls ++ rest)) here)
+      after y =
+          ap (λ (z : ℕ). drop (z + 1) (c .text)) y
+          ∙ drop-next (c .text) (i + length x) lf (unlines ls ++ rest) (drop-past (c .text) i x (lf ∷ (unlines ls ++ rest)) here)
 
       Later : Type 0
-      Later = (w′ : List ℕ) (r′ : Registers) (p′ : Progress) → numbersPerUnit * (suc q + length ls) ≤ length w′ → State c (suc q) (e + 1) w′ r′ p′
+      Later =
+          (w′ : List ℕ) (r′ : Registers) (p′ : Progress) → numbersPerUnit * (suc q + length ls) ≤ length w′
+          → State c (suc q) (e + 1) w′ r′ p′
           → Goes c (suc q + length ls) w′ (run n w′ r′ (suc q) (e + 1)) (judgeLines (sheetOf c) ls rest (suc (suc q)) p′)
 
-      -- after the line, whatever it left
+      -- After the line, whatever it left, the machine's verdict is the judgement.
       step : (m : Made) → Kept q w (m .memory) → (o : Option Progress) → JudgesLine c (suc q) (e + 1) m o → Later
-          → Goes c (q + suc (length ls)) w (cond (eqb (m .registers .stage) brokenStage) (judged (m .memory) (q + 1)) (run n (m .memory) (m .registers) (q + 1) (e + 1)))
+          → Goes c (q + suc (length ls)) w
+          (cond (eqb (m .registers .stage) brokenStage) (judged (m .memory) (q + 1)) (run n (m .memory) (m .registers) (q + 1) (e + 1)))
           (elim o as (λ z. Judgement) [ none ↦ invalid (suc q) | some p′ ↦ judgeLines (sheetOf c) ls rest (suc (suc q)) p′ ])
       step m kept none h ih =
           subst (λ (z : Judged). Goes c (q + suc (length ls)) w z (invalid (suc q)))
           (sym (ap (λ (z : ℕ). cond (eqb z 4) (judged (m .memory) (q + 1)) (run n (m .memory) (m .registers) (q + 1) (e + 1))) h))
-          (record { verdict = ap judgementOf (add-one q); same-length = kept .size; same-rest = same-further (numbersPerUnit * suc q) (numbersPerUnit * (q + suc (length ls))) w (m .memory) (omega arith) (kept .after) })
+          (record {
+            verdict = ap judgementOf (add-one q);
+            same-length = kept .size;
+            same-rest =
+                same-further (numbersPerUnit * suc q) (numbersPerUnit * (q + suc (length ls))) w (m .memory) (omega arith) (kept .after);
+          })
       step m kept (some p′) h ih =
           let u = kept .size in
           let v : suc q + length ls ≡ q + suc (length ls) = omega arith in
           let z = ih (m .memory) (m .registers) p′ (omega arith) (h .1) in
           subst (λ (k : Judged). Goes c (q + suc (length ls)) w k (judgeLines (sheetOf c) ls rest (suc (suc q)) p′))
-          (sym (ap (λ (k : Bool). cond k (judged (m .memory) (q + 1)) (run n (m .memory) (m .registers) (q + 1) (e + 1))) (ne-eqb (m .registers .stage) brokenStage (h .0))
+          (sym (ap (λ (k : Bool). cond k (judged (m .memory) (q + 1)) (run n (m .memory) (m .registers) (q + 1) (e + 1)))
+          (ne-eqb (m .registers .stage) brokenStage (h .0))
           ∙ ap (λ (k : ℕ). run n (m .memory) (m .registers) k (e + 1)) (add-one q)))
           (record {
             verdict = z .verdict;
             same-length = z .same-length ∙ kept .size;
-            same-rest = subst (λ (k : ℕ). drop (numbersPerUnit * k) (run n (m .memory) (m .registers) (suc q) (e + 1) .memory) ≡ drop (numbersPerUnit * k) (m .memory)) v (z .same-rest)
+            same-rest =
+                subst (λ (k : ℕ). drop (numbersPerUnit * k) (run n (m .memory) (m .registers) (suc q) (e + 1) .memory) ≡ drop
+                (numbersPerUnit * k) (m .memory)) v (z .same-rest)
                 ∙ same-further (numbersPerUnit * suc q) (numbersPerUnit * (q + suc (length ls))) w (m .memory) (omega arith) (kept .after);
           })
 
--- before the first line
+-- Before the first line the state is the opening stage with no symbol seen.
 opened : (c : Setting) (w : List ℕ) → State c 0 0 w start (record { stage = opening; seen = unseen })
-unfolding Holds start showSymbols marksIn
+unfolding Holds start showSymbols startsIn
 opened c w = record { holds = refl; made-count = refl; leftover-count = refl; seen = refl; inside = omega arith }
 
--- a text has a byte for each line at least
+-- A text has at least one byte for each line.
 unlines-length : (ls : List (List ℕ)) → length ls ≤ length (unlines ls)
 unfolding unlines
 unlines-length [] = omega arith
@@ -159,11 +178,14 @@ simulates bytes s h t symbols nodes clauses goal made decoded x w room =
     let b = ap length (split .joined) in
     let d = length-append (unlines (l .whole)) (l .rest) in
     let z : 0 + length (l .whole) ≡ length (l .whole) = omega arith in
-    let g = lines-judged c filled (l .whole) (l .rest) (length x + 1) 0 0 w start p (omega arith) (sym (split .joined)) (split .whole) (split .rest) (omega arith) first in
+    let g = lines-judged c filled (l .whole) (l .rest) (length x + 1) 0 0 w start p (omega arith) (sym (split .joined)) (split .whole)
+    (split .rest) (omega arith) first in
     record {
       verdict = g .verdict ∙ ap (λ (y : Sheet). judgeLines y (l .whole) (l .rest) 1 p) decoded;
       same-length = g .same-length;
-      same-rest = subst (λ (k : ℕ). drop (numbersPerUnit * k) (judgeText bytes t symbols clauses goal x w .memory) ≡ drop (numbersPerUnit * k) w) z (g .same-rest);
+      same-rest =
+          subst (λ (k : ℕ). drop (numbersPerUnit * k) (judgeText bytes t symbols clauses goal x w .memory) ≡ drop (numbersPerUnit * k) w)
+          z (g .same-rest);
     }
   where
     c : Setting

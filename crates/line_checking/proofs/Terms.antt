@@ -16,9 +16,9 @@ use Rattle.answer_texts.proofs.Spans.{Stops}
 use Rattle.scanning.specs.declared.Scan.{Scan}
 use Rattle.scanning.specs.declared.Scan.the-variants.{Term as Scanned, Malformed}
 use Rattle.scanning.specs.Scanning.{scanTerm}
-use Rattle.scanning.proofs.Places.{drop-past, drop-length}
-use Rattle.scanning.proofs.Placed.{Placed, scanned-line, spelled-scan}
-use Rattle.line_checking.proofs.Holds.{Setting, declared}
+use Rattle.scanning.proofs.Positions.{drop-past, drop-length}
+use Rattle.scanning.proofs.TermsInText.{SpelledAt, scanned-line, spelled-scan}
+use Rattle.line_checking.proofs.Representation.{Setting, declared}
 use Rattle.line_checking.proofs.Results.{no-more}
 
 -- The scan of the text of a setting.
@@ -27,31 +27,40 @@ scanAt c i = scanTerm (length (c .text)) (c .bytes) (c .table) (c .symbols) (c .
 
 -- The rest m of a line, from i to e, is a term, or none.
 pub data TermCase (c : Setting) (i e : ℕ) (m : List ℕ) : Type 0 where
-  is-term : (t : Ground) → m ≡ spellTerm t (declared c) → scanAt c i ≡ Scanned e (level t) → Placed (declared c) (c .text) i e t → TermCase c i e m
-  no-term : ((t : Ground) → m ≡ spellTerm t (declared c) → WritableTerm t (declared c) → ⊥) → ((j k : ℕ) → scanAt c i ≡ Scanned j k → eqb j e ≡ false) → TermCase c i e m
+  is-term : (t : Ground) → m ≡ spellTerm t (declared c) → scanAt c i ≡ Scanned e (level t) → SpelledAt (declared c) (c .text) i e t
+      → TermCase c i e m
+  no-term : ((t : Ground) → m ≡ spellTerm t (declared c) → WritableTerm t (declared c) → ⊥)
+      → ((j k : ℕ) → scanAt c i ≡ Scanned j k → eqb j e ≡ false) → TermCase c i e m
 
 module _ (c : Setting) (names : Names (declared c)) where
-  -- a term that stands in the text before LF
-  pub placed : (i : ℕ) (t : Ground) (b : ℕ) (r : List ℕ) → drop i (c .text) ≡ spellTerm t (declared c) ++ (b ∷ r) → WritableTerm t (declared c) → isNameByte b ≡ false
-      → Placed (declared c) (c .text) i (i + length (spellTerm t (declared c))) t
-  placed i t b r h w n =
+  -- A spelled term before a byte that is none of a name stands in the text.
+  pub spelledAt : (i : ℕ) (t : Ground) (b : ℕ) (r : List ℕ) → drop i (c .text) ≡ spellTerm t (declared c) ++ (b ∷ r)
+      → WritableTerm t (declared c) → isNameByte b ≡ false
+      → SpelledAt (declared c) (c .text) i (i + length (spellTerm t (declared c))) t
+  spelledAt i t b r h w n =
       let e = drop-past (c .text) i (spellTerm t (declared c)) (b ∷ r) h in
-      record { spelled = h ∙ ap (spellTerm t (declared c) ++_) (sym e); end = refl; writable = w; stops = subst (Stops isNameByte) (sym e) n }
+      record {
+        spelled = h ∙ ap (spellTerm t (declared c) ++_) (sym e);
+        end = refl;
+        writable = w;
+        stops = subst (Stops isNameByte) (sym e) n;
+      }
 
-  -- it is scanned
-  pub scan-there : (i : ℕ) (t : Ground) (b : ℕ) (r : List ℕ) → drop i (c .text) ≡ spellTerm t (declared c) ++ (b ∷ r) → WritableTerm t (declared c) → isNameByte b ≡ false
+  -- A spelled term before a byte that is none of a name is scanned.
+  pub scan-there : (i : ℕ) (t : Ground) (b : ℕ) (r : List ℕ) → drop i (c .text) ≡ spellTerm t (declared c) ++ (b ∷ r)
+      → WritableTerm t (declared c) → isNameByte b ≡ false
       → scanAt c i ≡ Scanned (i + length (spellTerm t (declared c))) (level t)
   scan-there i t b r h w n =
       let l = drop-length (c .text) i (spellTerm t (declared c) ++ (b ∷ r)) h in
       let k = length-append (spellTerm t (declared c)) (b ∷ r) in
       spelled-scan (c .bytes) (c .table) (c .symbols) names (c .text) (length (c .text)) i t b r h w (omega arith) n
 
-  -- which of the two it is
+  -- The rest of a line is found to be a term or none.
   pub term-case : (i e : ℕ) (m rest : List ℕ) → drop i (c .text) ≡ m ++ (lf ∷ rest) → e ≡ i + length m → TermCase c i e m
   unfolding isNameByte isLetter isDigit
   term-case i e m rest d k = go (scanAt c i) refl
     where
-      -- a term that is the rest of the line is found
+      -- A term that is the rest of the line is found.
       finds : (t : Ground) → m ≡ spellTerm t (declared c) → WritableTerm t (declared c) → scanAt c i ≡ Scanned e (level t)
       finds t p w =
           let z : i + length (spellTerm t (declared c)) ≡ e = (let a = ap length p in omega arith) in
@@ -63,20 +72,25 @@ module _ (c : Setting) (names : Names (declared c)) where
           let u = s .term in
           let n = s .end in
           let p : m ≡ spellTerm u (declared c) =
-          s .spelled ∙ ap (spellTerm u (declared c) ++_) (no-more (spellTerm u (declared c)) (s .more) i e (let a = ap length (s .spelled) in omega arith) (omega arith))
+          s .spelled
+          ∙ ap (spellTerm u (declared c) ++_)
+          (no-more (spellTerm u (declared c)) (s .more) i e (let a = ap length (s .spelled) in omega arith) (omega arith))
           ∙ append-nil (spellTerm u (declared c)) in
           let z : i + length (spellTerm u (declared c)) ≡ e = omega arith in
           is-term u p (finds u p (s .writable))
-          (subst (λ (a : ℕ). Placed (declared c) (c .text) i a u) z (placed i u lf rest (d ∙ ap (_++ (lf ∷ rest)) p) (s .writable) refl))
+          (subst (λ (a : ℕ). SpelledAt (declared c) (c .text) i a u) z
+          (spelledAt i u lf rest (d ∙ ap (_++ (lf ∷ rest)) p) (s .writable) refl))
 
       go : (a : Scan) → scanAt c i ≡ a → TermCase c i e m
       go Malformed h =
-          no-term (λ t p w. absurd (let z : Malformed ≡ Scanned e (level t) = sym h ∙ finds t p w in let v : _≡_ {A = ℕ} 0 1 = cc in omega arith))
+          no-term (λ t p w. absurd (let z : Malformed ≡ Scanned e (level t) = sym h
+          ∙ finds t p w in let v : _≡_ {A = ℕ} 0 1 = cc in omega arith))
           (λ j k y. absurd (let z : Malformed ≡ Scanned j k = sym h ∙ y in let v : _≡_ {A = ℕ} 0 1 = cc in omega arith))
       go (Scanned j k) h = ends (eqb j e) refl
         where
           ends : (z : Bool) → eqb j e ≡ z → TermCase c i e m
           ends true y = found j k h (eqb-true j e y)
           ends false y =
-              no-term (λ t p w. eqb-false j e y (let z : Scanned j k ≡ Scanned e (level t) = sym h ∙ finds t p w in let o : j ≡ e = cc in o))
+              no-term (λ t p w. eqb-false j e y (let z : Scanned j k ≡ Scanned e (level t) = sym h
+              ∙ finds t p w in let o : j ≡ e = cc in o))
               (λ a b u. let z : Scanned a b ≡ Scanned j k = sym u ∙ h in ap (λ (o : ℕ). eqb o e) (let o : a ≡ j = cc in o) ∙ y)

@@ -29,5 +29,7 @@ pub record Judges (s : Sheet) (x w : List ℕ) (a : Judged) : Type 0 where
 
 -- For every sheet that the reader has put into the table, every text, and every work buffer with 64 numbers for each LF.
 abbrev pub Simulates : Type 0
-Simulates = (bytes : List ℕ) (s : Sheet) → readSheet bytes ≡ sheet s → (t : List ℕ) (symbols nodes clauses goal : ℕ) → WellMade t nodes clauses goal
-    → decodeSheet bytes t symbols clauses goal ≡ s → (x w : List ℕ) → numbersPerUnit * lineFeeds x ≤ length w → Judges s x w (judgeText bytes t symbols clauses goal x w)
+Simulates =
+    (bytes : List ℕ) (s : Sheet) → readSheet bytes ≡ sheet s → (t : List ℕ) (symbols nodes clauses goal : ℕ) → WellMade t nodes clauses goal
+    → decodeSheet bytes t symbols clauses goal ≡ s → (x w : List ℕ) → numbersPerUnit * lineFeeds x ≤ length w
+    → Judges s x w (judgeText bytes t symbols clauses goal x w)

@@ -3,17 +3,17 @@ pub mod text_stages;
 
 // All of the checker's state that is not in the work buffer. A pointer is the number of a record plus 1, and 0 for none.
 pub struct Registers {
-    // what is due (text_stages)
+    // What is due (module `text_stages`).
     pub stage: u32,
-    // the node of the sequent's goal, or the variable of the B line that is due
+    // The node of the sequent's goal, or the variable of the B line that is due.
     pub node: u32,
-    // its frame, its hypotheses, its level
+    // The frame, the hypotheses and the level of the sequent.
     pub frame: u32,
     pub hypotheses: u32,
     pub level: u32,
-    // the sequents left after it
+    // The sequents left after the one that is due.
     pub rest: u32,
-    // how many made constants and leftover variables have shown
+    // How many made constants and leftover variables have shown.
     pub made: u32,
     pub leftover: u32,
 }

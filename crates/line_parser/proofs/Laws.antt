@@ -10,7 +10,8 @@ use mathlib.Core.Option.{Option, none, some}
 use lib.ListN.{length, drop, take, getD}
 use borrow.Author.Tests.{ne-eqb}
 use Rattle.sheet_format.specs.Bytes.{tab, fields}
-use Rattle.sheet_format.specs.SheetLines.{variableLine, trueLine, SheetLine, nodeLine, clauseLine, goalLine, numbers, declaration, noNumber, oneNumber, twoNumbers, withVariable, application, lineOf, ofFields, parseLine}
+use Rattle.sheet_format.specs.SheetLines.{variableLine, trueLine, SheetLine, nodeLine, clauseLine, goalLine, numbers, declaration, noNumber}
+use Rattle.sheet_format.specs.SheetLines.{oneNumber, twoNumbers, withVariable, application, lineOf, ofFields, parseLine}
 use Rattle.line_parser.proofs.fields.Laws.{rest-part}
 use Rattle.line_parser.proofs.fields.Fields.{numbers-some}
 use Rattle.line_parser.specs.declared.lines.NodeLine.the-variants.{True}
@@ -21,50 +22,50 @@ use Rattle.line_parser.proofs.lines.Laws.{alone, cond-same, lettered, l
 -- by the letter
 
 module _ (c : ℕ) (fs : List (List ℕ)) where
-  -- a function symbol
+  -- The letter F begins the declaration of a function symbol.
   pub letter-F : c ≡ code "F" → declaration true fs ≡ lineOf c fs
   unfolding lineOf
   letter-F e = rw e
 
-  -- a predicate
+  -- The letter P begins the declaration of a predicate.
   pub letter-P : c ≡ code "P" → declaration false fs ≡ lineOf c fs
   unfolding lineOf
   letter-P e = rw e
 
-  -- a variable
+  -- The letter V begins the line of a variable.
   pub letter-V : c ≡ code "V" → oneNumber (λ v. nodeLine (variableLine v)) (withVariable (numbers fs)) ≡ lineOf c fs
   unfolding lineOf
   letter-V e = rw e
 
-  -- an application
+  -- The letter A begins the line of an application.
   pub letter-A : c ≡ code "A" → application (numbers fs) ≡ lineOf c fs
   unfolding lineOf
   letter-A e = rw e
 
-  -- and, or, implies
+  -- The letters `&`, `|` and `>` begin the lines of and, or and implies.
   pub letter-connective : (c ≡ code "&") ⊎ ((c ≡ code ">") ⊎ (c ≡ code "|")) → connectiveOf c (numbers fs) ≡ lineOf c fs
   unfolding lineOf connectiveOf
   letter-connective (inl e) = rw e
   letter-connective (inr (inl e)) = rw e
   letter-connective (inr (inr e)) = rw e
 
-  -- some, every
+  -- The letters E and U begin the lines of some and every.
   pub letter-quantifier : (c ≡ code "E") ⊎ (c ≡ code "U") → quantifierOf c (numbers fs) ≡ lineOf c fs
   unfolding lineOf quantifierOf
   letter-quantifier (inl e) = rw e
   letter-quantifier (inr e) = rw e
 
-  -- a clause
+  -- The letter C begins the line of a clause.
   pub letter-C : c ≡ code "C" → oneNumber clauseLine (numbers fs) ≡ lineOf c fs
   unfolding lineOf
   letter-C e = rw e
 
-  -- the goal
+  -- The letter Q begins the line of the goal.
   pub letter-Q : c ≡ code "Q" → oneNumber goalLine (numbers fs) ≡ lineOf c fs
   unfolding lineOf
   letter-Q e = rw e
 
--- Y has no field after it
+-- The letter Y makes no line with a field after it.
 true-alone : (l : SheetLine) (s : List ℕ) → noNumber l (numbers (fields s)) ≡ none
 unfolding noNumber
 true-alone l s = go (numbers (fields s)) (numbers-some s)
@@ -74,8 +75,9 @@ true-alone l s = go (numbers (fields s)) (numbers-some s)
     go (some []) h = absurd (h refl)
     go (some (n ∷ ns)) h = refl
 
--- any other letter
-pub letter-other : (c : ℕ) (s : List ℕ) → (c ≡ code "F" → ⊥) → (c ≡ code "P" → ⊥) → (c ≡ code "V" → ⊥) → (c ≡ code "A" → ⊥) → ((c ≡ code "&") ⊎ ((c ≡ code ">") ⊎ (c ≡ code "|")) → ⊥) → ((c ≡ code "E") ⊎ (c ≡ code "U") → ⊥)
+-- Any other letter with a field after it makes a malformed line.
+pub letter-other : (c : ℕ) (s : List ℕ) → (c ≡ code "F" → ⊥) → (c ≡ code "P" → ⊥) → (c ≡ code "V" → ⊥) → (c ≡ code "A" → ⊥)
+    → ((c ≡ code "&") ⊎ ((c ≡ code ">") ⊎ (c ≡ code "|")) → ⊥) → ((c ≡ code "E") ⊎ (c ≡ code "U") → ⊥)
     → (c ≡ code "C" → ⊥) → (c ≡ code "Q" → ⊥) → Malformed ≡ lineAnswer (lineOf c (fields s))
 unfolding lineOf lineAnswer
 letter-other c s f p v a o q l g =
@@ -97,34 +99,34 @@ letter-other c s f p v a o q l g =
 
 -- the whole line
 
--- nothing
+-- An empty line is malformed.
 pub line-empty : (s : List ℕ) → length s ≡ 0 → Malformed ≡ lineAnswer (parseLine s)
 unfolding parseLine ofFields fields lineAnswer
 line-empty [] h = refl
 line-empty (c ∷ cs) h = absurd (omega arith)
 
--- Y
+-- The letter Y alone is the line of true.
 pub line-true : (s : List ℕ) → length s ≡ 1 → getD s 0 0 ≡ code "Y" → Node True ≡ lineAnswer (parseLine s)
 unfolding lineOf numbers noNumber lineAnswer nodeAnswer
 line-true [] h e = absurd (omega arith)
 line-true (c ∷ []) h e = rw (alone c, e)
 line-true (c ∷ d ∷ ds) h e = absurd (omega arith)
 
--- another letter alone
+-- A letter alone other than Y is malformed.
 pub line-alone : (s : List ℕ) → length s ≡ 1 → (getD s 0 0 ≡ code "Y" → ⊥) → Malformed ≡ lineAnswer (parseLine s)
 unfolding lineOf numbers noNumber oneNumber twoNumbers withVariable application declaration lineAnswer
 line-alone [] h e = absurd (omega arith)
 line-alone (c ∷ []) h e = rw (alone c) (simp (ne-eqb c (code "Y") e, cond-same))
 line-alone (c ∷ d ∷ ds) h e = absurd (omega arith)
 
--- so the rest is read
+-- Where a tab follows the letter, the fields of the rest are read.
 pub line-fields : (s : List ℕ) → (length s ≡ 0 → ⊥) → (length s ≡ 1 → ⊥) → getD s 1 0 ≡ tab
     → lineAnswer (lineOf (getD s 0 0) (fields (take (length s - 2) (drop 2 s)))) ≡ lineAnswer (parseLine s)
 line-fields [] h k e = absurd (h refl)
 line-fields (c ∷ []) h k e = absurd (k refl)
 line-fields (c ∷ d ∷ ds) h k e = rw (rest-part 2 (c ∷ d ∷ ds), e) (rw (lettered c ds))
 
--- which is no line
+-- Where another byte than a tab follows the letter, the line is malformed.
 pub line-long : (s : List ℕ) → (length s ≡ 0 → ⊥) → (length s ≡ 1 → ⊥) → (getD s 1 0 ≡ tab → ⊥) → Malformed ≡ lineAnswer (parseLine s)
 unfolding lineAnswer
 line-long [] h k e = absurd (h refl)

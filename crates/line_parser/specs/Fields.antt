@@ -10,7 +10,7 @@ use Rattle.sheet_format.specs.Bytes.{tab, number, isName}
 use Rattle.line_parser.specs.declared.fields.Number.{Number}
 use Rattle.line_parser.specs.declared.fields.Number.the-variants.{Value, Bad}
 
--- The place of the first tab, or the length where there is none.
+-- The position of the first tab, or the length where there is none.
 unfoldable pub fieldLen : List ℕ → ℕ
 fieldLen [] = 0
 fieldLen (c ∷ cs) = cond (eqb c tab) 0 (suc (fieldLen cs))

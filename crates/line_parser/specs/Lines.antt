@@ -7,7 +7,8 @@ use mathlib.Core.Option.{Option, none, some}
 use lib.Dec.{eqb, leb, ltb}
 use lib.ListN.{length, getD, take, drop}
 use Rattle.sheet_format.specs.Limits.{maxArity}
-use Rattle.sheet_format.specs.SheetLines.{NodeLine as SheetNode, variableLine, applyLine, trueLine, andLine, orLine, impliesLine, someLine, everyLine, SheetLine, declareLine, nodeLine, clauseLine, goalLine, twoNumbers, withVariable}
+use Rattle.sheet_format.specs.SheetLines.{NodeLine as SheetNode, variableLine, applyLine, trueLine, andLine, orLine, impliesLine, someLine}
+use Rattle.sheet_format.specs.SheetLines.{everyLine, SheetLine, declareLine, nodeLine, clauseLine, goalLine, twoNumbers, withVariable}
 use Rattle.line_parser.specs.declared.lines.Nodes.{Nodes}
 use Rattle.line_parser.specs.declared.lines.NodeLine.{NodeLine}
 use Rattle.line_parser.specs.declared.lines.NodeLine.the-variants.{Variable, Apply, True, And, Or, Implies, Exists, Forall}
@@ -89,8 +90,8 @@ arityAnswer k n (Only a) = cond (leb a maxArity) (Declare k n a) Malformed
 arityAnswer k n NotOne = Malformed
 
 -- One node more; a fifth is not asked for.
-unfoldable pub addNode : Nodes → ℕ → Nodes
-addNode ns n =
+unfoldable pub pushNode : Nodes → ℕ → Nodes
+pushNode ns n =
     cond (eqb (ns .count) 0) (record { count = 1; a = n; b = ns .b; c = ns .c; d = ns .d })
     (cond (eqb (ns .count) 1) (record { count = 2; a = ns .a; b = n; c = ns .c; d = ns .d })
     (cond (eqb (ns .count) 2) (record { count = 3; a = ns .a; b = ns .b; c = n; d = ns .d })
@@ -99,7 +100,7 @@ addNode ns n =
 -- The application of f to the nodes read so far and the further ones.
 unfoldable pub applyOn : ℕ → Nodes → List ℕ → Line
 applyOn f ns [] = Node (Apply f ns)
-applyOn f ns (m ∷ ms) = cond (ltb (ns .count) maxArity) (applyOn f (addNode ns m) ms) Malformed
+applyOn f ns (m ∷ ms) = cond (ltb (ns .count) maxArity) (applyOn f (pushNode ns m) ms) Malformed
 
 -- The same, where the further fields may be no numbers.
 unfoldable pub applyAnswer : ℕ → Nodes → Option (List ℕ) → Line

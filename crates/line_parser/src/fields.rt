@@ -12,7 +12,7 @@ pub enum Number {
     Bad,
 }
 
-// The place of the first tab, or the length where there is none.
+// The position of the first tab, or the length where there is none.
 pub fn field_len(s: &[u8]) -> usize
     ensures { λ r. ⌜ r ≡ fieldLen (now (s .entry)) ⌝ }
 {

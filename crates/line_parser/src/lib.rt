@@ -3,7 +3,7 @@
 mod fields;
 mod line_kinds;
 pub mod lines;
-mod names;
+pub mod names;
 
 use line_kinds::read_application;
 use line_kinds::read_clause;

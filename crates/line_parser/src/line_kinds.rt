@@ -11,7 +11,8 @@ use super::lines::two_numbers;
 use sheet_format::limits;
 ghost use mathlib.Core.Path.{_≡_};
 ghost use Rattle.sheet_format.specs.Bytes.{fields};
-ghost use Rattle.sheet_format.specs.SheetLines.{nodeLine, variableLine, clauseLine, goalLine, numbers, declaration, oneNumber, withVariable, application};
+ghost use Rattle.sheet_format.specs.SheetLines.{nodeLine, variableLine, clauseLine, goalLine, numbers, declaration, oneNumber};
+ghost use Rattle.sheet_format.specs.SheetLines.{withVariable, application};
 ghost use Rattle.line_parser.specs.Lines.{lineAnswer, oneAnswer, arityAnswer, connectiveOf, quantifierOf};
 
 // The arity after a name of n bytes.

@@ -6,7 +6,7 @@ ghost use mathlib.Core.Path.{_≡_};
 ghost use mathlib.Core.Option.{some};
 ghost use Rattle.sheet_format.specs.Bytes.{fields};
 ghost use Rattle.sheet_format.specs.SheetLines.{numbers, consNumber};
-ghost use Rattle.line_parser.specs.Lines.{oneAnswer, twoAnswer, addNode, applyAnswer};
+ghost use Rattle.line_parser.specs.Lines.{oneAnswer, twoAnswer, pushNode, applyAnswer};
 
 // The node numbers of an A line: how many, and the first four, 0 where there are fewer.
 pub struct Nodes {
@@ -30,7 +30,7 @@ pub enum NodeLine {
 }
 
 pub enum Line {
-    // a function symbol?, the length of the name, which starts at offset 2, and the arity
+    // A declaration: whether it is a function symbol, the length of the name, which starts at offset 2, and the arity.
     Declare(bool, usize, u32),
     Node(NodeLine),
     Clause(u32),
@@ -87,8 +87,8 @@ pub fn two_numbers(s: &[u8]) -> Two
 }
 
 // One node more.
-fn add_node(ns: Nodes, n: u32) -> Nodes
-    ensures { λ r. ⌜ r ≡ addNode ns n ⌝ }
+fn push_node(ns: Nodes, n: u32) -> Nodes
+    ensures { λ r. ⌜ r ≡ pushNode ns n ⌝ }
 {
     let k = ns.count;
     if k == 0 {
@@ -137,7 +137,7 @@ pub fn read_nodes(s: &[u8], f: u32, ns: Nodes) -> Line
     if limits::MAX_ARITY <= ns.count {
         return Line::Malformed;
     }
-    let more = add_node(ns, n);
+    let more = push_node(ns, n);
     if s.len() <= e {
         return Line::Node(NodeLine::Apply(f, more));
     }

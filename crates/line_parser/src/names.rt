@@ -5,7 +5,7 @@ ghost use mathlib.Core.Path.{_≡_};
 ghost use Rattle.sheet_format.specs.Bytes.{isLetter, isNameByte, nameBytes, isName};
 ghost use Rattle.line_parser.specs.Fields.{firstName};
 
-// a to z
+// The byte is a letter, a to z.
 fn is_letter(b: u8) -> bool
     ensures { λ r. ⌜ r ≡ isLetter b ⌝ }
 {
@@ -18,8 +18,8 @@ fn is_letter(b: u8) -> bool
     true
 }
 
-// a to z, 0 to 9 and `_`
-fn is_name_byte(b: u8) -> bool
+// The byte is one of a to z, 0 to 9 and `_`.
+pub fn is_name_byte(b: u8) -> bool
     ensures { λ r. ⌜ r ≡ isNameByte b ⌝ }
 {
     if is_letter(b) {

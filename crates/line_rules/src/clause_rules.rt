@@ -1,12 +1,18 @@
 // D lines for atoms: a member of the program at a place. Each function is a definition of the crate line_checking, and its
 // contract says so.
+use super::prefixes::Prefix;
 use super::prefixes::prefix_from;
 use super::result_lines::begins_with;
-use checker_state::open_sequents::proceed;
+use checker_state::Line;
+use checker_state::Shape;
+use checker_state::open_sequents::next_sequent;
 use checker_state::places::hypothesis_from;
 use checker_state::registers::broken;
-use checker_state::registers::on_sequent;
-use instances::frames::copy_frame;
+use checker_state::registers::with_sequent;
+use clause_members::head_of;
+use clause_members::member;
+use instances::Instance;
+use instances::frames::copy_ranges;
 use instances::same_atoms;
 use line_checking::Place;
 use line_checking::Registers;
@@ -16,31 +22,24 @@ use node_table::kinds;
 use scanning::Number;
 use scanning::Scan;
 use scanning::fields;
-use term_scanner::tokens::read_number;
+use term_scanner::tokens::scan_number;
 ghost use mathlib.Core.Path.{_≡_};
 ghost use Prim.Native.Nat.{_+_, _<_, _-_};
 ghost use lib.ListN.{length};
 ghost use Rattle.line_checking.specs.Sequents.{made};
-ghost use Rattle.line_checking.specs.Clauses.{onBody, useMember, clauseFields, clauseLine};
-use super::prefixes::Prefix;
-use checker_state::Line;
-use checker_state::Shape;
-use clause_members::Found;
-use clause_members::head_of;
-use clause_members::member;
-use instances::Instance;
+ghost use Rattle.line_checking.specs.Clauses.{withBody, useMember, clauseFields, clauseLine};
 ghost use mathlib.Core.Bool.{cond};
 ghost use lib.Dec.{eqb};
 ghost use Rattle.line_checking.specs.Members.{hypothesisFrom};
 
 // The body of the member at node n, if any, is the new goal; its names stand for terms in frame q.
-pub fn on_body(t: &[u32], w: &[u32], r: Registers, q: u32, n: u32) -> Registers
-    ensures { λ s. ⌜ s ≡ onBody (now (t .entry)) (now (w .entry)) r q n ⌝ }
+pub fn with_body(t: &[u32], w: &[u32], r: Registers, q: u32, n: u32) -> Registers
+    ensures { λ s. ⌜ s ≡ withBody (now (t .entry)) (now (w .entry)) r q n ⌝ }
 {
     if kind(t, n) == kinds::IMPLIES {
-        return on_sequent(r, child(t, n, 0), q, r.hypotheses, r.level, r.rest);
+        return with_sequent(r, child(t, n, 0), q, r.hypotheses, r.level, r.rest);
     }
-    proceed(w, r)
+    next_sequent(w, r)
 }
 
 // The atom that is due is the head of the member.
@@ -53,7 +52,8 @@ pub fn use_member(
     q: u32,
     n: u32,
 ) -> Registers
-    ensures { λ s. ⌜ made (now (w .entry)) s ≡ useMember (now (sheet .entry)) (now (t .entry)) (now (text .entry)) (now (w .entry)) r q n ⌝ }
+    ensures { λ s. ⌜ made (now (w .entry)) s ≡ useMember (now (sheet .entry)) (now (t .entry)) (now (text .entry))
+        (now (w .entry)) r q n ⌝ }
 {
     let goal = Instance {
         node: r.node,
@@ -64,7 +64,7 @@ pub fn use_member(
         frame: q,
     };
     if same_atoms(sheet, t, text, w, goal, head) {
-        return on_body(t, w, r, q, n);
+        return with_body(t, w, r, q, n);
     }
     broken(r)
 }
@@ -90,16 +90,17 @@ pub fn clause_fields(
     line: Line,
 ) -> Registers
     requires { ⌜ (length (now text) < 4294967296) × (line .end < 4294967296) ⌝ }
-    ensures { λ s. ⌜ made (now (w .exit)) s ≡ clauseFields (now (sheet .entry)) (now (t .entry)) (shape .symbols) (shape .clauses) (now (text .entry)) (now (w .entry)) r (line .number) (line .at) (line .end) ⌝ }
+    ensures { λ s. ⌜ made (now (w .exit)) s ≡ clauseFields (now (sheet .entry)) (now (t .entry)) (shape .symbols) (shape .clauses)
+        (now (text .entry)) (now (w .entry)) r (line .number) (line .at) (line .end) ⌝ }
 {
-    let Number::Value(k, i) = read_number(text, line.at) else {
+    let Number::Value(k, i) = scan_number(text, line.at) else {
         return broken(r);
     };
     let Place::At(n, f, c) = place_at(t, shape.clauses, w, r.hypotheses, k) else {
         return broken(r);
     };
     let q = line.number;
-    copy_frame(fields::FRAME_NUMBERS, w, q, f, 0);
+    copy_ranges(fields::FRAME_NUMBERS, w, q, f, 0);
     let m = member(t, n, c);
     let terms = Line {
         number: q,
@@ -131,7 +132,8 @@ pub fn clause_line(
     line: Line,
 ) -> Registers
     requires { ⌜ (length (now text) < 4294967296) × (line .at < 4294967296) × (line .end < 4294967296) ⌝ }
-    ensures { λ s. ⌜ made (now (w .exit)) s ≡ clauseLine (now (sheet .entry)) (now (t .entry)) (shape .symbols) (shape .clauses) (now (text .entry)) (now (w .entry)) r (line .number) (line .at) (line .end) ⌝ }
+    ensures { λ s. ⌜ made (now (w .exit)) s ≡ clauseLine (now (sheet .entry)) (now (t .entry)) (shape .symbols) (shape .clauses)
+        (now (text .entry)) (now (w .entry)) r (line .number) (line .at) (line .end) ⌝ }
 {
     if begins_with(b"D\tclause\t", text, line.at) {
         let mut place = line;

@@ -1,6 +1,7 @@
 // The terms of a D line for the prefix of a member. Each function is a definition of the crate line_checking, and its contract
 // says so.
-use instances::frames::put_slot;
+use checker_state::Line;
+use instances::frames::put_range;
 use memory::byte;
 use scanning::Scan;
 use sheet_format::limits;
@@ -9,7 +10,6 @@ ghost use mathlib.Core.Path.{_≡_};
 ghost use Prim.Native.Nat.{_+_, _<_, _%_};
 ghost use lib.ListN.{length};
 ghost use Rattle.line_checking.specs.Clauses.{read, prefixTerm, prefixAt, prefixFrom};
-use checker_state::Line;
 
 // The names of a prefix, `count` digits to base 8, outermost first and lowest first; their terms are at most of this level.
 pub struct Prefix {
@@ -21,11 +21,12 @@ pub struct Prefix {
 // The term up to j, of level k, is for the first name: within the line, and not of a higher level.
 pub fn prefix_term(w: &mut [u32], line: Line, prefix: Prefix, j: usize, k: u32) -> Scan
     requires { ⌜ (line .at < 4294967296) × (line .end < 4294967296) ⌝ }
-    ensures { λ a. ⌜ read (now (w .exit)) a ≡ prefixTerm (now (w .entry)) (line .number) (prefix .names % 8) (line .at) j k (prefix .level) (line .end) ⌝ }
+    ensures { λ a. ⌜ read (now (w .exit)) a ≡ prefixTerm (now (w .entry)) (line .number) (prefix .names % 8) (line .at) j k
+        (prefix .level) (line .end) ⌝ }
 {
     if j <= line.end {
         if k <= prefix.level {
-            put_slot(
+            put_range(
                 w,
                 line.number,
                 prefix.names % limits::VARIABLE_NAMES,
@@ -50,7 +51,8 @@ pub fn prefix_at(
     prefix: Prefix,
 ) -> Scan
     requires { ⌜ (length (now text) < 4294967296) × (line .end < 4294967296) ⌝ }
-    ensures { λ a. ⌜ read (now (w .exit)) a ≡ prefixAt (now (sheet .entry)) (now (t .entry)) symbols (now (text .entry)) (now (w .entry)) (line .number) (prefix .names % 8) (line .at) (prefix .level) (line .end) ⌝ }
+    ensures { λ a. ⌜ read (now (w .exit)) a ≡ prefixAt (now (sheet .entry)) (now (t .entry)) symbols (now (text .entry)) (now (w .entry))
+        (line .number) (prefix .names % 8) (line .at) (prefix .level) (line .end) ⌝ }
 {
     if byte(text, line.at) != b'\t' {
         return Scan::Malformed;
@@ -74,7 +76,8 @@ pub fn prefix_from(
     prefix: Prefix,
 ) -> Scan
     requires { ⌜ (length (now text) < 4294967296) × (line .end < 4294967296) ⌝ }
-    ensures { λ a. ⌜ read (now (w .exit)) a ≡ prefixFrom (prefix .count) (now (sheet .entry)) (now (t .entry)) symbols (now (text .entry)) (now (w .entry)) (line .number) (prefix .names) (line .at) (prefix .level) (line .end) ⌝ }
+    ensures { λ a. ⌜ read (now (w .exit)) a ≡ prefixFrom (prefix .count) (now (sheet .entry)) (now (t .entry)) symbols (now (text .entry))
+        (now (w .entry)) (line .number) (prefix .names) (line .at) (prefix .level) (line .end) ⌝ }
 {
     let mut left = prefix.count;
     let mut names = prefix.names;

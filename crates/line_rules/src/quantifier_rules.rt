@@ -4,10 +4,10 @@ use super::result_lines::begins_with;
 use checker_state::Line;
 use checker_state::Shape;
 use checker_state::registers::broken;
-use checker_state::registers::on_sequent;
+use checker_state::registers::with_sequent;
 use instances::frames::bind_frame;
 use line_checking::Registers;
-use memory::wide;
+use memory::widen;
 use node_table::child;
 use node_table::label;
 use scanning::Scan;
@@ -27,7 +27,7 @@ pub fn bind_goal(t: &[u32], w: &mut [u32], r: Registers, line: Line, j: usize, k
     let goal = child(t, r.node, 0);
     let q = line.number;
     bind_frame(w, q, r.frame, name, line.at as u32, j as u32);
-    on_sequent(r, goal, q, r.hypotheses, k, r.rest)
+    with_sequent(r, goal, q, r.hypotheses, k, r.rest)
 }
 
 // E: the term up to j is of level k, not above the sequent's.
@@ -55,7 +55,8 @@ pub fn some_term(
     line: Line,
 ) -> Registers
     requires { ⌜ (line .at < 4294967296) × (line .end < 4294967296) ⌝ }
-    ensures { λ s. ⌜ made (now (w .exit)) s ≡ someTerm (now (sheet .entry)) (now (t .entry)) (shape .symbols) (now (text .entry)) (now (w .entry)) r (line .number) (line .at) (line .end) ⌝ }
+    ensures { λ s. ⌜ made (now (w .exit)) s ≡ someTerm (now (sheet .entry)) (now (t .entry)) (shape .symbols) (now (text .entry))
+        (now (w .entry)) r (line .number) (line .at) (line .end) ⌝ }
 {
     match scan_term(text.len(), sheet, t, shape.symbols, text, line.at) {
         Scan::Term(j, k) => some_with(t, w, r, line, j, k),
@@ -74,7 +75,8 @@ pub fn some_line(
     line: Line,
 ) -> Registers
     requires { ⌜ (line .at + 7 < 4294967296) × (line .end < 4294967296) ⌝ }
-    ensures { λ s. ⌜ made (now (w .exit)) s ≡ someLine (now (sheet .entry)) (now (t .entry)) (shape .symbols) (now (text .entry)) (now (w .entry)) r (line .number) (line .at) (line .end) ⌝ }
+    ensures { λ s. ⌜ made (now (w .exit)) s ≡ someLine (now (sheet .entry)) (now (t .entry)) (shape .symbols) (now (text .entry))
+        (now (w .entry)) r (line .number) (line .at) (line .end) ⌝ }
 {
     if begins_with(b"D\tsome\t", text, line.at) {
         let mut term = line;
@@ -90,8 +92,8 @@ pub fn all_with(t: &[u32], w: &mut [u32], r: Registers, line: Line, j: usize, k:
     ensures { λ s. ⌜ made (now (w .exit)) s ≡ allWith (now (t .entry)) (now (w .entry)) r (line .number) (line .at) j k (line .end) ⌝ }
 {
     if j == line.end {
-        let level = wide(k);
-        if level == wide(r.level) + 1 {
+        let level = widen(k);
+        if level == widen(r.level) + 1 {
             return bind_goal(t, w, r, line, j, k);
         }
         return broken(r);
@@ -102,7 +104,8 @@ pub fn all_with(t: &[u32], w: &mut [u32], r: Registers, line: Line, j: usize, k:
 // The constant, after its first byte.
 pub fn all_constant(t: &[u32], text: &[u8], w: &mut [u32], r: Registers, line: Line) -> Registers
     requires { ⌜ (line .at < 4294967296) × (line .end < 4294967296) ⌝ }
-    ensures { λ s. ⌜ made (now (w .exit)) s ≡ allConstant (now (t .entry)) (now (text .entry)) (now (w .entry)) r (line .number) (line .at) (line .end) ⌝ }
+    ensures { λ s. ⌜ made (now (w .exit)) s ≡ allConstant (now (t .entry)) (now (text .entry)) (now (w .entry)) r (line .number)
+        (line .at) (line .end) ⌝ }
 {
     match scan_symbol(text, line.at + 1) {
         Scan::Term(j, k) => all_with(t, w, r, line, j, k),
@@ -113,7 +116,8 @@ pub fn all_constant(t: &[u32], text: &[u8], w: &mut [u32], r: Registers, line: L
 // The line of U.
 pub fn all_line(t: &[u32], text: &[u8], w: &mut [u32], r: Registers, line: Line) -> Registers
     requires { ⌜ (line .at + 6 < 4294967296) × (line .end < 4294967296) ⌝ }
-    ensures { λ s. ⌜ made (now (w .exit)) s ≡ allLine (now (t .entry)) (now (text .entry)) (now (w .entry)) r (line .number) (line .at) (line .end) ⌝ }
+    ensures { λ s. ⌜ made (now (w .exit)) s ≡ allLine (now (t .entry)) (now (text .entry)) (now (w .entry)) r (line .number) (line .at)
+        (line .end) ⌝ }
 {
     if begins_with(b"D\tall\t!", text, line.at) {
         let mut constant = line;

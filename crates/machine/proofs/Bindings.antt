@@ -32,13 +32,14 @@ some-is a b e = cc
 variable-is : (x y : ℕ) → _≡_ {A = Term Leaf} (leaf (var x)) (leaf (var y)) → x ≡ y
 variable-is x y e = cc
 
--- it is level 1's
+-- A variable without a binding is bound to itself in level 1.
 pub cell-none : (bs : List Binding) (x : ℕ) → cell bs x ≡ none → boundTo bs x ≡ leaf (var x)
 unfolding cell boundTo
 cell-none [] x e = refl
 cell-none (b ∷ bs) x e = go (eqb x (b .name)) e (cell-none bs x)
   where
-    go : (c : Bool) → cond c (some (b .value)) (cell bs x) ≡ none → (cell bs x ≡ none → boundTo bs x ≡ leaf (var x)) → cond c (b .value) (boundTo bs x) ≡ leaf (var x)
+    go : (c : Bool) → cond c (some (b .value)) (cell bs x) ≡ none → (cell bs x ≡ none → boundTo bs x ≡ leaf (var x))
+        → cond c (b .value) (boundTo bs x) ≡ leaf (var x)
     go true e ih = absurd (not-none (b .value) e)
     go false e ih = ih e
 
@@ -48,11 +49,12 @@ unfolding cell boundTo
 cell-some [] x t e = absurd (not-none t (sym e))
 cell-some (b ∷ bs) x t e = go (eqb x (b .name)) e (cell-some bs x t)
   where
-    go : (c : Bool) → cond c (some (b .value)) (cell bs x) ≡ some t → (cell bs x ≡ some t → boundTo bs x ≡ t) → cond c (b .value) (boundTo bs x) ≡ t
+    go : (c : Bool) → cond c (some (b .value)) (cell bs x) ≡ some t → (cell bs x ≡ some t → boundTo bs x ≡ t)
+        → cond c (b .value) (boundTo bs x) ≡ t
     go true e ih = some-is (b .value) t e
     go false e ih = ih e
 
--- its variables have been made
+-- All variables of what a variable is bound to have been made.
 pub cell-below : (bs : List Binding) (n x : ℕ) (t : Term Leaf) → All (BelowBinding n) bs → cell bs x ≡ some t → Leaves t (Below n)
 unfolding cell
 cell-below [] n x t h e = absurd (not-none t (sym e))
@@ -73,7 +75,7 @@ unfoldable pub hops : List Binding → Term Leaf → ℕ
 hops [] t = 0
 hops (b ∷ bs) t = hops bs t + hop1 (look bs t) b
 
--- One binding is followed at most once,
+-- One binding is followed at most once.
 hop1-le : (t : Term Leaf) (b : Binding) → hop1 t b ≤ 1
 unfolding hop1
 hop1-le (leaf (var x)) b = go (eqb x (b .name))
@@ -84,7 +86,7 @@ hop1-le (leaf (var x)) b = go (eqb x (b .name))
 hop1-le (leaf (con c k)) b = omega arith
 hop1-le (app f ts) b = omega arith
 
--- so that there are at most as many turns as bindings.
+-- There are at most as many turns as bindings.
 pub hops-le : (bs : List Binding) (t : Term Leaf) → hops bs t ≤ length bs
 unfolding hops
 hops-le [] t = omega arith
@@ -97,19 +99,19 @@ hop1-other (leaf (var x)) b h = rw (ne-eqb x (b .name) (λ q. h (ap (λ (z : ℕ
 hop1-other (leaf (con c k)) b h = refl
 hop1-other (app f ts) b h = refl
 
--- an application and a constant are looked through already
+-- Looking through an application gives it back in no turn.
 pub look-app : (bs : List Binding) (f : ℕ) (ts : Terms Leaf) → (look bs (app f ts) ≡ app f ts) × (hops bs (app f ts) ≡ 0)
 unfolding look look1 hops hop1
 look-app [] f ts = (refl, refl)
 look-app (b ∷ bs) f ts = let r = look-app bs f ts in (rw (r .0), rw (r .0, r .1))
 
--- so is a made constant
+-- Looking through a made constant gives it back in no turn.
 pub look-con : (bs : List Binding) (c k : ℕ) → (look bs (leaf (con c k)) ≡ leaf (con c k)) × (hops bs (leaf (con c k)) ≡ 0)
 unfolding look look1 hops hop1
 look-con [] c k = (refl, refl)
 look-con (b ∷ bs) c k = let r = look-con bs c k in (rw (r .0), rw (r .0, r .1))
 
--- so is an unbound variable
+-- Looking through an unbound variable takes no turn.
 hops-variable : (bs : List Binding) (x : ℕ) → WellBound bs → Unbound bs x → hops bs (leaf (var x)) ≡ 0
 unfolding hops WellBound
 hops-variable [] x w e = refl
@@ -123,18 +125,19 @@ hops-fixed bs (leaf (var x)) w e = hops-variable bs x w e
 hops-fixed bs (leaf (con c k)) w e = look-con bs c k .1
 hops-fixed bs (app f ts) w e = look-app bs f ts .1
 
--- A binding's own variable gives its value,
+-- A binding's own variable gives its value.
 hit : (b : Binding) → look1 (leaf (var (b .name))) b ≡ b .value
 unfolding look1
 hit b = rw (eq-eqb (b .name) (b .name) refl)
 
--- in one turn.
+-- A binding's own variable takes one turn.
 hop1-hit : (b : Binding) → hop1 (leaf (var (b .name))) b ≡ 1
 unfolding hop1
 hop1-hit b = rw (eq-eqb (b .name) (b .name) refl)
 
 -- One turn: the same end, one turn less.
-pub hop : (bs : List Binding) (x : ℕ) (t : Term Leaf) → WellBound bs → cell bs x ≡ some t → (look bs (leaf (var x)) ≡ look bs t) × (hops bs (leaf (var x)) ≡ suc (hops bs t))
+pub hop : (bs : List Binding) (x : ℕ) (t : Term Leaf) → WellBound bs → cell bs x ≡ some t → (look bs (leaf (var x)) ≡ look bs t)
+    × (hops bs (leaf (var x)) ≡ suc (hops bs t))
 unfolding cell look hops WellBound
 hop [] x t w e = absurd (not-none t (sym e))
 hop (b ∷ bs) x t w e = go (eqb x (b .name)) refl e (λ q. hop bs x t (w .3) q)
@@ -145,15 +148,24 @@ hop (b ∷ bs) x t w e = go (eqb x (b .name)) refl e (λ q. hop bs x t (w .3) q)
     d : b .value ≡ v → ⊥
     d = value-not-name b bs w
 
-    mine : (look1 (look bs v) b ≡ look1 (look bs (b .value)) b) × (hops bs v + hop1 (look bs v) b ≡ suc (hops bs (b .value) + hop1 (look bs (b .value)) b))
+    mine : (look1 (look bs v) b ≡ look1 (look bs (b .value)) b)
+        × (hops bs v + hop1 (look bs v) b ≡ suc (hops bs (b .value) + hop1 (look bs (b .value)) b))
     mine = (
       rw (w .0, w .1) (hit b ∙ sym (look1-other (b .value) b d)),
-      rw (hops-variable bs (b .name) (w .3) (w .0), hops-fixed bs (b .value) (w .3) (w .1), w .0, w .1, hop1-hit b, hop1-other (b .value) b d),
+      rw (
+        hops-variable bs (b .name) (w .3) (w .0),
+        hops-fixed bs (b .value) (w .3) (w .1),
+        w .0,
+        w .1,
+        hop1-hit b,
+        hop1-other (b .value) b d,
+      ),
     )
 
     go : (c : Bool) → eqb x (b .name) ≡ c → cond c (some (b .value)) (cell bs x) ≡ some t
         → (cell bs x ≡ some t → (look bs (leaf (var x)) ≡ look bs t) × (hops bs (leaf (var x)) ≡ suc (hops bs t)))
-        → (look1 (look bs (leaf (var x))) b ≡ look1 (look bs t) b) × (hops bs (leaf (var x)) + hop1 (look bs (leaf (var x))) b ≡ suc (hops bs t + hop1 (look bs t) b))
+        → (look1 (look bs (leaf (var x))) b ≡ look1 (look bs t) b)
+        × (hops bs (leaf (var x)) + hop1 (look bs (leaf (var x))) b ≡ suc (hops bs t + hop1 (look bs t) b))
     go true q r ih = rw (eqb-true x (b .name) q, ← some-is (b .value) t r) mine
     go false q r ih = let k = ih r in (ap (λ (u : Term Leaf). look1 u b) (k .0), rw (k .1, k .0) (omega arith))
 
@@ -163,7 +175,8 @@ unfolding cell look look1
 stop [] x e = refl
 stop (b ∷ bs) x e = go (eqb x (b .name)) refl e (λ q. stop bs x q)
   where
-    go : (c : Bool) → eqb x (b .name) ≡ c → cond c (some (b .value)) (cell bs x) ≡ none → (cell bs x ≡ none → look bs (leaf (var x)) ≡ leaf (var x))
+    go : (c : Bool) → eqb x (b .name) ≡ c → cond c (some (b .value)) (cell bs x) ≡ none
+        → (cell bs x ≡ none → look bs (leaf (var x)) ≡ leaf (var x))
         → look1 (look bs (leaf (var x))) b ≡ leaf (var x)
     go true q r ih = absurd (not-none (b .value) r)
     go false q r ih = rw (ih r, q)

@@ -19,9 +19,9 @@ use Rattle.machine.specs.Fields as fields
 use Rattle.machine.specs.Words.{slotOf, leafOf, environmentAt, variableWord}
 use Rattle.machine.specs.Reading.{lineAt, pathFrom}
 use Rattle.machine.proofs.Words.{variable-small}
-use Rattle.machine.proofs.Heap.{Heap}
+use Rattle.machine.proofs.MemoryOrder.{Extends}
 use Rattle.machine.proofs.Tables.{Table}
-use Rattle.machine.proofs.Terms.{FrameAt, frame-up, frame-heap, environment-heap, variable-leaf}
+use Rattle.machine.proofs.Terms.{FrameAt, frame-up, frame-extends, environment-extends, variable-leaf}
 use Rattle.memory.specs.Records.{field}
 use Rattle.clause_members.specs.declared.Found.{Found}
 use Rattle.clause_members.proofs.Members.{LeafNode, FoundAt}
@@ -35,9 +35,9 @@ first-environment w = fun-ext (λ v. go v (ltb v 8) refl)
     go v true q = let l = ltb-true v 8 q in ap leaf (ap (leafOf w) (variable-small v (omega arith)) ∙ variable-leaf w v)
     go v false q = refl
 
--- fewer records
-pub heap-less : (lo n m : ℕ) (w w′ : List ℕ) → m ≤ n → Heap lo n w w′ → Heap lo m w w′
-heap-less lo n m w w′ l h = record { len = h .len; old = λ u f a b c. h .old u f (omega arith) b c }
+-- A memory that extends another up to record n does so up to fewer records.
+pub extends-less : (lo n m : ℕ) (w w′ : List ℕ) → m ≤ n → Extends lo n w w′ → Extends lo m w w′
+extends-less lo n m w w′ l h = record { len = h .len; old = λ u f a b c. h .old u f (omega arith) b c }
 
 -- A line's variables are below x.
 pub record LineBelow (x : ℕ) (w : List ℕ) (r k : ℕ) : Type 0 where
@@ -50,45 +50,55 @@ unfoldable pub PathAt : ℕ → ℕ → List (Line Leaf) → List ℕ → ℕ �
 PathAt n x [] w zero k = Unit {0}
 PathAt n x [] w (suc r) k = ⊥
 PathAt n x (l ∷ ls) w zero k = ⊥
-PathAt n x (l ∷ ls) w (suc r) k = (r < n) × (lineAt w r k ≡ l) × LineBelow x w r k × PathAt r x ls w (field w r fields.pathBefore) (field w r fields.pathLine)
+PathAt n x (l ∷ ls) w (suc r) k =
+    (r < n) × (lineAt w r k ≡ l) × LineBelow x w r k × PathAt r x ls w (field w r fields.pathBefore) (field w r fields.pathLine)
 
 -- It stays.
-line-heap : (n : ℕ) (w w′ : List ℕ) (r k : ℕ) → Heap fields.constantLevel n w w′ → r < n → lineAt w′ r k ≡ lineAt w r k
+line-extends : (n : ℕ) (w w′ : List ℕ) (r k : ℕ) → Extends fields.constantLevel n w w′ → r < n → lineAt w′ r k ≡ lineAt w r k
 unfolding lineAt
-line-heap n w w′ r k h l =
-    rw (h .old r fields.constantLevel l (omega arith) (omega arith), h .old r fields.usePlace l (omega arith) (omega arith), h .old r fields.useCount l (omega arith) (omega arith), h .old r fields.variables l (omega arith) (omega arith))
+line-extends n w w′ r k h l =
+    rw (
+      h .old r fields.constantLevel l (omega arith) (omega arith),
+      h .old r fields.usePlace l (omega arith) (omega arith),
+      h .old r fields.useCount l (omega arith) (omega arith),
+      h .old r fields.variables l (omega arith) (omega arith),
+    )
 
--- The path,
-pub path-heap : (n x : ℕ) (ls : List (Line Leaf)) (w w′ : List ℕ) (p k : ℕ) → Heap fields.constantLevel n w w′ → PathAt n x ls w p k → PathAt n x ls w′ p k
+-- The path stays in an extended memory.
+pub path-extends : (n x : ℕ) (ls : List (Line Leaf)) (w w′ : List ℕ) (p k : ℕ) → Extends fields.constantLevel n w w′ → PathAt n x ls w p k
+    → PathAt n x ls w′ p k
 unfolding PathAt
-path-heap n x [] w w′ zero k h c = tt
-path-heap n x [] w w′ (suc r) k h c = c
-path-heap n x (y ∷ ls) w w′ zero k h c = c
-path-heap n x (y ∷ ls) w w′ (suc r) k h c =
+path-extends n x [] w w′ zero k h c = tt
+path-extends n x [] w w′ (suc r) k h c = c
+path-extends n x (y ∷ ls) w w′ zero k h c = c
+path-extends n x (y ∷ ls) w w′ (suc r) k h c =
     let l = c .0 in
     let b = c .2 in
     let e₂ = h .old r fields.useCount l (omega arith) (omega arith) in
     let e₃ = h .old r fields.variables l (omega arith) (omega arith) in (
       l,
-      line-heap n w w′ r k h l ∙ c .1,
+      line-extends n w w′ r k h l ∙ c .1,
       record { kind = b .kind; some = λ q. rw e₃ (b .some q); clause = λ q. rw (e₂, e₃) (b .clause q) },
       rw (h .old r fields.pathBefore l (omega arith) (omega arith), h .old r fields.pathLine l (omega arith) (omega arith))
-          (path-heap r x ls w w′ (field w r fields.pathBefore) (field w r fields.pathLine) (heap-less fields.constantLevel n r w w′ (omega arith) h) (c .3)),
+          (path-extends r x ls w w′ (field w r fields.pathBefore) (field w r fields.pathLine)
+          (extends-less fields.constantLevel n r w w′ (omega arith) h) (c .3)),
     )
 
--- more variables
+-- A line's variables stay below a greater bound.
 line-wider : (x y : ℕ) (w : List ℕ) (r k : ℕ) → x ≤ y → LineBelow x w r k → LineBelow y w r k
-line-wider x y w r k l b = record { kind = b .kind; some = λ q. let m = b .some q in omega arith; clause = λ q. let m = b .clause q in omega arith }
+line-wider x y w r k l b =
+    record { kind = b .kind; some = λ q. let m = b .some q in omega arith; clause = λ q. let m = b .clause q in omega arith }
 
--- of the whole path
+-- The path's variables stay below a greater bound.
 pub path-wider : (n x y : ℕ) (ls : List (Line Leaf)) (w : List ℕ) (p k : ℕ) → x ≤ y → PathAt n x ls w p k → PathAt n y ls w p k
 unfolding PathAt
 path-wider n x y [] w zero k b c = tt
 path-wider n x y [] w (suc r) k b c = c
 path-wider n x y (l ∷ ls) w zero k b c = c
-path-wider n x y (l ∷ ls) w (suc r) k b c = (c .0, c .1, line-wider x y w r k b (c .2), path-wider r x y ls w (field w r fields.pathBefore) (field w r fields.pathLine) b (c .3))
+path-wider n x y (l ∷ ls) w (suc r) k b c =
+    (c .0, c .1, line-wider x y w r k b (c .2), path-wider r x y ls w (field w r fields.pathBefore) (field w r fields.pathLine) b (c .3))
 
--- an act later
+-- The path stays one act later.
 pub path-up : (n x : ℕ) (ls : List (Line Leaf)) (w : List ℕ) (p k : ℕ) → PathAt n x ls w p k → PathAt (suc n) x ls w p k
 unfolding PathAt
 path-up n x [] w zero k c = tt
@@ -109,7 +119,8 @@ path-read (suc f) n x (y ∷ ls) w zero k h c = absurd c
 path-read (suc f) n x (y ∷ ls) w (suc r) k h c =
     let e : suc r - 1 ≡ r = omega arith in
     let l = c .0 in
-    rw (pathFrom, ne-eqb (suc r) 0 (λ q. omega arith), e) (ap₂ _∷_ (c .1) (path-read f r x ls w (field w r fields.pathBefore) (field w r fields.pathLine) (omega arith) (c .3)))
+    rw (pathFrom, ne-eqb (suc r) 0 (λ q. omega arith), e)
+    (ap₂ _∷_ (c .1) (path-read f r x ls w (field w r fields.pathBefore) (field w r fields.pathLine) (omega arith) (c .3)))
 
 -- Nothing more is known of a clause.
 abbrev pub Anything : Clause → Type 0
@@ -138,23 +149,29 @@ module _ (T : Table) where
   -- A program: assumptions, then the sheet's clauses.
   pub data ProgramAt (n : ℕ) (w : List ℕ) : ℕ → Program Leaf → Type 0 where
     program-sheet : ProgramAt n w zero (sheetFrom (T .clauses) 0)
-    program-more : {c : Clause} {e : Environment Leaf} {P : Program Leaf} (r : ℕ) → r < n → ClauseOf (field w r fields.assumptionNode) → FrameAt n w (field w r fields.assumptionFrame)
-        → clauseAtNode (T .numbers) (field w r fields.assumptionNode) ≡ c → environmentAt w (field w r fields.assumptionFrame) ≡ e → ProgramAt n w (field w r fields.assumptionNext) P → ProgramAt n w (suc r) (hypothesis c e ∷ P)
+    program-more : {c : Clause} {e : Environment Leaf} {P : Program Leaf} (r : ℕ) → r < n → ClauseOf (field w r fields.assumptionNode)
+        → FrameAt n w (field w r fields.assumptionFrame)
+        → clauseAtNode (T .numbers) (field w r fields.assumptionNode) ≡ c → environmentAt w (field w r fields.assumptionFrame) ≡ e
+        → ProgramAt n w (field w r fields.assumptionNext) P → ProgramAt n w (suc r) (hypothesis c e ∷ P)
 
-  -- It stays,
-  pub program-heap : (n : ℕ) (w w′ : List ℕ) {h : ℕ} {P : Program Leaf} → Heap fields.constantLevel n w w′ → ProgramAt n w h P → ProgramAt n w′ h P
-  program-heap n w w′ e program-sheet = program-sheet
-  program-heap n w w′ e (program-more {P = P} r l c f i j p) =
+  -- A program stays in an extended memory.
+  pub program-extends : (n : ℕ) (w w′ : List ℕ) {h : ℕ} {P : Program Leaf} → Extends fields.constantLevel n w w′ → ProgramAt n w h P
+      → ProgramAt n w′ h P
+  program-extends n w w′ e program-sheet = program-sheet
+  program-extends n w w′ e (program-more {P = P} r l c f i j p) =
       let e₁ = e .old r fields.assumptionNode l (omega arith) (omega arith) in
       let e₂ = e .old r fields.assumptionFrame l (omega arith) (omega arith) in
       let e₃ = e .old r fields.assumptionNext l (omega arith) (omega arith) in
-      program-more r l (rw e₁ c) (rw e₂ (frame-heap n w w′ (field w r fields.assumptionFrame) e f)) (ap (clauseAtNode (T .numbers)) e₁ ∙ i)
-      (ap (environmentAt w′) e₂ ∙ environment-heap n w w′ (field w r fields.assumptionFrame) e f ∙ j) (subst (λ (x : ℕ). ProgramAt n w′ x P) (sym e₃) (program-heap n w w′ e p))
+      program-more r l (rw e₁ c) (rw e₂ (frame-extends n w w′ (field w r fields.assumptionFrame) e f)) (ap (clauseAtNode (T .numbers)) e₁
+      ∙ i)
+      (ap (environmentAt w′) e₂ ∙ environment-extends n w w′ (field w r fields.assumptionFrame) e f ∙ j)
+      (subst (λ (x : ℕ). ProgramAt n w′ x P) (sym e₃) (program-extends n w w′ e p))
 
-  -- an act later too.
+  -- A program stays one act later.
   pub program-up : (n : ℕ) (w : List ℕ) {h : ℕ} {P : Program Leaf} → ProgramAt n w h P → ProgramAt (suc n) w h P
   program-up n w program-sheet = program-sheet
-  program-up n w (program-more r l c f i j p) = program-more r (omega arith) c (frame-up n w (field w r fields.assumptionFrame) f) i j (program-up n w p)
+  program-up n w (program-more r l c f i j p) =
+      program-more r (omega arith) c (frame-up n w (field w r fields.assumptionFrame) f) i j (program-up n w p)
 
   -- An open goal in four numbers.
   pub record SequentAt (n : ℕ) (w : List ℕ) (a f h i : ℕ) (g : Sequent Leaf) : Type 0 where
@@ -166,19 +183,20 @@ module _ (T : Table) where
     pub level : i ≡ g .level
     pub low : i ≤ n
 
-  -- It stays,
-  pub sequent-heap : (n : ℕ) (w w′ : List ℕ) (a f h i : ℕ) (g : Sequent Leaf) → Heap fields.constantLevel n w w′ → SequentAt n w a f h i g → SequentAt n w′ a f h i g
-  sequent-heap n w w′ a f h i g e c = record {
+  -- An open goal stays in an extended memory.
+  pub sequent-extends : (n : ℕ) (w w′ : List ℕ) (a f h i : ℕ) (g : Sequent Leaf) → Extends fields.constantLevel n w w′
+      → SequentAt n w a f h i g → SequentAt n w′ a f h i g
+  sequent-extends n w w′ a f h i g e c = record {
     node = c .node;
     goal = c .goal;
-    frame = frame-heap n w w′ f e (c .frame);
-    environment = environment-heap n w w′ f e (c .frame) ∙ c .environment;
-    program = program-heap n w w′ e (c .program);
+    frame = frame-extends n w w′ f e (c .frame);
+    environment = environment-extends n w w′ f e (c .frame) ∙ c .environment;
+    program = program-extends n w w′ e (c .program);
     level = c .level;
     low = c .low;
   }
 
-  -- an act later too.
+  -- An open goal stays one act later.
   pub sequent-up : (n : ℕ) (w : List ℕ) (a f h i : ℕ) (g : Sequent Leaf) → SequentAt n w a f h i g → SequentAt (suc n) w a f h i g
   sequent-up n w a f h i g c = record {
     node = c .node;
@@ -195,37 +213,56 @@ module _ (T : Table) where
   GoalsAt n [] w zero = Unit {0}
   GoalsAt n [] w (suc r) = ⊥
   GoalsAt n (g ∷ gs) w zero = ⊥
-  GoalsAt n (g ∷ gs) w (suc r) = (r < n) × SequentAt n w (field w r fields.goalNode) (field w r fields.goalFrame) (field w r fields.goalProgram) (field w r fields.goalLevel) g × GoalsAt n gs w (field w r fields.goalNext)
+  GoalsAt n (g ∷ gs) w (suc r) =
+      (r < n) × SequentAt n w (field w r fields.goalNode) (field w r fields.goalFrame) (field w r fields.goalProgram)
+      (field w r fields.goalLevel) g × GoalsAt n gs w (field w r fields.goalNext)
 
-  -- They stay,
-  pub goals-heap : (n : ℕ) (gs : List (Sequent Leaf)) (w w′ : List ℕ) (p : ℕ) → Heap fields.constantLevel n w w′ → GoalsAt n gs w p → GoalsAt n gs w′ p
+  -- The goals that wait stay in an extended memory.
+  pub goals-extends : (n : ℕ) (gs : List (Sequent Leaf)) (w w′ : List ℕ) (p : ℕ) → Extends fields.constantLevel n w w′ → GoalsAt n gs w p
+      → GoalsAt n gs w′ p
   unfolding GoalsAt
-  goals-heap n [] w w′ zero e c = tt
-  goals-heap n [] w w′ (suc r) e c = c
-  goals-heap n (g ∷ gs) w w′ zero e c = c
-  goals-heap n (g ∷ gs) w w′ (suc r) e c =
+  goals-extends n [] w w′ zero e c = tt
+  goals-extends n [] w w′ (suc r) e c = c
+  goals-extends n (g ∷ gs) w w′ zero e c = c
+  goals-extends n (g ∷ gs) w w′ (suc r) e c =
       let l = c .0 in
-      rw (e .old r fields.goalNode l (omega arith) (omega arith), e .old r fields.goalFrame l (omega arith) (omega arith), e .old r fields.goalProgram l (omega arith) (omega arith), e .old r fields.goalLevel l (omega arith) (omega arith), e .old r fields.goalNext l (omega arith) (omega arith))
-      (l, sequent-heap n w w′ (field w r fields.goalNode) (field w r fields.goalFrame) (field w r fields.goalProgram) (field w r fields.goalLevel) g e (c .1), goals-heap n gs w w′ (field w r fields.goalNext) e (c .2))
+      rw (
+        e .old r fields.goalNode l (omega arith) (omega arith),
+        e .old r fields.goalFrame l (omega arith) (omega arith),
+        e .old r fields.goalProgram l (omega arith) (omega arith),
+        e .old r fields.goalLevel l (omega arith) (omega arith),
+        e .old r fields.goalNext l (omega arith) (omega arith),
+      ) (
+        l,
+        sequent-extends n w w′ (field w r fields.goalNode) (field w r fields.goalFrame) (field w r fields.goalProgram)
+            (field w r fields.goalLevel) g e (c .1),
+        goals-extends n gs w w′ (field w r fields.goalNext) e (c .2),
+      )
 
-  -- an act later too.
+  -- The goals that wait stay one act later.
   pub goals-up : (n : ℕ) (gs : List (Sequent Leaf)) (w : List ℕ) (p : ℕ) → GoalsAt n gs w p → GoalsAt (suc n) gs w p
   unfolding GoalsAt
   goals-up n [] w zero c = tt
   goals-up n [] w (suc r) c = c
   goals-up n (g ∷ gs) w zero c = c
-  goals-up n (g ∷ gs) w (suc r) c =
-      (let l = c .0 in omega arith, sequent-up n w (field w r fields.goalNode) (field w r fields.goalFrame) (field w r fields.goalProgram) (field w r fields.goalLevel) g (c .1), goals-up n gs w (field w r fields.goalNext) (c .2))
+  goals-up n (g ∷ gs) w (suc r) c = (
+    let l = c .0 in omega arith,
+    sequent-up n w (field w r fields.goalNode) (field w r fields.goalFrame) (field w r fields.goalProgram)
+        (field w r fields.goalLevel) g (c .1),
+    goals-up n gs w (field w r fields.goalNext) (c .2),
+  )
 
   -- A branch: the goals that wait and the path.
   pub record BranchAt (n x : ℕ) (w : List ℕ) (goals path line : ℕ) (b : Branch) : Type 0 where
     pub waiting : GoalsAt n (b .goals) w goals
     pub taken : PathAt n x (b .path) w path line
 
-  -- It stays,
-  pub branch-heap : (n x : ℕ) (w w′ : List ℕ) (q p l : ℕ) (b : Branch) → Heap fields.constantLevel n w w′ → BranchAt n x w q p l b → BranchAt n x w′ q p l b
-  branch-heap n x w w′ q p l b e c = record { waiting = goals-heap n (b .goals) w w′ q e (c .waiting); taken = path-heap n x (b .path) w w′ p l e (c .taken) }
+  -- A branch stays in an extended memory.
+  pub branch-extends : (n x : ℕ) (w w′ : List ℕ) (q p l : ℕ) (b : Branch) → Extends fields.constantLevel n w w′ → BranchAt n x w q p l b
+      → BranchAt n x w′ q p l b
+  branch-extends n x w w′ q p l b e c =
+      record { waiting = goals-extends n (b .goals) w w′ q e (c .waiting); taken = path-extends n x (b .path) w w′ p l e (c .taken) }
 
-  -- an act later too.
+  -- A branch stays one act later.
   pub branch-up : (n x : ℕ) (w : List ℕ) (q p l : ℕ) (b : Branch) → BranchAt n x w q p l b → BranchAt (suc n) x w q p l b
   branch-up n x w q p l b c = record { waiting = goals-up n (b .goals) w q (c .waiting); taken = path-up n x (b .path) w p l (c .taken) }

@@ -21,12 +21,14 @@ use Rattle.machine.specs.declared.Registers.{Registers}
 use Rattle.machine.specs.Fields as fields
 use Rattle.machine.specs.Records.{provedMode, takeMode, compareMode, checkMode, tryMode}
 use Rattle.machine.specs.Words.{environmentAt}
-use Rattle.machine.specs.Trying.{clauseOf, clauseFrame}
-use Rattle.machine.proofs.Heap.{Heap}
+use Rattle.machine.specs.Backchaining.{clauseOf, clauseFrame}
+use Rattle.machine.proofs.MemoryOrder.{Extends}
 use Rattle.machine.proofs.Tables.{Table, Applied}
-use Rattle.machine.proofs.Terms.{FrameAt, frame-up, frame-heap, environment-heap, FrameIn, framed-heap, framed-up, WordAt, word-heap, word-up}
-use Rattle.machine.proofs.Places.{PairsAt, NodesAt, pairs-heap, pairs-up, nodes-heap, nodes-up}
-use Rattle.machine.proofs.Branches.{PathAt, path-heap, path-up, ClauseOf, sheetFrom, ProgramAt, program-heap, program-up, SequentAt, sequent-heap, sequent-up, BranchAt, branch-heap, branch-up}
+use Rattle.machine.proofs.Terms.{FrameAt, frame-up, frame-extends, environment-extends, FrameIn, framed-extends, framed-up, WordAt}
+use Rattle.machine.proofs.Terms.{word-extends, word-up}
+use Rattle.machine.proofs.WaitingArguments.{PairsAt, NodesAt, pairs-extends, pairs-up, nodes-extends, nodes-up}
+use Rattle.machine.proofs.Branches.{PathAt, path-extends, path-up, ClauseOf, sheetFrom, ProgramAt, program-extends, program-up}
+use Rattle.machine.proofs.Branches.{SequentAt, sequent-extends, sequent-up, BranchAt, branch-extends, branch-up}
 use Rattle.memory.specs.Records.{field}
 
 -- The store of a configuration.
@@ -61,7 +63,8 @@ module _ (T : Table) where
     pub member : r .member < length (members (clauseAtNode (T .numbers) (clauseOf (T .numbers) w r)))
     pub rest : List (Entry Leaf)
     pub others : RestAt n w (r .hypothesis) (r .clause) rest
-    pub are : es ≡ map (entry (environmentAt w (clauseFrame w r))) (drop (r .member) (members (clauseAtNode (T .numbers) (clauseOf (T .numbers) w r)))) ++ rest
+    pub are : es ≡ map (entry (environmentAt w (clauseFrame w r)))
+        (drop (r .member) (members (clauseAtNode (T .numbers) (clauseOf (T .numbers) w r)))) ++ rest
 
   pub record TryAt (n x : ℕ) (w : List ℕ) (r : Registers) (a : Atom) (es : List (Entry Leaf)) (k : ℕ) (b : Branch) : Type 0 where
     pub mode : r .mode ≡ tryMode
@@ -76,7 +79,8 @@ module _ (T : Table) where
   abbrev pub DueAt : ℕ → ℕ → List ℕ → ℕ → Term Leaf → Term Leaf → List (Term Leaf) → Type 0
   DueAt n v w a t x ns = ((a ≡ 0) × (x ≡ t) × (ns ≡ [])) ⊎ NodesAt T n v (x ∷ ns) w a
 
-  pub record CheckAt (n v : ℕ) (w : List ℕ) (r : Registers) (y : ℕ) (t x : Term Leaf) (ns : List (Term Leaf)) (ps : List Pair) (b : Branch) : Type 0 where
+  pub record CheckAt (n v : ℕ) (w : List ℕ) (r : Registers) (y : ℕ) (t x : Term Leaf) (ns : List (Term Leaf)) (ps : List Pair)
+      (b : Branch) : Type 0 where
     pub mode : r .mode ≡ checkMode
     pub variable : r .variable ≡ 4 * y + 1
     pub value : WordAt T n v w (r .value) t
@@ -87,11 +91,14 @@ module _ (T : Table) where
   -- Pairs left to compare: one at least.
   unfoldable pub CompareAt : ℕ → ℕ → List ℕ → Registers → List Pair → Branch → Type 0
   CompareAt n x w r [] b = ⊥
-  CompareAt n x w r (p ∷ ps) b = (r .mode ≡ compareMode) × PairsAt T n x (p ∷ ps) w (r .pairs) × BranchAt T n x w (r .goals) (r .path) (r .line) b
+  CompareAt n x w r (p ∷ ps) b =
+      (r .mode ≡ compareMode) × PairsAt T n x (p ∷ ps) w (r .pairs) × BranchAt T n x w (r .goals) (r .path) (r .line) b
 
   -- A configuration, by the act that is due.
   unfoldable pub ConfigurationAt : ℕ → List ℕ → Registers → Configuration → Type 0
-  ConfigurationAt n w r (take s g b) = (r .mode ≡ takeMode) × SequentAt T n w (r .node) (r .frame) (r .program) (r .level) g × BranchAt T n (s .next) w (r .goals) (r .path) (r .line) b
+  ConfigurationAt n w r (take s g b) =
+      (r .mode ≡ takeMode) × SequentAt T n w (r .node) (r .frame) (r .program) (r .level) g
+      × BranchAt T n (s .next) w (r .goals) (r .path) (r .line) b
   ConfigurationAt n w r (try s a m ms k b) = TryAt n (s .next) w r a (m ∷ ms) k b
   ConfigurationAt n w r (match (pairs s ps) b) = CompareAt n (s .next) w r ps b
   ConfigurationAt n w r (match (check s y t x ns ps) b) = CheckAt n (s .next) w r y t x ns ps b
@@ -99,18 +106,19 @@ module _ (T : Table) where
   ConfigurationAt n w r (done s ls) = (r .mode ≡ provedMode) × PathAt n (s .next) ls w (r .path) (r .line)
 
   -- They stay.
-  pub atom-heap : (n x : ℕ) (w w′ : List ℕ) (m f h i : ℕ) (a : Atom) → Heap fields.constantLevel n w w′ → AtomAt n x w m f h i a → AtomAt n x w′ m f h i a
-  atom-heap n x w w′ m f h i a e c = record {
+  pub atom-extends : (n x : ℕ) (w w′ : List ℕ) (m f h i : ℕ) (a : Atom) → Extends fields.constantLevel n w w′ → AtomAt n x w m f h i a
+      → AtomAt n x w′ m f h i a
+  atom-extends n x w w′ m f h i a e c = record {
     node = c .node;
     predicate = c .predicate;
-    frame = framed-heap n x w w′ f e (c .frame);
-    arguments = ap (substitutes (argumentsAt (T .numbers) m)) (environment-heap n w w′ f e (c .frame .frame)) ∙ c .arguments;
-    program = program-heap T n w w′ e (c .program);
+    frame = framed-extends n x w w′ f e (c .frame);
+    arguments = ap (substitutes (argumentsAt (T .numbers) m)) (environment-extends n w w′ f e (c .frame .frame)) ∙ c .arguments;
+    program = program-extends T n w w′ e (c .program);
     level = c .level;
     low = c .low;
   }
 
-  -- an act later
+  -- An atom stays one act later.
   pub atom-up : (n x : ℕ) (w : List ℕ) (m f h i : ℕ) (a : Atom) → AtomAt n x w m f h i a → AtomAt (suc n) x w m f h i a
   atom-up n x w m f h i a c = record {
     node = c .node;
@@ -122,49 +130,61 @@ module _ (T : Table) where
     low = let l = c .low in omega arith;
   }
 
-  -- the clauses after a position
-  rest-heap : (n : ℕ) (w w′ : List ℕ) (h i : ℕ) (rest : List (Entry Leaf)) → Heap fields.constantLevel n w w′ → RestAt n w h i rest → RestAt n w′ h i rest
+  -- The members of the clauses after a position stay in an extended memory.
+  rest-extends : (n : ℕ) (w w′ : List ℕ) (h i : ℕ) (rest : List (Entry Leaf)) → Extends fields.constantLevel n w w′ → RestAt n w h i rest
+      → RestAt n w′ h i rest
   unfolding RestAt
-  rest-heap n w w′ zero i rest e c = c
-  rest-heap n w w′ (suc r) i rest e c =
-      (c .0, c .1, subst (λ (x : ℕ). ProgramAt T n w′ x (c .1)) (sym (e .old r fields.assumptionNext (c .0) (omega arith) (omega arith))) (program-heap T n w w′ e (c .2)), c .3)
+  rest-extends n w w′ zero i rest e c = c
+  rest-extends n w w′ (suc r) i rest e c = (
+    c .0,
+    c .1,
+    subst (λ (x : ℕ). ProgramAt T n w′ x (c .1)) (sym (e .old r fields.assumptionNext (c .0) (omega arith) (omega arith)))
+        (program-extends T n w w′ e (c .2)),
+    c .3,
+  )
 
-  -- an act later
+  -- The members of the clauses after a position stay one act later.
   rest-up : (n : ℕ) (w : List ℕ) (h i : ℕ) (rest : List (Entry Leaf)) → RestAt n w h i rest → RestAt (suc n) w h i rest
   unfolding RestAt
   rest-up n w zero i rest c = c
   rest-up n w (suc r) i rest c = (let l = c .0 in omega arith, c .1, program-up T n w (c .2), c .3)
 
-  -- the clause's node and frame
-  pub clause-heap : (n : ℕ) (w w′ : List ℕ) (r : Registers) (rest : List (Entry Leaf)) → Heap fields.constantLevel n w w′ → RestAt n w (r .hypothesis) (r .clause) rest
+  -- The node and the frame of the clause to try stay in an extended memory.
+  pub clause-extends : (n : ℕ) (w w′ : List ℕ) (r : Registers) (rest : List (Entry Leaf)) → Extends fields.constantLevel n w w′
+      → RestAt n w (r .hypothesis) (r .clause) rest
       → (clauseOf (T .numbers) w′ r ≡ clauseOf (T .numbers) w r) × (clauseFrame w′ r ≡ clauseFrame w r)
   unfolding clauseOf clauseFrame RestAt
-  clause-heap n w w′ r rest e c = go (r .hypothesis) c
+  clause-extends n w w′ r rest e c = go (r .hypothesis) c
     where
       go : (h : ℕ) → RestAt n w h (r .clause) rest
-          → (cond (eqb h 0) (clauseNode (T .numbers) (r .clause)) (field w′ (h - 1) fields.assumptionNode) ≡ cond (eqb h 0) (clauseNode (T .numbers) (r .clause)) (field w (h - 1) fields.assumptionNode))
+          → (cond (eqb h 0) (clauseNode (T .numbers) (r .clause)) (field w′ (h - 1) fields.assumptionNode) ≡ cond (eqb h 0)
+          (clauseNode (T .numbers) (r .clause)) (field w (h - 1) fields.assumptionNode))
           × (cond (eqb h 0) 0 (field w′ (h - 1) fields.assumptionFrame) ≡ cond (eqb h 0) 0 (field w (h - 1) fields.assumptionFrame))
       go zero c = (refl, refl)
       go (suc q) c =
           let z : suc q - 1 ≡ q = omega arith in
-          rw (ne-eqb (suc q) 0 (λ x. omega arith), z) (e .old q fields.assumptionNode (c .0) (omega arith) (omega arith), e .old q fields.assumptionFrame (c .0) (omega arith) (omega arith))
+          rw (ne-eqb (suc q) 0 (λ x. omega arith), z) (
+            e .old q fields.assumptionNode (c .0) (omega arith) (omega arith),
+            e .old q fields.assumptionFrame (c .0) (omega arith) (omega arith),
+          )
 
-  -- a position
-  pub position-heap : (n : ℕ) (w w′ : List ℕ) (r : Registers) (es : List (Entry Leaf)) → Heap fields.constantLevel n w w′ → PositionAt n w r es → PositionAt n w′ r es
-  position-heap n w w′ r es e c =
-      let z = clause-heap n w w′ r (c .rest) e (c .others) in
+  -- A position stays in an extended memory.
+  pub position-extends : (n : ℕ) (w w′ : List ℕ) (r : Registers) (es : List (Entry Leaf)) → Extends fields.constantLevel n w w′
+      → PositionAt n w r es → PositionAt n w′ r es
+  position-extends n w w′ r es e c =
+      let z = clause-extends n w w′ r (c .rest) e (c .others) in
       let z₀ = z .0 in
       let z₁ = z .1 in
       record {
         clause = rw z₀ (c .clause);
-        frame = rw z₁ (frame-heap n w w′ (clauseFrame w r) e (c .frame));
+        frame = rw z₁ (frame-extends n w w′ (clauseFrame w r) e (c .frame));
         member = rw z₀ (c .member);
         rest = c .rest;
-        others = rest-heap n w w′ (r .hypothesis) (r .clause) (c .rest) e (c .others);
-        are = rw (z₀, z₁, environment-heap n w w′ (clauseFrame w r) e (c .frame)) (c .are);
+        others = rest-extends n w w′ (r .hypothesis) (r .clause) (c .rest) e (c .others);
+        are = rw (z₀, z₁, environment-extends n w w′ (clauseFrame w r) e (c .frame)) (c .are);
       }
 
-  -- an act later
+  -- A position stays one act later.
   pub position-up : (n : ℕ) (w : List ℕ) (r : Registers) (es : List (Entry Leaf)) → PositionAt n w r es → PositionAt (suc n) w r es
   position-up n w r es c = record {
     clause = c .clause;
@@ -175,8 +195,9 @@ module _ (T : Table) where
     are = c .are;
   }
 
-  -- it reads three registers
-  pub position-same : (n : ℕ) (w : List ℕ) (r q : Registers) (es : List (Entry Leaf)) → q .hypothesis ≡ r .hypothesis → q .clause ≡ r .clause → q .member ≡ r .member → PositionAt n w r es → PositionAt n w q es
+  -- A position reads three registers only.
+  pub position-same : (n : ℕ) (w : List ℕ) (r q : Registers) (es : List (Entry Leaf)) → q .hypothesis ≡ r .hypothesis
+      → q .clause ≡ r .clause → q .member ≡ r .member → PositionAt n w r es → PositionAt n w q es
   unfolding clauseOf clauseFrame
   position-same n w r q es e₀ e₁ e₂ c = record {
     clause = rw (e₀, e₁) (c .clause);
@@ -187,47 +208,60 @@ module _ (T : Table) where
     are = rw (e₀, e₁, e₂) (c .are);
   }
 
-  -- nodes of a range check
-  due-heap : (n v : ℕ) (w w′ : List ℕ) (a : ℕ) (t x : Term Leaf) (ns : List (Term Leaf)) → Heap fields.constantLevel n w w′ → DueAt n v w a t x ns → DueAt n v w′ a t x ns
-  due-heap n v w w′ a t x ns e (inl c) = inl c
-  due-heap n v w w′ a t x ns e (inr c) = inr (nodes-heap T n v (x ∷ ns) w w′ a e c)
+  -- The nodes of a range check stay in an extended memory.
+  due-extends : (n v : ℕ) (w w′ : List ℕ) (a : ℕ) (t x : Term Leaf) (ns : List (Term Leaf)) → Extends fields.constantLevel n w w′
+      → DueAt n v w a t x ns → DueAt n v w′ a t x ns
+  due-extends n v w w′ a t x ns e (inl c) = inl c
+  due-extends n v w w′ a t x ns e (inr c) = inr (nodes-extends T n v (x ∷ ns) w w′ a e c)
 
-  -- an act later
+  -- The nodes of a range check stay one act later.
   due-up : (n v : ℕ) (w : List ℕ) (a : ℕ) (t x : Term Leaf) (ns : List (Term Leaf)) → DueAt n v w a t x ns → DueAt (suc n) v w a t x ns
   due-up n v w a t x ns (inl c) = inl c
   due-up n v w a t x ns (inr c) = inr (nodes-up T n v v (x ∷ ns) w a (omega arith) c)
 
-  -- The whole configuration stays,
-  pub configuration-heap : (n : ℕ) (w w′ : List ℕ) (r : Registers) (c : Configuration) → Heap fields.constantLevel n w w′ → ConfigurationAt n w r c → ConfigurationAt n w′ r c
+  -- The whole configuration stays in an extended memory.
+  pub configuration-extends : (n : ℕ) (w w′ : List ℕ) (r : Registers) (c : Configuration) → Extends fields.constantLevel n w w′
+      → ConfigurationAt n w r c → ConfigurationAt n w′ r c
   unfolding ConfigurationAt CompareAt
-  configuration-heap n w w′ r (take s g b) e h =
-      (h .0, sequent-heap T n w w′ (r .node) (r .frame) (r .program) (r .level) g e (h .1), branch-heap T n (s .next) w w′ (r .goals) (r .path) (r .line) b e (h .2))
-  configuration-heap n w w′ r (try s a m ms k b) e h = record {
+  configuration-extends n w w′ r (take s g b) e h = (
+    h .0,
+    sequent-extends T n w w′ (r .node) (r .frame) (r .program) (r .level) g e (h .1),
+    branch-extends T n (s .next) w w′ (r .goals) (r .path) (r .line) b e (h .2),
+  )
+  configuration-extends n w w′ r (try s a m ms k b) e h = record {
     mode = h .mode;
-    atom = atom-heap n (s .next) w w′ (r .node) (r .frame) (r .program) (r .level) a e (h .atom);
-    position = position-heap n w w′ r (m ∷ ms) e (h .position);
+    atom = atom-extends n (s .next) w w′ (r .node) (r .frame) (r .program) (r .level) a e (h .atom);
+    position = position-extends n w w′ r (m ∷ ms) e (h .position);
     place = h .place;
     first = h .first;
     low = h .low;
-    branch = branch-heap T n (s .next) w w′ (r .goals) (r .path) (r .line) b e (h .branch);
+    branch = branch-extends T n (s .next) w w′ (r .goals) (r .path) (r .line) b e (h .branch);
   }
-  configuration-heap n w w′ r (match (pairs s []) b) e h = h
-  configuration-heap n w w′ r (match (pairs s (p ∷ ps)) b) e h = (h .0, pairs-heap T n (s .next) (p ∷ ps) w w′ (r .pairs) e (h .1), branch-heap T n (s .next) w w′ (r .goals) (r .path) (r .line) b e (h .2))
-  configuration-heap n w w′ r (match (check s y t x ns ps) b) e h = record {
+  configuration-extends n w w′ r (match (pairs s []) b) e h = h
+  configuration-extends n w w′ r (match (pairs s (p ∷ ps)) b) e h = (
+    h .0,
+    pairs-extends T n (s .next) (p ∷ ps) w w′ (r .pairs) e (h .1),
+    branch-extends T n (s .next) w w′ (r .goals) (r .path) (r .line) b e (h .2),
+  )
+  configuration-extends n w w′ r (match (check s y t x ns ps) b) e h = record {
     mode = h .mode;
     variable = h .variable;
-    value = word-heap T n (s .next) w w′ e (h .value);
-    nodes = due-heap n (s .next) w w′ (r .nodes) t x ns e (h .nodes);
-    pairs = pairs-heap T n (s .next) ps w w′ (r .pairs) e (h .pairs);
-    branch = branch-heap T n (s .next) w w′ (r .goals) (r .path) (r .line) b e (h .branch);
+    value = word-extends T n (s .next) w w′ e (h .value);
+    nodes = due-extends n (s .next) w w′ (r .nodes) t x ns e (h .nodes);
+    pairs = pairs-extends T n (s .next) ps w w′ (r .pairs) e (h .pairs);
+    branch = branch-extends T n (s .next) w w′ (r .goals) (r .path) (r .line) b e (h .branch);
   }
-  configuration-heap n w w′ r (match fail b) e h = h
-  configuration-heap n w w′ r (done s ls) e h = (h .0, path-heap n (s .next) ls w w′ (r .path) (r .line) e (h .1))
+  configuration-extends n w w′ r (match fail b) e h = h
+  configuration-extends n w w′ r (done s ls) e h = (h .0, path-extends n (s .next) ls w w′ (r .path) (r .line) e (h .1))
 
-  -- an act later too.
+  -- The whole configuration stays one act later.
   pub configuration-up : (n : ℕ) (w : List ℕ) (r : Registers) (c : Configuration) → ConfigurationAt n w r c → ConfigurationAt (suc n) w r c
   unfolding ConfigurationAt CompareAt
-  configuration-up n w r (take s g b) h = (h .0, sequent-up T n w (r .node) (r .frame) (r .program) (r .level) g (h .1), branch-up T n (s .next) w (r .goals) (r .path) (r .line) b (h .2))
+  configuration-up n w r (take s g b) h = (
+    h .0,
+    sequent-up T n w (r .node) (r .frame) (r .program) (r .level) g (h .1),
+    branch-up T n (s .next) w (r .goals) (r .path) (r .line) b (h .2),
+  )
   configuration-up n w r (try s a m ms k b) h = record {
     mode = h .mode;
     atom = atom-up n (s .next) w (r .node) (r .frame) (r .program) (r .level) a (h .atom);
@@ -238,7 +272,11 @@ module _ (T : Table) where
     branch = branch-up T n (s .next) w (r .goals) (r .path) (r .line) b (h .branch);
   }
   configuration-up n w r (match (pairs s []) b) h = h
-  configuration-up n w r (match (pairs s (p ∷ ps)) b) h = (h .0, pairs-up T n (s .next) (s .next) (p ∷ ps) w (r .pairs) (omega arith) (h .1), branch-up T n (s .next) w (r .goals) (r .path) (r .line) b (h .2))
+  configuration-up n w r (match (pairs s (p ∷ ps)) b) h = (
+    h .0,
+    pairs-up T n (s .next) (s .next) (p ∷ ps) w (r .pairs) (omega arith) (h .1),
+    branch-up T n (s .next) w (r .goals) (r .path) (r .line) b (h .2),
+  )
   configuration-up n w r (match (check s y t x ns ps) b) h = record {
     mode = h .mode;
     variable = h .variable;

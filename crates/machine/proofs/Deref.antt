@@ -12,26 +12,26 @@ use Rattle.machine.specs.Records.{cellOf}
 use Rattle.machine.specs.Words.{tagOf, nameOf, deref}
 use Rattle.machine.proofs.Bindings.{hops}
 
--- No turn is left,
+-- No turn is left.
 pub deref-end : (n : ℕ) (w : List ℕ) (a : ℕ) → n ≤ 0 → deref n w a ≡ a
 unfolding deref
 deref-end zero w a p = refl
 deref-end (suc n) w a p = absurd (omega arith)
 
--- the word is no variable,
+-- The word is no variable.
 pub deref-other : (n : ℕ) (w : List ℕ) (a t : ℕ) → t ≡ tagOf a → (t ≡ 1 → ⊥) → deref n w a ≡ a
 unfolding deref
 deref-other zero w a t et e = refl
 deref-other (suc n) w a t et e = simp (deref, ← et, ne-eqb _ _ e)
 
--- the variable is unbound,
+-- The variable is unbound.
 pub deref-free : (n : ℕ) (w : List ℕ) (a t x b z : ℕ) → t ≡ tagOf a → t ≡ 1 → x ≡ nameOf a → b ≡ cellOf w x → z ≡ tagOf b → z ≡ 0
     → deref n w a ≡ a
 unfolding deref
 deref-free zero w a t x b z et e ex eb ez f = refl
 deref-free (suc n) w a t x b z et e ex eb ez f = simp (deref, ← et, ← ex, ← eb, ← ez, eq-eqb _ _ e, eq-eqb _ _ f)
 
--- or its binding is followed.
+-- The binding of the variable is followed.
 pub deref-on : (n : ℕ) (w : List ℕ) (a t x b z : ℕ) → 0 < n → t ≡ tagOf a → t ≡ 1 → x ≡ nameOf a → b ≡ cellOf w x → z ≡ tagOf b
     → (z ≡ 0 → ⊥) → deref n w a ≡ deref (n - 1) w b
 unfolding deref

@@ -9,18 +9,22 @@ use Rattle.sheet_format.specs.Limits.{variableNames}
 use Rattle.node_table.specs.Layout.{kindOf, labelOf, impliesKind}
 use Rattle.machine.specs.declared.Registers.{Registers}
 use Rattle.machine.specs.Fields as fields
-use Rattle.machine.specs.Records.{levelOf, putCell, putLevel, Made, made, putEntry, putGoal, putAssumption, putPath, putUse, putPairs, putNodes, provedMode, compareMode, tryMode, takeMode}
-use Rattle.machine.specs.Words.{up, tagOf, nameOf, nodeOf, frameOf, slotOf, variableWord, constantWord, constantTag, variableTag}
+use Rattle.machine.specs.Records.{levelOf, putCell, putLevel, Made, made, putEntry, putGoal, putAssumption, putPath, putUse, putPairs}
+use Rattle.machine.specs.Records.{putNodes, provedMode, compareMode, tryMode, takeMode}
+use Rattle.machine.specs.Words.{increment, tagOf, nameOf, nodeOf, frameOf, slotOf, variableWord, constantWord, constantTag}
+use Rattle.machine.specs.Words.{variableTag}
 use Rattle.machine.specs.Trail.{lowerTo, bindTo, oldLevel, effect, undoEntry, undo}
 use Rattle.machine.specs.Frames.{copyFrame, putVariable, putFresh, putVariables}
-use Rattle.machine.specs.Choices.{saveChoice, takeUp, failed}
-use Rattle.machine.specs.Goals.{membersLeft, tryFrom, takeAtom, takeTrue, takeAnd, takeOr, takeImplies, takeExists, putConstant, takeForall, takeGoal}
-use Rattle.machine.specs.Matching.{compareClosures, compareLeaves, compareWords, comparePair, bindValue, passNode, visitVariable, visitConstant, visitClosure, visitWord, checkNode}
-use Rattle.machine.specs.Trying.{nextMember, putPrefix, leaveOthers, putBody, putTry, tryMember, tryFound, tryNext}
-use Rattle.machine.specs.Machine.{dueAct, act, run}
+use Rattle.machine.specs.ChoicePoints.{saveChoice, backtrack, failed}
+use Rattle.machine.specs.Goals.{membersLeft, tryFrom, takeAtom, takeTrue, takeAnd, takeOr, takeImplies, takeExists, putConstant}
+use Rattle.machine.specs.Goals.{takeForall, takeGoal}
+use Rattle.machine.specs.Matching.{compareClosures, compareLeaves, compareWords, comparePair, bindValue, passNode, visitVariable}
+use Rattle.machine.specs.Matching.{visitConstant, visitClosure, visitWord, checkNode}
+use Rattle.machine.specs.Backchaining.{nextMember, putPrefix, saveAlternative, putBody, putTry, tryMember, tryFound, tryNext}
+use Rattle.machine.specs.Machine.{dueAct, act, runActs}
 use Rattle.machine.specs.Simulation.{KeepsLength}
 use Rattle.machine.proofs.Records.{length-cell, length-level}
-use Rattle.machine.proofs.Choosing.{saved, save-is}
+use Rattle.machine.proofs.SavedChoices.{saved, save-is}
 use Rattle.memory.proofs.Records.{length-put, puts, length-puts}
 use Rattle.memory.specs.Records.{field, putField}
 use Rattle.clause_members.specs.declared.Found.{Found}
@@ -32,110 +36,119 @@ either true x y w p q = p
 either false x y w p q = q
 
 -- What an act leaves.
-made-either : (b : Bool) (x y : Made) (w : List ℕ) → length (x .memory) ≡ length w → length (y .memory) ≡ length w → length (cond b x y .memory) ≡ length w
+made-either : (b : Bool) (x y : Made) (w : List ℕ) → length (x .memory) ≡ length w → length (y .memory) ≡ length w
+    → length (cond b x y .memory) ≡ length w
 made-either true x y w p q = p
 made-either false x y w p q = q
 
 -- Groups of fields
 
--- A trail entry,
+-- Writing a trail entry keeps the length.
 length-entry : (w : List ℕ) (u z k y h : ℕ) → length (putEntry w u z k y h) ≡ length w
 unfolding putEntry puts
 length-entry w u z k y h = length-puts (z ∷ k ∷ y ∷ h ∷ []) w u fields.entryLowered
 
--- a goal,
+-- Writing a goal keeps the length.
 length-goal : (w : List ℕ) (u a b c d e : ℕ) → length (putGoal w u a b c d e) ≡ length w
 unfolding putGoal puts
 length-goal w u a b c d e = length-puts (a ∷ b ∷ c ∷ d ∷ e ∷ []) w u fields.goalNode
 
--- an assumption,
+-- Writing an assumption keeps the length.
 length-assumption : (w : List ℕ) (u a b c : ℕ) → length (putAssumption w u a b c) ≡ length w
 unfolding putAssumption puts
 length-assumption w u a b c = length-puts (a ∷ b ∷ c ∷ []) w u fields.assumptionNode
 
--- a line,
+-- Writing a line of the path keeps the length.
 length-path : (w : List ℕ) (u a b : ℕ) → length (putPath w u a b) ≡ length w
 unfolding putPath puts
 length-path w u a b = length-puts (a ∷ b ∷ []) w u fields.pathBefore
 
--- a member's use,
+-- Writing a member's use keeps the length.
 length-use : (w : List ℕ) (u a b c : ℕ) → length (putUse w u a b c) ≡ length w
 unfolding putUse puts
 length-use w u a b c = length-puts (a ∷ b ∷ c ∷ []) w u fields.usePlace
 
--- a choice point,
+-- Saving a choice point keeps the length.
 length-choice : (w : List ℕ) (u : ℕ) (r : Registers) → length (saveChoice w u r) ≡ length w
 length-choice w u r = ap length (save-is w u r) ∙ length-puts (saved r) w u fields.variables
 
--- pairs,
+-- Writing pairs keeps the length.
 length-pairs : (w : List ℕ) (u a b c d e : ℕ) → length (putPairs w u a b c d e) ≡ length w
 unfolding putPairs puts
 length-pairs w u a b c d e = length-puts (a ∷ b ∷ c ∷ d ∷ e ∷ []) w u fields.goalSideNode
 
--- nodes.
+-- Writing nodes keeps the length.
 length-nodes : (w : List ℕ) (u a b c : ℕ) → length (putNodes w u a b c) ≡ length w
 unfolding putNodes puts
 length-nodes w u a b c = length-puts (a ∷ b ∷ c ∷ []) w u fields.goalSideNode
 
 -- The trail
 
--- Lowering,
+-- Lowering a level keeps the length.
 length-lowerTo : (w : List ℕ) (a k : ℕ) → length (lowerTo w a k) ≡ length w
 unfolding lowerTo
 length-lowerTo w a k = either (eqb a 0) w (putLevel w (nameOf a) k) w refl (length-level w (nameOf a) k)
 
--- binding,
+-- Binding a variable keeps the length.
 length-bindTo : (w : List ℕ) (a v : ℕ) → length (bindTo w a v) ≡ length w
 unfolding bindTo
 length-bindTo w a v = either (eqb a 0) w (putCell w (nameOf a) v) w refl (length-cell w (nameOf a) v)
 
--- both with their entry,
+-- Lowering and binding with their trail entry keeps the length.
 length-effect : (w : List ℕ) (u z k y v h : ℕ) → length (effect w u z k y v h) ≡ length w
 unfolding effect
-length-effect w u z k y v h = length-entry (bindTo (lowerTo w z k) y v) u z (oldLevel w z) y h ∙ length-bindTo (lowerTo w z k) y v ∙ length-lowerTo w z k
+length-effect w u z k y v h =
+    length-entry (bindTo (lowerTo w z k) y v) u z (oldLevel w z) y h ∙ length-bindTo (lowerTo w z k) y v ∙ length-lowerTo w z k
 
--- undoing one entry,
+-- Undoing one entry keeps the length.
 length-undoEntry : (w : List ℕ) (q : ℕ) → length (undoEntry w q) ≡ length w
 unfolding undoEntry
-length-undoEntry w q = length-lowerTo (bindTo w (field w q fields.entryBound) 0) (field w q fields.entryLowered) (field w q fields.entryLevel) ∙ length-bindTo w (field w q fields.entryBound) 0
+length-undoEntry w q =
+    length-lowerTo (bindTo w (field w q fields.entryBound) 0) (field w q fields.entryLowered) (field w q fields.entryLevel)
+    ∙ length-bindTo w (field w q fields.entryBound) 0
 
--- undoing several,
+-- Undoing several entries keeps the length.
 length-undo : (n : ℕ) (w : List ℕ) (h mark : ℕ) → length (undo n w h mark) ≡ length w
 unfolding undo
 length-undo zero w h mark = refl
-length-undo (suc n) w h mark = go (eqb h mark) (length-undo n (undoEntry w (h - 1)) (field w (h - 1) fields.entryBefore) mark ∙ length-undoEntry w (h - 1))
+length-undo (suc n) w h mark =
+    go (eqb h mark) (length-undo n (undoEntry w (h - 1)) (field w (h - 1) fields.entryBefore) mark ∙ length-undoEntry w (h - 1))
   where
     go : (b : Bool) → length (undo n (undoEntry w (h - 1)) (field w (h - 1) fields.entryBefore) mark) ≡ length w
         → length {A = ℕ} (elim b [ true ↦ w | false ↦ undo n (undoEntry w (h - 1)) (field w (h - 1) fields.entryBefore) mark ]) ≡ length w
     go true i = refl
     go false i = i
 
--- taking up an alternative.
+-- Taking up an alternative keeps the length.
 length-failed : (w : List ℕ) (r : Registers) → length (failed w r .memory) ≡ length w
-unfolding failed takeUp
-length-failed w r = made-either (eqb (r .choice) 0) _ (takeUp w r (r .choice - 1)) w refl (length-undo (r .trail) w (r .trail) (field w (r .choice - 1) fields.choiceTrail))
+unfolding failed backtrack
+length-failed w r =
+    made-either (eqb (r .choice) 0) _ (backtrack w r (r .choice - 1)) w refl
+    (length-undo (r .trail) w (r .trail) (field w (r .choice - 1) fields.choiceTrail))
 
 -- Frames
 
--- Copying a frame,
+-- Copying a frame keeps the length.
 length-copy : (n : ℕ) (w : List ℕ) (u f v : ℕ) → length (copyFrame n w u f v) ≡ length w
 unfolding copyFrame
 length-copy zero w u f v = refl
-length-copy (suc n) w u f v = length-copy n (putField w u (fields.frame + v) (slotOf w f v)) u f (suc v) ∙ length-put w u (fields.frame + v) (slotOf w f v)
+length-copy (suc n) w u f v =
+    length-copy n (putField w u (fields.frame + v) (slotOf w f v)) u f (suc v) ∙ length-put w u (fields.frame + v) (slotOf w f v)
 
--- making a variable,
+-- Making a variable keeps the length.
 length-variable : (w : List ℕ) (x i : ℕ) → length (putVariable w x i) ≡ length w
 unfolding putVariable
 length-variable w x i = length-level (putCell w x 0) x i ∙ length-cell w x 0
 
--- the variables of a prefix,
+-- Making the variables of a prefix keeps the length.
 length-fresh : (n : ℕ) (w : List ℕ) (u vs x i : ℕ) → length (putFresh n w u vs x i) ≡ length w
 unfolding putFresh
 length-fresh zero w u vs x i = refl
 length-fresh (suc n) w u vs x i =
-    length-fresh n (putField (putVariable w x i) u (fields.frame + vs % 8) (variableWord x)) u (vs / 8) (up x) i ∙ length-put (putVariable w x i) u (fields.frame + vs % 8) (variableWord x) ∙ length-variable w x i
+    length-fresh n (putField (putVariable w x i) u (fields.frame + vs % 8) (variableWord x)) u (vs / 8) (increment x) i
+    ∙ length-put (putVariable w x i) u (fields.frame + vs % 8) (variableWord x) ∙ length-variable w x i
 
--- those of the goal.
+-- Making the variables of the goal keeps the length.
 pub length-variables : (n : ℕ) (w : List ℕ) (x : ℕ) → length (putVariables n w x) ≡ length w
 unfolding putVariables
 length-variables zero w x = refl
@@ -143,12 +156,12 @@ length-variables (suc n) w x = length-variables n (putVariable w x 0) (suc x) �
 
 -- Acts
 
--- Going on with a member,
+-- Going on with a member keeps the length.
 length-tryFrom : (c : ℕ) (w : List ℕ) (r : Registers) → length (tryFrom c w r .memory) ≡ length w
 unfolding tryFrom
 length-tryFrom c w r = made-either (membersLeft c r) _ (failed w r) w refl (length-failed w r)
 
--- taking a goal,
+-- Taking a goal keeps the length.
 length-take : (t : List ℕ) (c : ℕ) (w : List ℕ) (r : Registers) → length (takeGoal t c w r .memory) ≡ length w
 unfolding takeGoal takeAtom takeTrue takeAnd takeOr takeImplies takeExists takeForall putConstant
 length-take t c w r =
@@ -156,8 +169,11 @@ length-take t c w r =
     (made-either (eqb k 4) (takeAnd t w r) _ w (length-goal path u _ _ _ _ _ ∙ path-kept)
     (made-either (eqb k 5) (takeOr t w r) _ w (length-choice path u _ ∙ path-kept)
     (made-either (eqb k 6) (takeImplies t w r) _ w (length-assumption path u _ _ _ ∙ path-kept)
-    (made-either (eqb k 7) (takeExists t w r) _ w (length-put (putPath x u (r .path) (r .line)) u fields.variables (r .next) ∙ length-path x u (r .path) (r .line) ∙ length-fresh 1 copy u (labelOf t (r .node)) (r .next) (r .level) ∙ copied)
-    (made-either (eqb k 8) (takeForall t w r) (takeTrue w r) w (length-path y u (r .path) (r .line) ∙ length-put (putField copy u fields.constantLevel (up (r .level))) u (fields.frame + labelOf t (r .node)) (constantWord u) ∙ length-put copy u fields.constantLevel (up (r .level)) ∙ copied) path-kept)))))
+    (made-either (eqb k 7) (takeExists t w r) _ w (length-put (putPath x u (r .path) (r .line)) u fields.variables (r .next)
+    ∙ length-path x u (r .path) (r .line) ∙ length-fresh 1 copy u (labelOf t (r .node)) (r .next) (r .level) ∙ copied)
+    (made-either (eqb k 8) (takeForall t w r) (takeTrue w r) w (length-path y u (r .path) (r .line)
+    ∙ length-put (putField copy u fields.constantLevel (increment (r .level))) u (fields.frame + labelOf t (r .node)) (constantWord u)
+    ∙ length-put copy u fields.constantLevel (increment (r .level)) ∙ copied) path-kept)))))
   where
     k : ℕ
     k = kindOf t (r .node)
@@ -181,9 +197,9 @@ length-take t c w r =
     x = putFresh 1 copy u (labelOf t (r .node)) (r .next) (r .level)
 
     y : List ℕ
-    y = putField (putField copy u fields.constantLevel (up (r .level))) u (fields.frame + labelOf t (r .node)) (constantWord u)
+    y = putField (putField copy u fields.constantLevel (increment (r .level))) u (fields.frame + labelOf t (r .node)) (constantWord u)
 
--- comparing a pair,
+-- Comparing a pair keeps the length.
 length-compareWords : (t w : List ℕ) (r : Registers) (e x y : ℕ) → length (compareWords t w r e x y .memory) ≡ length w
 unfolding compareWords compareLeaves compareClosures
 length-compareWords t w r e x y =
@@ -191,31 +207,38 @@ length-compareWords t w r e x y =
     (made-either (eqb (tagOf y) variableTag) _ _ w refl
     (made-either (eqb (tagOf x) constantTag) _ _ w (made-either (eqb x y) _ (failed w r) w refl (length-failed w r))
     (made-either (eqb (tagOf y) constantTag) (failed w r) _ w (length-failed w r)
-    (made-either (eqb (labelOf t (nodeOf x)) (labelOf t (nodeOf y))) _ (failed w r) w (length-pairs w (r .acts) (nodeOf x) (frameOf x) (nodeOf y) (frameOf y) e) (length-failed w r)))))
+    (made-either (eqb (labelOf t (nodeOf x)) (labelOf t (nodeOf y))) _ (failed w r) w
+    (length-pairs w (r .acts) (nodeOf x) (frameOf x) (nodeOf y) (frameOf y) e) (length-failed w r)))))
 
--- after a node,
+-- Going on after a node keeps the length.
 length-passNode : (w : List ℕ) (r : Registers) (z k e : ℕ) → length (passNode w r z k e .memory) ≡ length w
 unfolding passNode bindValue
-length-passNode w r z k e = made-either (eqb e 0) (bindValue w r z k) _ w (length-effect w (r .acts) z k (r .variable) (r .value) (r .trail)) (length-effect w (r .acts) z k 0 0 (r .trail))
+length-passNode w r z k e =
+    made-either (eqb e 0) (bindValue w r z k) _ w (length-effect w (r .acts) z k (r .variable) (r .value) (r .trail))
+    (length-effect w (r .acts) z k 0 0 (r .trail))
 
--- looking at a node,
+-- Looking at a node keeps the length.
 length-visitWord : (t w : List ℕ) (r : Registers) (e x : ℕ) → length (visitWord t w r e x .memory) ≡ length w
 unfolding visitWord visitVariable visitConstant visitClosure
 length-visitWord t w r e x =
     made-either (eqb (tagOf x) variableTag) (visitVariable w r e x) _ w
-    (made-either (eqb x (r .variable)) (failed w r) _ w (length-failed w r) (length-passNode w r x (min (levelOf w (nameOf x)) (levelOf w (nameOf (r .variable)))) e))
+    (made-either (eqb x (r .variable)) (failed w r) _ w (length-failed w r)
+    (length-passNode w r x (min (levelOf w (nameOf x)) (levelOf w (nameOf (r .variable)))) e))
     (made-either (eqb (tagOf x) constantTag) (visitConstant w r e x) (visitClosure t w r e x) w
-    (made-either (leb (field w (nameOf x) fields.constantLevel) (levelOf w (nameOf (r .variable)))) _ (failed w r) w (length-passNode w r 0 0 e) (length-failed w r))
+    (made-either (leb (field w (nameOf x) fields.constantLevel) (levelOf w (nameOf (r .variable)))) _ (failed w r) w
+    (length-passNode w r 0 0 e) (length-failed w r))
     (length-passNode (putNodes w (r .acts) (nodeOf x) (frameOf x) e) r 0 0 _ ∙ length-nodes w (r .acts) (nodeOf x) (frameOf x) e))
 
--- trying a member,
+-- Trying a member keeps the length.
 length-tryFound : (t : List ℕ) (c : ℕ) (w : List ℕ) (r : Registers) (m : Found) → length (tryFound t c w r m .memory) ≡ length w
-unfolding tryFound tryMember putTry putBody leaveOthers putPrefix
+unfolding tryFound tryMember putTry putBody saveAlternative putPrefix
 length-tryFound t c w r m =
     made-either (eqb (labelOf t (r .node)) (labelOf t (headOf t (m .leaf)))) (tryMember t c w r m) (tryFrom c w (nextMember t w r)) w
     (length-pairs (putTry t c (putPrefix w r m) r m (nextMember t w r)) u _ _ _ _ _
-    ∙ either (eqb (kindOf t (m .leaf)) impliesKind) _ others others (length-goal others u _ _ _ _ _) refl ∙ either (membersLeft c (nextMember t w r)) _ used used (length-choice used u (nextMember t w r)) refl
-    ∙ length-use (putPath (putPrefix w r m) u (r .path) (r .line)) u (r .place) (m .count) (r .next) ∙ length-path (putPrefix w r m) u (r .path) (r .line)
+    ∙ either (eqb (kindOf t (m .leaf)) impliesKind) _ others others (length-goal others u _ _ _ _ _) refl
+    ∙ either (membersLeft c (nextMember t w r)) _ used used (length-choice used u (nextMember t w r)) refl
+    ∙ length-use (putPath (putPrefix w r m) u (r .path) (r .line)) u (r .place) (m .count) (r .next)
+    ∙ length-path (putPrefix w r m) u (r .path) (r .line)
     ∙ length-fresh (m .count) _ u (m .names) (r .next) (r .level) ∙ length-copy 8 w u _ 0)
     (length-tryFrom c w (nextMember t w r))
   where
@@ -226,24 +249,26 @@ length-tryFound t c w r m =
     used = putUse (putPath (putPrefix w r m) u (r .path) (r .line)) u (r .place) (m .count) (r .next)
 
     others : List ℕ
-    others = leaveOthers c used u (nextMember t w r)
+    others = saveAlternative c used u (nextMember t w r)
 
--- so any act,
+-- Any act keeps the length.
 pub length-act : (t : List ℕ) (c : ℕ) (w : List ℕ) (r : Registers) → length (act t c w r .memory) ≡ length w
 unfolding act dueAct tryNext comparePair checkNode
 length-act t c w r =
     made-either (eqb (r .mode) takeMode) (takeGoal t c w r) _ w (length-take t c w r)
     (made-either (eqb (r .mode) tryMode) (tryNext t c w r) _ w (length-tryFound t c w r _)
-    (made-either (eqb (r .mode) compareMode) (comparePair t w r) (checkNode t w r) w (length-compareWords t w r _ _ _) (length-visitWord t w r _ _)))
+    (made-either (eqb (r .mode) compareMode) (comparePair t w r) (checkNode t w r) w (length-compareWords t w r _ _ _)
+    (length-visitWord t w r _ _)))
 
--- and any number of acts.
+-- Any number of acts keeps the length.
 pub keepsLength : KeepsLength
-unfolding run
+unfolding runActs
 keepsLength zero t c w r = refl
-keepsLength (suc n) t c w r = go (ltb (r .mode) provedMode) (keepsLength n t c (act t c w r .memory) (act t c w r .registers) ∙ length-act t c w r)
+keepsLength (suc n) t c w r =
+    go (ltb (r .mode) provedMode) (keepsLength n t c (act t c w r .memory) (act t c w r .registers) ∙ length-act t c w r)
   where
     R : Made
-    R = run n t c (act t c w r .memory) (act t c w r .registers)
+    R = runActs n t c (act t c w r .memory) (act t c w r .registers)
 
     M : Bool → Made
     M b = elim b [ true ↦ R | false ↦ made w r ]

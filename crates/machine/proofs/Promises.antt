@@ -6,14 +6,14 @@ use Rattle.search.specs.Search.{search, after}
 use Rattle.sheet_format.specs.Sheets.{Sheet}
 use Rattle.node_table.specs.Decoding.{decodeSheet}
 use Rattle.machine.specs.Machine.{runMachine}
-use Rattle.machine.specs.Simulation.{Tells, Stands}
-use Rattle.machine.specs.Promises.{StandsFor, MachineTells, MachineFollows}
+use Rattle.machine.specs.Simulation.{Reports, Stands}
+use Rattle.machine.specs.Promises.{StandsFor, MachineReports, MachineFollows}
 use Rattle.machine.proofs.Simulation.{simulates, follows}
 
-pub machineTells : MachineTells
+pub machineReports : MachineReports
 unfolding decodeSheet
-machineTells bytes t symbols nodes clauses goal s h budget few work room =
-    subst (λ (q : Sheet). Tells t (runMachine budget t clauses goal work) (search budget (q .clauses) (q .goal))) (h .decoded)
+machineReports bytes t symbols nodes clauses goal s h budget few work room =
+    subst (λ (q : Sheet). Reports t (runMachine budget t clauses goal work) (search budget (q .clauses) (q .goal))) (h .decoded)
     (simulates t nodes clauses goal (h .made) budget few work room)
 
 pub machineFollows : MachineFollows

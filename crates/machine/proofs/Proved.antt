@@ -18,11 +18,11 @@ use Rattle.node_table.specs.Decoding.{clausesFrom, goalAt}
 use Rattle.machine.specs.Records.{Made}
 use Rattle.machine.specs.Machine.{startMemory, startRegisters, runMachine}
 use Rattle.machine.proofs.Tables.{Table}
-use Rattle.machine.proofs.Alternatives.{StateAt}
+use Rattle.machine.proofs.ChoicePoints.{StateAt}
 use Rattle.machine.proofs.Lengths.{keepsLength}
 use Rattle.machine.proofs.Simulation.{start-length, Told, told}
 
--- n acts were done, s is the final store, ls the path, latest line first.
+-- The record says that n acts were done, s is the final store and ls is the path, latest line first.
 pub record ProvedAt (T : Table) (m : Made) (s : Store) (ls : List (Line Leaf)) (n : ℕ) : Type 0 where
   pub alternatives : List Configuration
   pub state : StateAt T n (m .memory) (m .registers) (done s ls) alternatives
@@ -39,7 +39,8 @@ not-first cs g v zero h = absurd h
 not-first cs g v (suc n) h = omega arith
 
 -- Every proved search ends in such a state.
-pub proved-at : (T : Table) (budget : ℕ) → budget ≤ maxBudget → (w : List ℕ) → numbersPerUnit * budget ≤ length w → (s : Store) (ls : List (Line Leaf)) (n : ℕ)
+pub proved-at : (T : Table) (budget : ℕ) → budget ≤ maxBudget → (w : List ℕ) → numbersPerUnit * budget ≤ length w
+    → (s : Store) (ls : List (Line Leaf)) (n : ℕ)
     → search budget (clausesFrom (T .numbers) (T .clauses) 0) (goalAt (T .numbers) (T .goal)) ≡ ends (proved s ls) n
     → ProvedAt T (runMachine budget (T .numbers) (T .clauses) (T .goal) w) s ls n
 unfolding Told Invariant runMachine

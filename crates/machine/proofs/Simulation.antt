@@ -21,51 +21,59 @@ use Rattle.sheet_format.specs.Limits.{maxBudget, numbersPerUnit}
 use Rattle.node_table.specs.Decoding.{clausesFrom, goalAt}
 use Rattle.machine.specs.declared.Registers.{Registers}
 use Rattle.machine.specs.Records.{Made, made, noMode, provedMode}
-use Rattle.machine.specs.Changes.{onActs}
-use Rattle.machine.specs.Machine.{act, run, startMemory, startRegisters, runMachine}
-use Rattle.machine.specs.Simulation.{StandsAt, Tells, Stands, Simulates, Follows, Resumes}
-use Rattle.machine.proofs.Words.{up-small}
+use Rattle.machine.specs.RegisterUpdates.{withActs}
+use Rattle.machine.specs.Machine.{act, runActs, startMemory, startRegisters, runMachine}
+use Rattle.machine.specs.Simulation.{StandsAt, Reports, Stands, Simulates, Follows, Resumes}
+use Rattle.machine.proofs.Words.{increment-small}
 use Rattle.machine.proofs.Tables.{Table}
 use Rattle.machine.proofs.Stores.{store-bindings}
 use Rattle.machine.proofs.Branches.{PathAt, path-read}
 use Rattle.machine.proofs.Configurations.{storeOf, CompareAt, ConfigurationAt}
-use Rattle.machine.proofs.Alternatives.{SharedAt, StateAt, ResultAt}
+use Rattle.machine.proofs.ChoicePoints.{SharedAt, StateAt, ResultAt}
 use Rattle.machine.proofs.Lengths.{length-act, length-variables, keepsLength}
 use Rattle.machine.proofs.Acts.{mode-due, act-result}
 use Rattle.machine.proofs.Start.{start-result}
 
 -- Turns of the run.
-run-ended : (n : ℕ) (t : List ℕ) (c : ℕ) (w : List ℕ) (r : Registers) → 4 ≤ r .mode → run n t c w r ≡ made w r
-unfolding run
+run-ended : (n : ℕ) (t : List ℕ) (c : ℕ) (w : List ℕ) (r : Registers) → 4 ≤ r .mode → runActs n t c w r ≡ made w r
+unfolding runActs
 run-ended zero t c w r h = refl
-run-ended (suc n) t c w r h = rw (run, le-ltb (r .mode) provedMode h)
+run-ended (suc n) t c w r h = rw (runActs, le-ltb (r .mode) provedMode h)
 
 -- An act is due.
-run-due : (n : ℕ) (t : List ℕ) (c : ℕ) (w : List ℕ) (r : Registers) → r .mode < 4 → run (suc n) t c w r ≡ run n t c (act t c w r .memory) (act t c w r .registers)
-unfolding run
-run-due n t c w r h = rw (run, lt-ltb (r .mode) provedMode h)
+run-due : (n : ℕ) (t : List ℕ) (c : ℕ) (w : List ℕ) (r : Registers) → r .mode < 4
+    → runActs (suc n) t c w r ≡ runActs n t c (act t c w r .memory) (act t c w r .registers)
+unfolding runActs
+run-due n t c w r h = rw (runActs, lt-ltb (r .mode) provedMode h)
 
 -- The start keeps the length.
 pub start-length : (w : List ℕ) → length (startMemory w) ≡ length w
 unfolding startMemory
 start-length w = length-variables 8 w 0
 
--- n acts and then m are n + m acts.
+-- Running n acts and then m acts is running n + m acts.
 pub resumes : Resumes
-unfolding run
-resumes t c zero m w r = let e : 0 + m ≡ m = omega arith in ap (λ (k : ℕ). run k t c w r) e
-resumes t c (suc n) m w r = let e : suc n + m ≡ suc (n + m) = omega arith in ap (λ (k : ℕ). run k t c w r) e ∙ go (ltb (r .mode) provedMode) refl (λ w′ r′. resumes t c n m w′ r′)
+unfolding runActs
+resumes t c zero m w r = let e : 0 + m ≡ m = omega arith in ap (λ (k : ℕ). runActs k t c w r) e
+resumes t c (suc n) m w r =
+    let e : suc n + m ≡ suc (n + m) = omega arith in ap (λ (k : ℕ). runActs k t c w r) e
+    ∙ go (ltb (r .mode) provedMode) refl (λ w′ r′. resumes t c n m w′ r′)
   where
     Rest : Type 0
-    Rest = (w′ : List ℕ) (r′ : Registers) → run (n + m) t c w′ r′ ≡ run m t c (run n t c w′ r′ .memory) (run n t c w′ r′ .registers)
+    Rest =
+        (w′ : List ℕ) (r′ : Registers) → runActs (n + m) t c w′ r′ ≡ runActs m t c (runActs n t c w′ r′ .memory)
+        (runActs n t c w′ r′ .registers)
 
-    go : (b : Bool) → ltb (r .mode) provedMode ≡ b → Rest → run (suc (n + m)) t c w r ≡ run m t c (run (suc n) t c w r .memory) (run (suc n) t c w r .registers)
+    go : (b : Bool) → ltb (r .mode) provedMode ≡ b → Rest
+        → runActs (suc (n + m)) t c w r ≡ runActs m t c (runActs (suc n) t c w r .memory) (runActs (suc n) t c w r .registers)
     go true q ih =
         let l = ltb-true (r .mode) provedMode q in
-        run-due (n + m) t c w r l ∙ ih (act t c w r .memory) (act t c w r .registers) ∙ ap (λ (x : Made). run m t c (x .memory) (x .registers)) (sym (run-due n t c w r l))
+        run-due (n + m) t c w r l ∙ ih (act t c w r .memory) (act t c w r .registers)
+        ∙ ap (λ (x : Made). runActs m t c (x .memory) (x .registers)) (sym (run-due n t c w r l))
     go false q ih =
         let l = ltb-false (r .mode) provedMode q in
-        run-ended (suc (n + m)) t c w r l ∙ sym (run-ended m t c w r l) ∙ ap (λ (x : Made). run m t c (x .memory) (x .registers)) (sym (run-ended (suc n) t c w r l))
+        run-ended (suc (n + m)) t c w r l ∙ sym (run-ended m t c w r l)
+        ∙ ap (λ (x : Made). runActs m t c (x .memory) (x .registers)) (sym (run-ended (suc n) t c w r l))
 
 module _ (T : Table) where
   -- The table.
@@ -73,7 +81,8 @@ module _ (T : Table) where
   t = T .numbers
 
   -- What a state says of a branch.
-  stands-at : (w : List ℕ) (r : Registers) (s : Store) (ds : List Configuration) (ls : List (Line Leaf)) (k : ℕ) → r .mode ≡ k → SharedAt T (r .acts) w (r .next) (r .trail) (r .choice) s ds → PathAt (r .acts) (s .next) ls w (r .path) (r .line)
+  stands-at : (w : List ℕ) (r : Registers) (s : Store) (ds : List Configuration) (ls : List (Line Leaf)) (k : ℕ) → r .mode ≡ k
+      → SharedAt T (r .acts) w (r .next) (r .trail) (r .choice) s ds → PathAt (r .acts) (s .next) ls w (r .path) (r .line)
       → StandsAt (T .numbers) (made w r) k s ls
   stands-at w r s ds ls k e sh p = record {
     mode = e;
@@ -93,13 +102,14 @@ module _ (T : Table) where
   stands w r (match fail b ∷ ds) h = h .front
   stands w r (done s ls ∷ ds) h = stands-at w r s ds ls 4 (h .front .0) (h .shared) (h .front .1)
 
-  -- an act that is due
+  -- An act adds one to the number of acts.
   act-counts : (w : List ℕ) (r : Registers) → r .acts < maxBudget → act (T .numbers) (T .clauses) w r .registers .acts ≡ suc (r .acts)
-  unfolding act onActs
-  act-counts w r h = up-small (r .acts) (omega arith)
+  unfolding act withActs
+  act-counts w r h = increment-small (r .acts) (omega arith)
 
-  -- u acts having been done
-  acted : (u : ℕ) (w : List ℕ) (r : Registers) (c : Configuration) (ds : List Configuration) → r .acts ≡ u → numbersPerUnit * suc u ≤ length w → u < maxBudget → Invariant c → r .mode < 4 → StateAt T u w r c ds
+  -- With u acts done, the act that is due makes one step of the search.
+  acted : (u : ℕ) (w : List ℕ) (r : Registers) (c : Configuration) (ds : List Configuration) → r .acts ≡ u
+      → numbersPerUnit * suc u ≤ length w → u < maxBudget → Invariant c → r .mode < 4 → StateAt T u w r c ds
       → ResultAt T (suc u) (act (T .numbers) (T .clauses) w r) (step u c ++ ds)
   acted u w r c ds e l b i d st =
       subst (λ (n : ℕ). ResultAt T (suc n) (act t (T .clauses) w r) (step n c ++ ds)) e
@@ -110,8 +120,9 @@ module _ (T : Table) where
     pub result : ResultAt T (m .registers .acts) m ds
     pub counted : m .registers .mode < 4 → m .registers .acts ≡ n
 
-  -- a search that has come to its end stays there
-  ended : (n : ℕ) (w : List ℕ) (r : Registers) (c : Configuration) (ds : List Configuration) → 4 ≤ r .mode → StateAt T (r .acts) w r c ds → Following (suc n) (made w r) (step n c ++ ds)
+  -- A search that has come to its end stays there.
+  ended : (n : ℕ) (w : List ℕ) (r : Registers) (c : Configuration) (ds : List Configuration) → 4 ≤ r .mode → StateAt T (r .acts) w r c ds
+      → Following (suc n) (made w r) (step n c ++ ds)
   unfolding ConfigurationAt CompareAt step ResultAt
   ended n w r (take s g b) ds d st = absurd (let e = st .front .0 in omega arith)
   ended n w r (try s a m ms k b) ds d st = absurd (let e = st .front .mode in omega arith)
@@ -121,26 +132,32 @@ module _ (T : Table) where
   ended n w r (match fail b) ds d st = absurd (st .front)
   ended n w r (done s ls) ds d st = record { result = st; counted = λ q. absurd (omega arith) }
 
-  -- one act more
-  follow : (n : ℕ) (w : List ℕ) (r : Registers) (ds : List Configuration) → numbersPerUnit * suc n ≤ length w → n < maxBudget → All Invariant ds → Following n (made w r) ds
-      → Following (suc n) (run 1 (T .numbers) (T .clauses) w r) (advance n ds)
-  unfolding advance ResultAt run act
+  -- One act more follows one step more of the search.
+  follow : (n : ℕ) (w : List ℕ) (r : Registers) (ds : List Configuration) → numbersPerUnit * suc n ≤ length w → n < maxBudget
+      → All Invariant ds → Following n (made w r) ds
+      → Following (suc n) (runActs 1 (T .numbers) (T .clauses) w r) (advance n ds)
+  unfolding advance ResultAt runActs act
   follow n w r [] l b i f =
       let e = f .result in
-      subst (λ (m : Made). Following (suc n) m []) (sym (run-ended 1 t (T .clauses) w r (omega arith))) (record { result = e; counted = λ q. absurd (omega arith) })
+      subst (λ (m : Made). Following (suc n) m []) (sym (run-ended 1 t (T .clauses) w r (omega arith)))
+      (record { result = e; counted = λ q. absurd (omega arith) })
   follow n w r (c ∷ ds) l b i f = go (ltb (r .mode) provedMode) refl
     where
-      go : (x : Bool) → ltb (r .mode) provedMode ≡ x → Following (suc n) (run 1 t (T .clauses) w r) (step n c ++ ds)
+      go : (x : Bool) → ltb (r .mode) provedMode ≡ x → Following (suc n) (runActs 1 t (T .clauses) w r) (step n c ++ ds)
       go true q =
           let d = ltb-true (r .mode) provedMode q in
           let e = f .counted d in
           let k = act-counts w r (omega arith) in
           let R = acted n w r c ds e l b (i .0) d (subst (λ (j : ℕ). StateAt T j w r c ds) e (f .result)) in
           subst (λ (m : Made). Following (suc n) m (step n c ++ ds)) (sym (run-due 0 t (T .clauses) w r d))
-          (record { result = subst (λ (j : ℕ). ResultAt T j (act t (T .clauses) w r) (step n c ++ ds)) (sym (k ∙ ap suc e)) R; counted = λ z. k ∙ ap suc e })
+          (record {
+            result = subst (λ (j : ℕ). ResultAt T j (act t (T .clauses) w r) (step n c ++ ds)) (sym (k ∙ ap suc e)) R;
+            counted = λ z. k ∙ ap suc e;
+          })
       go false q =
           let d = ltb-false (r .mode) provedMode q in
-          subst (λ (m : Made). Following (suc n) m (step n c ++ ds)) (sym (run-ended 1 t (T .clauses) w r d)) (ended n w r c ds d (f .result))
+          subst (λ (m : Made). Following (suc n) m (step n c ++ ds)) (sym (run-ended 1 t (T .clauses) w r d))
+          (ended n w r c ds d (f .result))
 
   -- The sheet that the table holds.
   abbrev clauses : List Clause
@@ -150,29 +167,34 @@ module _ (T : Table) where
   abbrev goal : Goal
   goal = goalAt (T .numbers) (T .goal)
 
-  -- by induction
+  -- After n acts from the start the machine follows the search.
   pub following : (n : ℕ) (w : List ℕ) → n ≤ maxBudget → numbersPerUnit ≤ length w → numbersPerUnit * n ≤ length w
-      → Following n (runMachine n (T .numbers) (T .clauses) (T .goal) w) (after (clausesFrom (T .numbers) (T .clauses) 0) (goalAt (T .numbers) (T .goal)) n)
-  unfolding runMachine run after startRegisters
+      → Following n (runMachine n (T .numbers) (T .clauses) (T .goal) w)
+      (after (clausesFrom (T .numbers) (T .clauses) 0) (goalAt (T .numbers) (T .goal)) n)
+  unfolding runMachine runActs after startRegisters
   following zero w b k l = record { result = start-result T w k; counted = λ q. refl }
   following (suc n) w b k l =
       let m = runMachine n t (T .clauses) (T .goal) w in
       let e : n + 1 ≡ suc n = omega arith in
       let len = keepsLength n t (T .clauses) (startMemory w) (startRegisters (T .goal)) ∙ start-length w in
-      let z : run (suc n) t (T .clauses) (startMemory w) (startRegisters (T .goal)) ≡ run 1 t (T .clauses) (m .memory) (m .registers) =
-      ap (λ (j : ℕ). run j t (T .clauses) (startMemory w) (startRegisters (T .goal))) (sym e) ∙ resumes t (T .clauses) n 1 (startMemory w) (startRegisters (T .goal)) in
+      let z : runActs (suc n) t (T .clauses) (startMemory w) (startRegisters (T .goal)) ≡ runActs 1 t (T .clauses) (m .memory)
+      (m .registers) =
+      ap (λ (j : ℕ). runActs j t (T .clauses) (startMemory w) (startRegisters (T .goal))) (sym e)
+      ∙ resumes t (T .clauses) n 1 (startMemory w) (startRegisters (T .goal)) in
       subst (λ (x : Made). Following (suc n) x (advance n (after clauses goal n))) (sym z)
-      (follow n (m .memory) (m .registers) (after clauses goal n) (omega arith) (omega arith) (after-invariant clauses goal n) (following n w (omega arith) k (omega arith)))
+      (follow n (m .memory) (m .registers) (after clauses goal n) (omega arith) (omega arith) (after-invariant clauses goal n)
+      (following n w (omega arith) k (omega arith)))
 
   -- What the machine tells, with the whole state at the end of a proved search.
   unfoldable pub Told : Made → Outcome → Type 0
-  Told m (ends (proved s ls) n) = (ds : List Configuration) × StateAt T n (m .memory) (m .registers) (done s ls) ds × (m .registers .acts ≡ n)
+  Told m (ends (proved s ls) n) =
+      (ds : List Configuration) × StateAt T n (m .memory) (m .registers) (done s ls) ds × (m .registers .acts ≡ n)
   Told m (ends noProof n) = (m .registers .mode ≡ noMode) × (m .registers .acts ≡ n)
   Told m spent = m .registers .mode < 4
 
   -- That is what was stated.
-  told-tells : (m : Made) (o : Outcome) → Told m o → Tells (T .numbers) m o
-  unfolding Told Tells ConfigurationAt storeOf
+  told-tells : (m : Made) (o : Outcome) → Told m o → Reports (T .numbers) m o
+  unfolding Told Reports ConfigurationAt storeOf
   told-tells m (ends (proved s ls) n) h =
       let e = h .2 in
       let st = subst (λ (k : ℕ). StateAt T k (m .memory) (m .registers) (done s ls) (h .0)) (sym e) (h .1) in
@@ -180,51 +202,66 @@ module _ (T : Table) where
   told-tells m (ends noProof n) h = h
   told-tells m spent h = h
 
-  -- a match under way is not the end
-  match-due : {u : ℕ} {w : List ℕ} {r : Registers} {ds : List Configuration} (m : Matching) (b : Branch) → StateAt T u w r (match m b) ds → r .mode ≡ provedMode → ⊥
+  -- A match under way is not the end.
+  match-due : {u : ℕ} {w : List ℕ} {r : Registers} {ds : List Configuration} (m : Matching) (b : Branch) → StateAt T u w r (match m b) ds
+      → r .mode ≡ provedMode → ⊥
   unfolding ConfigurationAt CompareAt
   match-due (pairs s []) b h q = h .front
   match-due (pairs s (p ∷ ps)) b h q = let d = h .front .0 in omega arith
   match-due (check s y v x ns ps) b h q = let d = h .front .mode in omega arith
   match-due fail b h q = h .front
 
-  -- an act is due
-  go-on : (f u : ℕ) (w : List ℕ) (r : Registers) (c : Configuration) (ds : List Configuration) → r .acts ≡ u → u + suc f ≤ maxBudget → numbersPerUnit * (u + suc f) ≤ length w → All Invariant (c ∷ ds) → StateAt T u w r c ds → r .mode < 4
-      → ((w′ : List ℕ) (r′ : Registers) (ds′ : List Configuration) → r′ .acts ≡ suc u → suc u + f ≤ maxBudget → numbersPerUnit * (suc u + f) ≤ length w′ → All Invariant ds′ → ResultAt T (suc u) (made w′ r′) ds′
-      → Told (run f (T .numbers) (T .clauses) w′ r′) (searchFrom f (suc u) (status (suc u) ds′)))
-      → Told (run (suc f) (T .numbers) (T .clauses) w r) (searchFrom f (suc u) (status (suc u) (step u c ++ ds)))
+  -- If an act is due, the run tells what it tells after that act.
+  go-on : (f u : ℕ) (w : List ℕ) (r : Registers) (c : Configuration) (ds : List Configuration) → r .acts ≡ u → u + suc f ≤ maxBudget
+      → numbersPerUnit * (u + suc f) ≤ length w → All Invariant (c ∷ ds) → StateAt T u w r c ds → r .mode < 4
+      → ((w′ : List ℕ) (r′ : Registers) (ds′ : List Configuration) → r′ .acts ≡ suc u → suc u + f ≤ maxBudget
+      → numbersPerUnit * (suc u + f) ≤ length w′ → All Invariant ds′ → ResultAt T (suc u) (made w′ r′) ds′
+      → Told (runActs f (T .numbers) (T .clauses) w′ r′) (searchFrom f (suc u) (status (suc u) ds′)))
+      → Told (runActs (suc f) (T .numbers) (T .clauses) w r) (searchFrom f (suc u) (status (suc u) (step u c ++ ds)))
   go-on f u w r c ds e b l i h d ih =
       let m = act t (T .clauses) w r in
       let n = length-act t (T .clauses) w r in
       let k = act-counts w r (omega arith) in
       subst (λ (x : Made). Told x (searchFrom f (suc u) (status (suc u) (step u c ++ ds)))) (sym (run-due f t (T .clauses) w r d))
-      (ih (m .memory) (m .registers) (step u c ++ ds) (k ∙ ap suc e) (omega arith) (omega arith) (all-append Invariant (step u c) ds (step-keeps u c (i .0)) (i .1)) (acted u w r c ds e (omega arith) (omega arith) (i .0) d h))
+      (ih (m .memory) (m .registers) (step u c ++ ds) (k ∙ ap suc e) (omega arith) (omega arith)
+      (all-append Invariant (step u c) ds (step-keeps u c (i .0)) (i .1)) (acted u w r c ds e (omega arith) (omega arith) (i .0) d h))
 
   -- What is told within a budget of f acts more, u having been done.
-  pub tells : (f u : ℕ) (w : List ℕ) (r : Registers) (ds : List Configuration) → r .acts ≡ u → u + f ≤ maxBudget → numbersPerUnit * (u + f) ≤ length w → All Invariant ds → ResultAt T u (made w r) ds
-      → Told (run f (T .numbers) (T .clauses) w r) (searchFrom f u (status u ds))
-  unfolding run searchFrom status Told ResultAt ConfigurationAt CompareAt storeOf
+  pub tells : (f u : ℕ) (w : List ℕ) (r : Registers) (ds : List Configuration) → r .acts ≡ u → u + f ≤ maxBudget
+      → numbersPerUnit * (u + f) ≤ length w → All Invariant ds → ResultAt T u (made w r) ds
+      → Told (runActs f (T .numbers) (T .clauses) w r) (searchFrom f u (status u ds))
+  unfolding runActs searchFrom status Told ResultAt ConfigurationAt CompareAt storeOf
   tells zero u w r [] e b l i h = (h, e)
   tells zero u w r (take s g x ∷ ds) e b l i h = let d = h .front .0 in omega arith
   tells zero u w r (try s a m ms k x ∷ ds) e b l i h = let d = h .front .mode in omega arith
   tells zero u w r (match m x ∷ ds) e b l i h = mode-due T u w r (match m x) (h .front) (λ q. match-due m x h q)
   tells zero u w r (done s ls ∷ ds) e b l i h = (ds, h, e)
-  tells (suc f) u w r [] e b l i h = subst (λ (m : Made). (m .registers .mode ≡ noMode) × (m .registers .acts ≡ u)) (sym (run-ended (suc f) t (T .clauses) w r (omega arith))) (h, e)
-  tells (suc f) u w r (take s g x ∷ ds) e b l i h = go-on f u w r (take s g x) ds e b l i h (let d = h .front .0 in omega arith) (λ w′ r′ ds′ a c d j k. tells f (suc u) w′ r′ ds′ a c d j k)
-  tells (suc f) u w r (try s a m ms k x ∷ ds) e b l i h = go-on f u w r (try s a m ms k x) ds e b l i h (let d = h .front .mode in omega arith) (λ w′ r′ ds′ a c d j k. tells f (suc u) w′ r′ ds′ a c d j k)
-  tells (suc f) u w r (match m x ∷ ds) e b l i h = go-on f u w r (match m x) ds e b l i h (mode-due T u w r (match m x) (h .front) (λ q. match-due m x h q)) (λ w′ r′ ds′ a c d j k. tells f (suc u) w′ r′ ds′ a c d j k)
+  tells (suc f) u w r [] e b l i h =
+      subst (λ (m : Made). (m .registers .mode ≡ noMode) × (m .registers .acts ≡ u))
+      (sym (run-ended (suc f) t (T .clauses) w r (omega arith))) (h, e)
+  tells (suc f) u w r (take s g x ∷ ds) e b l i h =
+      go-on f u w r (take s g x) ds e b l i h (let d = h .front .0 in omega arith)
+      (λ w′ r′ ds′ a c d j k. tells f (suc u) w′ r′ ds′ a c d j k)
+  tells (suc f) u w r (try s a m ms k x ∷ ds) e b l i h =
+      go-on f u w r (try s a m ms k x) ds e b l i h (let d = h .front .mode in omega arith)
+      (λ w′ r′ ds′ a c d j k. tells f (suc u) w′ r′ ds′ a c d j k)
+  tells (suc f) u w r (match m x ∷ ds) e b l i h =
+      go-on f u w r (match m x) ds e b l i h (mode-due T u w r (match m x) (h .front) (λ q. match-due m x h q))
+      (λ w′ r′ ds′ a c d j k. tells f (suc u) w′ r′ ds′ a c d j k)
   tells (suc f) u w r (done s ls ∷ ds) e b l i h =
       subst (λ (m : Made). (cs : List Configuration) × StateAt T u (m .memory) (m .registers) (done s ls) cs × (m .registers .acts ≡ u))
       (sym (run-ended (suc f) t (T .clauses) w r (let d = h .front .0 in omega arith))) (ds, h, e)
 
-  -- from the start
+  -- From the start, the machine tells the outcome of the search.
   pub told : (budget : ℕ) → budget ≤ maxBudget → (w : List ℕ) → numbersPerUnit * budget ≤ length w
-      → Told (runMachine budget (T .numbers) (T .clauses) (T .goal) w) (search budget (clausesFrom (T .numbers) (T .clauses) 0) (goalAt (T .numbers) (T .goal)))
-  unfolding runMachine search run Told start status searchFrom startRegisters
+      → Told (runMachine budget (T .numbers) (T .clauses) (T .goal) w)
+      (search budget (clausesFrom (T .numbers) (T .clauses) 0) (goalAt (T .numbers) (T .goal)))
+  unfolding runMachine search runActs Told start status searchFrom startRegisters
   told zero b w l = omega arith
   told (suc f) b w l =
       let n = start-length w in
-      tells (suc f) 0 (startMemory w) (startRegisters (T .goal)) (start clauses goal) refl (omega arith) (omega arith) (start-invariant clauses goal) (start-result T w (omega arith))
+      tells (suc f) 0 (startMemory w) (startRegisters (T .goal)) (start clauses goal) refl (omega arith) (omega arith)
+      (start-invariant clauses goal) (start-result T w (omega arith))
 
 -- The statements.
 pub simulates : Simulates

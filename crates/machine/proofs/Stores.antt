@@ -19,9 +19,10 @@ use Rattle.machine.specs.Frames.{putVariable}
 use Rattle.machine.specs.Reading.{variableOf}
 use Rattle.machine.proofs.Records.{There, cell-same, level-same, level-cell, cell-other, cell-level, level-other, length-cell}
 use Rattle.machine.proofs.Words.{zero-tag, tag-of, name-of}
-use Rattle.machine.proofs.Heap.{Heap, Grow, heap-22, heap-trans, heap-cell, heap-level}
+use Rattle.machine.proofs.MemoryOrder.{Extends, Grow, extends-22, extends-trans, extends-cell, extends-level}
 use Rattle.machine.proofs.Tables.{Table}
-use Rattle.machine.proofs.Terms.{WordAt, word-variable, word-constant, word-closure, word-heap, word-up, word-wider, word-term, word-nonzero, word-tag}
+use Rattle.machine.proofs.Terms.{WordAt, word-variable, word-constant, word-closure, word-extends, word-up, word-wider, word-term}
+use Rattle.machine.proofs.Terms.{word-nonzero, word-tag}
 use Rattle.machine.proofs.Bindings.{cell, hops, hop, stop, look-app, look-con, cell-none, cell-some, cell-below}
 use Rattle.machine.proofs.Deref.{deref-other, deref-free, Turn, stays, follows, deref-look}
 
@@ -36,10 +37,11 @@ module _ (T : Table) where
     pub levels : (x : ℕ) → x < s .next → levelOf w x ≡ s .level x
 
   -- It stays.
-  cell-heap : (n x : ℕ) (w w′ : List ℕ) (a : ℕ) (o : Option (Term Leaf)) → Heap fields.constantLevel n w w′ → CellAt n x w a o → CellAt n x w′ a o
+  cell-extends : (n x : ℕ) (w w′ : List ℕ) (a : ℕ) (o : Option (Term Leaf)) → Extends fields.constantLevel n w w′ → CellAt n x w a o
+      → CellAt n x w′ a o
   unfolding CellAt
-  cell-heap n x w w′ a none e h = h
-  cell-heap n x w w′ a (some t) e h = word-heap T n x w w′ e h
+  cell-extends n x w w′ a none e h = h
+  cell-extends n x w w′ a (some t) e h = word-extends T n x w w′ e h
 
   -- An act later.
   cell-up : (n x : ℕ) (w : List ℕ) (a : ℕ) (o : Option (Term Leaf)) → CellAt n x w a o → CellAt (suc n) x w a o
@@ -47,28 +49,33 @@ module _ (T : Table) where
   cell-up n x w a none h = h
   cell-up n x w a (some t) h = word-up T n x x w (omega arith) h
 
-  -- more variables
+  -- A cell stays when more variables are made.
   cell-wider : (n x y : ℕ) (w : List ℕ) (a : ℕ) (o : Option (Term Leaf)) → x ≤ y → CellAt n x w a o → CellAt n y w a o
   unfolding CellAt
   cell-wider n x y w a none l h = h
   cell-wider n x y w a (some t) l h = word-wider T n x y w l h
 
-  -- The store stays when memory grows,
+  -- The store stays when memory grows.
   pub store-grow : (n k : ℕ) (w w′ : List ℕ) (s : Store) → Grow n k w w′ → s .next ≤ k → StoreAt n w s → StoreAt n w′ s
   store-grow n k w w′ s g l r = record {
-    cells = λ x h. rw (g .cells x (omega arith)) (cell-heap n (s .next) w w′ (cellOf w x) (cell (s .bindings) x) (heap-22 n w w′ (g .heap)) (r .cells x h));
+    cells =
+        λ x h. rw (g .cells x (omega arith))
+        (cell-extends n (s .next) w w′ (cellOf w x) (cell (s .bindings) x) (extends-22 n w w′ (g .extends)) (r .cells x h));
     levels = λ x h. g .levels x (omega arith) ∙ r .levels x h;
   }
 
-  -- an act later too.
+  -- The store stays one act later.
   pub store-up : (n : ℕ) (w : List ℕ) (s : Store) → StoreAt n w s → StoreAt (suc n) w s
   store-up n w s r = record { cells = λ x h. cell-up n (s .next) w (cellOf w x) (cell (s .bindings) x) (r .cells x h); levels = r .levels }
 
-  -- a level is lowered
-  pub store-lower : (n : ℕ) (w : List ℕ) (s : Store) (z k : ℕ) → There z w → z < s .next → StoreAt n w s → StoreAt n (putLevel w z (min (levelOf w z) k)) (lower s z k)
+  -- Lowering a level in memory is level 1's `lower`.
+  pub store-lower : (n : ℕ) (w : List ℕ) (s : Store) (z k : ℕ) → There z w → z < s .next → StoreAt n w s
+      → StoreAt n (putLevel w z (min (levelOf w z) k)) (lower s z k)
   unfolding lower update
   store-lower n w s z k b l r = record {
-    cells = λ x h. rw (cell-level w z j x) (cell-heap n (s .next) w (putLevel w z j) (cellOf w x) (cell (s .bindings) x) (heap-22 n w (putLevel w z j) (heap-level n w z j)) (r .cells x h));
+    cells =
+        λ x h. rw (cell-level w z j x) (cell-extends n (s .next) w (putLevel w z j) (cellOf w x) (cell (s .bindings) x)
+        (extends-22 n w (putLevel w z j) (extends-level n w z j)) (r .cells x h));
     levels = λ x h. go x h (eqb x z) refl;
   }
     where
@@ -79,20 +86,25 @@ module _ (T : Table) where
       go x h true q = rw (eqb-true x z q) (level-same w z j b ∙ ap (λ (i : ℕ). min i k) (r .levels z l))
       go x h false q = level-other w z j x (eqb-false x z q) ∙ r .levels x h
 
-  -- a variable is bound
-  pub store-bind : (n : ℕ) (w : List ℕ) (s : Store) (y a : ℕ) (t : Term Leaf) → There y w → WordAt T n (s .next) w a t → StoreAt n w s → StoreAt n (putCell w y a) (bind s y t)
+  -- Binding a variable in memory is level 1's `bind`.
+  pub store-bind : (n : ℕ) (w : List ℕ) (s : Store) (y a : ℕ) (t : Term Leaf) → There y w → WordAt T n (s .next) w a t → StoreAt n w s
+      → StoreAt n (putCell w y a) (bind s y t)
   unfolding bind cell CellAt
   store-bind n w s y a t b g r = record { cells = λ x h. go x h (eqb x y) refl; levels = λ x h. level-cell w y a x ∙ r .levels x h }
     where
-      e : Heap fields.constantLevel n w (putCell w y a)
-      e = heap-22 n w (putCell w y a) (heap-cell n w y a)
+      e : Extends fields.constantLevel n w (putCell w y a)
+      e = extends-22 n w (putCell w y a) (extends-cell n w y a)
 
-      go : (x : ℕ) → x < s .next → (c : Bool) → eqb x y ≡ c → CellAt n (s .next) (putCell w y a) (cellOf (putCell w y a) x) (cond c (some t) (cell (s .bindings) x))
-      go x h true q = rw (eqb-true x y q, cell-same w y a b) (word-heap T n (s .next) w (putCell w y a) e g)
-      go x h false q = rw (cell-other w y a x (eqb-false x y q)) (cell-heap n (s .next) w (putCell w y a) (cellOf w x) (cell (s .bindings) x) e (r .cells x h))
+      go : (x : ℕ) → x < s .next → (c : Bool) → eqb x y ≡ c
+          → CellAt n (s .next) (putCell w y a) (cellOf (putCell w y a) x) (cond c (some t) (cell (s .bindings) x))
+      go x h true q = rw (eqb-true x y q, cell-same w y a b) (word-extends T n (s .next) w (putCell w y a) e g)
+      go x h false q =
+          rw (cell-other w y a x (eqb-false x y q))
+          (cell-extends n (s .next) w (putCell w y a) (cellOf w x) (cell (s .bindings) x) e (r .cells x h))
 
-  -- a variable is made
-  pub store-fresh : (n : ℕ) (w : List ℕ) (s : Store) (v i : ℕ) → There (s .next) w → cell (s .bindings) (s .next) ≡ none → StoreAt n w s → StoreAt n (putVariable w (s .next) i) (fresh (v ∷ []) i s)
+  -- Making a variable in memory is level 1's `fresh`.
+  pub store-fresh : (n : ℕ) (w : List ℕ) (s : Store) (v i : ℕ) → There (s .next) w → cell (s .bindings) (s .next) ≡ none → StoreAt n w s
+      → StoreAt n (putVariable w (s .next) i) (fresh (v ∷ []) i s)
   unfolding putVariable fresh freshLevels past update CellAt
   store-fresh n w s v i b u r = record { cells = λ x h. cells x h (eqb x y) refl; levels = λ x h. levels x h (eqb x y) refl }
     where
@@ -105,26 +117,29 @@ module _ (T : Table) where
       w₂ : List ℕ
       w₂ = putLevel w₁ y i
 
-      e : Heap fields.constantLevel n w w₂
-      e = heap-22 n w w₂ (heap-trans fields.entryLowered n w w₁ w₂ (heap-cell n w y 0) (heap-level n w₁ y i))
+      e : Extends fields.constantLevel n w w₂
+      e = extends-22 n w w₂ (extends-trans fields.entryLowered n w w₁ w₂ (extends-cell n w y 0) (extends-level n w₁ y i))
 
       cells : (x : ℕ) → x < suc y → (c : Bool) → eqb x y ≡ c → CellAt n (suc y) w₂ (cellOf w₂ x) (cell (s .bindings) x)
       cells x h true q = rw (eqb-true x y q, u) (cell-level w₁ y i y ∙ cell-same w y 0 b)
       cells x h false q =
           let d = eqb-false x y q in
-          rw (cell-level w₁ y i x ∙ cell-other w y 0 x d) (cell-wider n y (suc y) w₂ (cellOf w x) (cell (s .bindings) x) (omega arith) (cell-heap n y w w₂ (cellOf w x) (cell (s .bindings) x) e (r .cells x (omega arith))))
+          rw (cell-level w₁ y i x ∙ cell-other w y 0 x d)
+          (cell-wider n y (suc y) w₂ (cellOf w x) (cell (s .bindings) x) (omega arith)
+          (cell-extends n y w w₂ (cellOf w x) (cell (s .bindings) x) e (r .cells x (omega arith))))
 
       levels : (x : ℕ) → x < suc y → (c : Bool) → eqb x y ≡ c → levelOf w₂ x ≡ cond c i (s .level x)
       levels x h true q = rw (eqb-true x y q) (level-same w₁ y i (let l = length-cell w y 0 in omega arith))
       levels x h false q = let d = eqb-false x y q in level-other w₁ y i x d ∙ level-cell w y 0 x ∙ r .levels x (omega arith)
 
   -- Following bindings: f turns suffice.
-  module _ (n : ℕ) (w : List ℕ) (s : Store) (r : StoreAt n w s) (wb : WellBound (s .bindings)) (bl : All (BelowBinding (s .next)) (s .bindings)) where
+  module _ (n : ℕ) (w : List ℕ) (s : Store) (r : StoreAt n w s) (wb : WellBound (s .bindings))
+      (bl : All (BelowBinding (s .next)) (s .bindings)) where
     -- The words of terms whose variables have been made.
     abbrev Reads : ℕ → Term Leaf → Type 0
     Reads a t = WordAt T n (s .next) w a t × Leaves t (Below (s .next))
 
-    -- one turn
+    -- One turn of `deref` is one step of `look`.
     turn : (a : ℕ) (t : Term Leaf) → Reads a t → Turn w (s .bindings) Reads a t
     unfolding Leaves Below CellAt
     turn a _ (word-variable {y = x} q, b) = go (cell (s .bindings) x) refl (r .cells x b)
@@ -132,25 +147,34 @@ module _ (T : Table) where
         name : nameOf a ≡ x
         name = name-of a x 1 (omega arith) q
 
-        go : (c : Option (Term Leaf)) → cell (s .bindings) x ≡ c → CellAt n (s .next) w (cellOf w x) c → Turn w (s .bindings) Reads a (leaf (var x))
+        go : (c : Option (Term Leaf)) → cell (s .bindings) x ≡ c → CellAt n (s .next) w (cellOf w x) c
+            → Turn w (s .bindings) Reads a (leaf (var x))
         go none e g =
-            stays (λ f. deref-free f w a (tagOf a) x (cellOf w x) (tagOf (cellOf w x)) refl (tag-of a x 1 (omega arith) q) (sym name) refl refl (ap tagOf g ∙ zero-tag))
+            stays (λ f. deref-free f w a (tagOf a) x (cellOf w x) (tagOf (cellOf w x)) refl (tag-of a x 1 (omega arith) q)
+            (sym name) refl refl (ap tagOf g ∙ zero-tag))
             (stop (s .bindings) x e)
         go (some u) e g =
             let h = hop (s .bindings) x u wb e in
             follows u (tag-of a x 1 (omega arith) q) (λ z. word-tag T g (ap (λ (y : ℕ). tagOf (cellOf w y)) (sym name) ∙ z)) (h .0) (h .1)
             (subst (λ (y : ℕ). Reads (cellOf w y) u) (sym name) (g, cell-below (s .bindings) (s .next) x u bl e))
-    turn a _ (word-constant {c = c} {k = k} q l e, b) = stays (λ f. deref-other f w a (tagOf a) refl (λ z. let y = tag-of a c 2 (omega arith) q in omega arith)) (look-con (s .bindings) c k .0)
-    turn a _ (word-closure {g = g} {ts = ts} m d q l k e i, b) = stays (λ f. deref-other f w a (tagOf a) refl (λ z. let y = tag-of a (maxNodes * d + m) 3 (omega arith) q in omega arith)) (look-app (s .bindings) g ts .0)
+    turn a _ (word-constant {c = c} {k = k} q l e, b) =
+        stays (λ f. deref-other f w a (tagOf a) refl (λ z. let y = tag-of a c 2 (omega arith) q in omega arith))
+        (look-con (s .bindings) c k .0)
+    turn a _ (word-closure {g = g} {ts = ts} m d q l k e i, b) =
+        stays (λ f. deref-other f w a (tagOf a) refl (λ z. let y = tag-of a (maxNodes * d + m) 3 (omega arith) q in omega arith))
+        (look-app (s .bindings) g ts .0)
 
-    pub deref-word : (f : ℕ) {a : ℕ} {t : Term Leaf} → WordAt T n (s .next) w a t → Leaves t (Below (s .next)) → hops (s .bindings) t ≤ f → WordAt T n (s .next) w (deref f w a) (look (s .bindings) t)
+    pub deref-word : (f : ℕ) {a : ℕ} {t : Term Leaf} → WordAt T n (s .next) w a t → Leaves t (Below (s .next)) → hops (s .bindings) t ≤ f
+        → WordAt T n (s .next) w (deref f w a) (look (s .bindings) t)
     deref-word f {a} {t} g b h = deref-look w (s .bindings) Reads turn f a t (g, b) h .0
 
   -- The store is read back.
-  pub store-bindings : (n : ℕ) (w : List ℕ) (s : Store) → StoreAt n w s → (x : ℕ) → x < s .next → variableOf (T .numbers) w x ≡ boundTo (s .bindings) x
+  pub store-bindings : (n : ℕ) (w : List ℕ) (s : Store) → StoreAt n w s → (x : ℕ) → x < s .next
+      → variableOf (T .numbers) w x ≡ boundTo (s .bindings) x
   unfolding variableOf CellAt
   store-bindings n w s r x h = go (cell (s .bindings) x) refl (r .cells x h)
     where
-      go : (c : Option (Term Leaf)) → cell (s .bindings) x ≡ c → CellAt n (s .next) w (cellOf w x) c → cond (eqb (cellOf w x) 0) (leaf (var x)) (termOf (T .numbers) w (cellOf w x)) ≡ boundTo (s .bindings) x
+      go : (c : Option (Term Leaf)) → cell (s .bindings) x ≡ c → CellAt n (s .next) w (cellOf w x) c
+          → cond (eqb (cellOf w x) 0) (leaf (var x)) (termOf (T .numbers) w (cellOf w x)) ≡ boundTo (s .bindings) x
       go none e g = rw (eq-eqb (cellOf w x) 0 g) (sym (cell-none (s .bindings) x e))
       go (some t) e g = rw (ne-eqb (cellOf w x) 0 (word-nonzero T g)) (word-term T n (s .next) w g ∙ sym (cell-some (s .bindings) x t e))

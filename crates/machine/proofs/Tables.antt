@@ -33,38 +33,39 @@ module _ (T : Table) where
   abbrev pub ApplicationOf : ℕ → Type 0
   ApplicationOf n = (n < T .nodes) × IsTerm (T .numbers) n × (kindOf (T .numbers) n ≡ applicationKind)
 
-  -- nodes have ten bits
+  -- The number of a node fits in ten bits.
   pub node-small : (n : ℕ) → n < T .nodes → n < 1024
   node-small n h = let f = T .made .fewNodes in omega arith
 
-  -- the arguments are terms,
+  -- The arguments of a node are terms.
   pub argument-term : (n j : ℕ) → Applied n → j < childCount (T .numbers) n → TermOf (childOf (T .numbers) n j)
   argument-term n j a h = let b = a .1 .terms j h in let l = b .0 in let m = a .0 in (omega arith, b .1)
 
-  -- at most four, as many as the symbol has
+  -- A node has at most four arguments.
   pub few-arguments : (n j : ℕ) → Applied n → j < childCount (T .numbers) n → j < 4
   few-arguments n j a h = let f = a .1 .few in omega arith
 
   -- Equal symbols have equally many.
-  pub same-count : (n m : ℕ) → Applied n → Applied m → labelOf (T .numbers) n ≡ labelOf (T .numbers) m → childCount (T .numbers) n ≡ childCount (T .numbers) m
+  pub same-count : (n m : ℕ) → Applied n → Applied m → labelOf (T .numbers) n ≡ labelOf (T .numbers) m
+      → childCount (T .numbers) n ≡ childCount (T .numbers) m
   same-count n m a b e = a .1 .many ∙ ap (arityOf (T .numbers)) e ∙ sym (b .1 .many)
 
-  -- a variable's name is below 8; any other term is an application
+  -- A variable's name is below 8.
   pub name-small : (n : ℕ) → TermOf n → kindOf (T .numbers) n ≡ variableKind → labelOf (T .numbers) n < 8
   name-small n h e = T .made .term n (h .0) (h .1) .variable e
 
-  -- Any other is an application,
+  -- A term that is no variable is an application.
   pub not-variable : (n : ℕ) → TermOf n → (kindOf (T .numbers) n ≡ variableKind → ⊥) → kindOf (T .numbers) n ≡ applicationKind
   not-variable n h d = let k = T .made .term n (h .0) (h .1) .kind in omega arith
 
-  -- which has arguments.
+  -- An application is a node with arguments.
   pub applied : (n : ℕ) → ApplicationOf n → Applied n
   applied n h = (h .0, T .made .term n (h .0) (h .1) .application (h .2))
 
-  -- The term of a variable's node,
+  -- The term of a variable's node is its name.
   pub variable-is : (n : ℕ) → TermOf n → kindOf (T .numbers) n ≡ variableKind → termAt (T .numbers) n ≡ leaf (labelOf (T .numbers) n)
   variable-is n h e = term-variable (T .numbers) (T .nodes) nodes-are n (h .0) (h .1) e
 
-  -- and of an application's.
+  -- The term of an application's node is its symbol with its arguments.
   pub application-is : (n : ℕ) → ApplicationOf n → termAt (T .numbers) n ≡ app (labelOf (T .numbers) n) (argumentsAt (T .numbers) n)
   application-is n h = term-application (T .numbers) (T .nodes) nodes-are n (h .0) (h .1) (h .2)

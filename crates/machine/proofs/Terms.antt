@@ -16,7 +16,7 @@ use Rattle.node_table.specs.Decoding.{termAt, argumentsAt}
 use Rattle.machine.specs.Fields as fields
 use Rattle.machine.specs.Words.{closureWord, slotOf, wordOf, leafOf, environmentAt, termOf, tagOf}
 use Rattle.machine.proofs.Words.{variable-small, closure-small, tag-is, name-is, node-is, frame-is, zero-tag}
-use Rattle.machine.proofs.Heap.{Heap}
+use Rattle.machine.proofs.MemoryOrder.{Extends}
 use Rattle.machine.proofs.Tables.{Table, TermOf, ApplicationOf, node-small, name-small, not-variable, variable-is, application-is}
 use Rattle.memory.specs.Records.{field}
 
@@ -30,12 +30,12 @@ unfoldable pub FrameAt : ℕ → List ℕ → ℕ → Type 0
 FrameAt n w zero = Unit {0}
 FrameAt n w (suc r) = (r < n) × ((v : ℕ) → v < variableNames → LeafAt n (field w r (fields.frame + v)))
 
--- An act later: a leaf,
+-- A leaf's word stays one act later.
 pub leaf-up : (n a : ℕ) → LeafAt n a → LeafAt (suc n) a
 leaf-up n a (variable-at x e) = variable-at x e
 leaf-up n a (constant-at c e h) = constant-at c e (omega arith)
 
--- a frame.
+-- A frame stays one act later.
 pub frame-up : (n : ℕ) (w : List ℕ) (f : ℕ) → FrameAt n w f → FrameAt (suc n) w f
 unfolding FrameAt
 frame-up n w zero h = tt
@@ -48,12 +48,12 @@ frame-le n w zero h = omega arith
 frame-le n w (suc r) h = let l = h .0 in omega arith
 
 -- A frame stays.
-pub frame-heap : (n : ℕ) (w w′ : List ℕ) (f : ℕ) → Heap fields.constantLevel n w w′ → FrameAt n w f → FrameAt n w′ f
+pub frame-extends : (n : ℕ) (w w′ : List ℕ) (f : ℕ) → Extends fields.constantLevel n w w′ → FrameAt n w f → FrameAt n w′ f
 unfolding FrameAt
-frame-heap n w w′ zero e h = tt
-frame-heap n w w′ (suc r) e h = (h .0, λ v l. rw (e .old r (fields.frame + v) (h .0) (omega arith) (omega arith)) (h .1 v l))
+frame-extends n w w′ zero e h = tt
+frame-extends n w w′ (suc r) e h = (h .0, λ v l. rw (e .old r (fields.frame + v) (h .0) (omega arith) (omega arith)) (h .1 v l))
 
--- its slots
+-- The slots of a frame are words of leaves.
 pub slot-leaf : (n : ℕ) (w : List ℕ) (f v : ℕ) → v < variableNames → FrameAt n w f → LeafAt n (slotOf w f v)
 unfolding FrameAt slotOf
 slot-leaf n w zero v l h = variable-at v (variable-small v (omega arith))
@@ -62,37 +62,41 @@ slot-leaf n w (suc r) v l h =
     rw (ne-eqb (suc r) 0 (λ q. omega arith), e) (h .1 v l)
 
 -- They stay.
-pub slot-heap : (n : ℕ) (w w′ : List ℕ) (f v : ℕ) → v < variableNames → Heap fields.constantLevel n w w′ → FrameAt n w f → slotOf w′ f v ≡ slotOf w f v
+pub slot-extends : (n : ℕ) (w w′ : List ℕ) (f v : ℕ) → v < variableNames → Extends fields.constantLevel n w w′ → FrameAt n w f
+    → slotOf w′ f v ≡ slotOf w f v
 unfolding FrameAt slotOf
-slot-heap n w w′ zero v l e h = refl
-slot-heap n w w′ (suc r) v l e h =
+slot-extends n w w′ zero v l e h = refl
+slot-extends n w w′ (suc r) v l e h =
     let p : suc r - 1 ≡ r = omega arith in
     rw (ne-eqb (suc r) 0 (λ q. omega arith), p) (e .old r (fields.frame + v) (h .0) (omega arith) (omega arith))
 
--- what a leaf's word stands for
+-- A variable's word stands for the variable.
 pub variable-leaf : (w : List ℕ) (x : ℕ) → leafOf w (4 * x + 1) ≡ var x
 unfolding leafOf
 variable-leaf w x = rw (tag-is x 1 (omega arith), name-is x 1 (omega arith))
 
--- of a constant
+-- A constant's word stands for the constant, with the level in its record.
 pub constant-leaf : (w : List ℕ) (c : ℕ) → leafOf w (4 * c + 2) ≡ con c (field w c fields.constantLevel)
 unfolding leafOf
 constant-leaf w c = rw (tag-is c 2 (omega arith), name-is c 2 (omega arith))
 
 -- It stays.
-pub leaf-heap : (n : ℕ) (w w′ : List ℕ) (a : ℕ) → Heap fields.constantLevel n w w′ → LeafAt n a → leafOf w′ a ≡ leafOf w a
-leaf-heap n w w′ a e (variable-at x q) = rw (q, variable-leaf w′ x, variable-leaf w x)
-leaf-heap n w w′ a e (constant-at c q h) = rw (q, constant-leaf w′ c, constant-leaf w c, e .old c fields.constantLevel h (omega arith) (omega arith))
+pub leaf-extends : (n : ℕ) (w w′ : List ℕ) (a : ℕ) → Extends fields.constantLevel n w w′ → LeafAt n a → leafOf w′ a ≡ leafOf w a
+leaf-extends n w w′ a e (variable-at x q) = rw (q, variable-leaf w′ x, variable-leaf w x)
+leaf-extends n w w′ a e (constant-at c q h) =
+    rw (q, constant-leaf w′ c, constant-leaf w c, e .old c fields.constantLevel h (omega arith) (omega arith))
 
--- an environment stays
-pub environment-heap : (n : ℕ) (w w′ : List ℕ) (f : ℕ) → Heap fields.constantLevel n w w′ → FrameAt n w f → environmentAt w′ f ≡ environmentAt w f
+-- An environment stays in an extended memory.
+pub environment-extends : (n : ℕ) (w w′ : List ℕ) (f : ℕ) → Extends fields.constantLevel n w w′ → FrameAt n w f
+    → environmentAt w′ f ≡ environmentAt w f
 unfolding environmentAt
-environment-heap n w w′ f e h = fun-ext (λ v. go v (ltb v 8) refl)
+environment-extends n w w′ f e h = fun-ext (λ v. go v (ltb v 8) refl)
   where
-    go : (v : ℕ) (b : Bool) → ltb v 8 ≡ b → cond b (leaf (leafOf w′ (slotOf w′ f v))) (app 0 nil) ≡ cond b (leaf (leafOf w (slotOf w f v))) (app 0 nil)
+    go : (v : ℕ) (b : Bool) → ltb v 8 ≡ b
+        → cond b (leaf (leafOf w′ (slotOf w′ f v))) (app 0 nil) ≡ cond b (leaf (leafOf w (slotOf w f v))) (app 0 nil)
     go v true q =
         let l = ltb-true v 8 q in
-        ap leaf (ap (leafOf w′) (slot-heap n w w′ f v l e h) ∙ leaf-heap n w w′ (slotOf w f v) e (slot-leaf n w f v l h))
+        ap leaf (ap (leafOf w′) (slot-extends n w w′ f v l e h) ∙ leaf-extends n w w′ (slotOf w f v) e (slot-leaf n w f v l h))
     go v false q = refl
 
 -- What a name stands for.
@@ -105,16 +109,19 @@ pub record FrameIn (n x : ℕ) (w : List ℕ) (f : ℕ) : Type 0 where
   pub frame : FrameAt n w f
   pub below : EnvironmentBelow x (environmentAt w f)
 
--- It stays,
-pub framed-heap : (n x : ℕ) (w w′ : List ℕ) (f : ℕ) → Heap fields.constantLevel n w w′ → FrameIn n x w f → FrameIn n x w′ f
-framed-heap n x w w′ f e h =
-    record { frame = frame-heap n w w′ f e (h .frame); below = subst (EnvironmentBelow x) (sym (environment-heap n w w′ f e (h .frame))) (h .below) }
+-- A frame with variables below x stays in an extended memory.
+pub framed-extends : (n x : ℕ) (w w′ : List ℕ) (f : ℕ) → Extends fields.constantLevel n w w′ → FrameIn n x w f → FrameIn n x w′ f
+framed-extends n x w w′ f e h =
+    record {
+      frame = frame-extends n w w′ f e (h .frame);
+      below = subst (EnvironmentBelow x) (sym (environment-extends n w w′ f e (h .frame))) (h .below);
+    }
 
--- an act later too,
+-- A frame with variables below x stays one act later, with a greater bound.
 pub framed-up : (n x y : ℕ) (w : List ℕ) (f : ℕ) → x ≤ y → FrameIn n x w f → FrameIn (suc n) y w f
 framed-up n x y w f l h = record { frame = frame-up n w f (h .frame); below = λ v. below-more (environmentAt w f v) x y l (h .below v) }
 
--- and when more variables are made.
+-- A frame with variables below x stays when more variables are made.
 pub framed-wider : (n x y : ℕ) (w : List ℕ) (f : ℕ) → x ≤ y → FrameIn n x w f → FrameIn n y w f
 framed-wider n x y w f l h = record { frame = h .frame; below = λ v. below-more (environmentAt w f v) x y l (h .below v) }
 
@@ -123,17 +130,21 @@ module _ (T : Table) where
   pub data WordAt (n x : ℕ) (w : List ℕ) : ℕ → Term Leaf → Type 0 where
     word-variable : {a y : ℕ} → a ≡ 4 * y + 1 → WordAt n x w a (leaf (var y))
     word-constant : {a c k : ℕ} → a ≡ 4 * c + 2 → c < n → field w c fields.constantLevel ≡ k → WordAt n x w a (leaf (con c k))
-    word-closure : {a g : ℕ} {ts : Terms Leaf} (m f : ℕ) → a ≡ 4 * (maxNodes * f + m) + 3 → ApplicationOf T m → FrameIn n x w f → labelOf (T .numbers) m ≡ g
+    word-closure : {a g : ℕ} {ts : Terms Leaf} (m f : ℕ) → a ≡ 4 * (maxNodes * f + m) + 3 → ApplicationOf T m → FrameIn n x w f
+        → labelOf (T .numbers) m ≡ g
         → substitutes (argumentsAt (T .numbers) m) (environmentAt w f) ≡ ts → WordAt n x w a (app g ts)
 
-  -- It stays,
-  pub word-heap : (n x : ℕ) (w w′ : List ℕ) {a : ℕ} {s : Term Leaf} → Heap fields.constantLevel n w w′ → WordAt n x w a s → WordAt n x w′ a s
-  word-heap n x w w′ e (word-variable q) = word-variable q
-  word-heap n x w w′ e (word-constant {c = c} q h k) = word-constant q h (e .old c fields.constantLevel h (omega arith) (omega arith) ∙ k)
-  word-heap n x w w′ e (word-closure m f q b h l k) =
-      word-closure m f q b (framed-heap n x w w′ f e h) l (ap (substitutes (argumentsAt (T .numbers) m)) (environment-heap n w w′ f e (h .frame)) ∙ k)
+  -- A term's word stays in an extended memory.
+  pub word-extends : (n x : ℕ) (w w′ : List ℕ) {a : ℕ} {s : Term Leaf} → Extends fields.constantLevel n w w′ → WordAt n x w a s
+      → WordAt n x w′ a s
+  word-extends n x w w′ e (word-variable q) = word-variable q
+  word-extends n x w w′ e (word-constant {c = c} q h k) =
+      word-constant q h (e .old c fields.constantLevel h (omega arith) (omega arith) ∙ k)
+  word-extends n x w w′ e (word-closure m f q b h l k) =
+      word-closure m f q b (framed-extends n x w w′ f e h) l
+      (ap (substitutes (argumentsAt (T .numbers) m)) (environment-extends n w w′ f e (h .frame)) ∙ k)
 
-  -- an act later too.
+  -- A term's word stays one act later.
   pub word-up : (n x y : ℕ) (w : List ℕ) {a : ℕ} {s : Term Leaf} → x ≤ y → WordAt n x w a s → WordAt (suc n) y w a s
   word-up n x y w b (word-variable q) = word-variable q
   word-up n x y w b (word-constant {c = c} q h k) = word-constant q (omega arith) k
@@ -147,8 +158,10 @@ module _ (T : Table) where
 
   -- A leaf's word.
   pub leaf-word : (n x : ℕ) (w : List ℕ) (a : ℕ) → LeafAt n a → WordAt n x w a (leaf (leafOf w a))
-  leaf-word n x w a (variable-at y e) = subst (λ (l : Leaf). WordAt n x w a (leaf l)) (sym (ap (leafOf w) e ∙ variable-leaf w y)) (word-variable {y = y} e)
-  leaf-word n x w a (constant-at c e h) = subst (λ (l : Leaf). WordAt n x w a (leaf l)) (sym (ap (leafOf w) e ∙ constant-leaf w c)) (word-constant {c = c} e h refl)
+  leaf-word n x w a (variable-at y e) =
+      subst (λ (l : Leaf). WordAt n x w a (leaf l)) (sym (ap (leafOf w) e ∙ variable-leaf w y)) (word-variable {y = y} e)
+  leaf-word n x w a (constant-at c e h) =
+      subst (λ (l : Leaf). WordAt n x w a (leaf l)) (sym (ap (leafOf w) e ∙ constant-leaf w c)) (word-constant {c = c} e h refl)
 
   -- The word of a term's node in a frame.
   pub node-word : (n x : ℕ) (w : List ℕ) (m f : ℕ) → n ≤ maxBudget → TermOf T m → FrameIn n x w f
@@ -159,11 +172,13 @@ module _ (T : Table) where
       t : List ℕ
       t = T .numbers
 
-      go : (q : Bool) → eqb (kindOf t m) variableKind ≡ q → WordAt n x w (cond q (slotOf w f (labelOf t m)) (closureWord m f)) (substitute (termAt t m) (environmentAt w f))
+      go : (q : Bool) → eqb (kindOf t m) variableKind ≡ q
+          → WordAt n x w (cond q (slotOf w f (labelOf t m)) (closureWord m f)) (substitute (termAt t m) (environmentAt w f))
       go true e =
           let z = eqb-true (kindOf t m) 0 e in
           let l = name-small T m h z in
-          rw (variable-is T m h z, environment-name w f (labelOf t m) l) (leaf-word n x w (slotOf w f (labelOf t m)) (slot-leaf n w f (labelOf t m) l (k .frame)))
+          rw (variable-is T m h z, environment-name w f (labelOf t m) l)
+          (leaf-word n x w (slotOf w f (labelOf t m)) (slot-leaf n w f (labelOf t m) l (k .frame)))
       go false e =
           let z = not-variable T m h (eqb-false (kindOf t m) 0 e) in
           let l = frame-le n w f (k .frame) in
@@ -176,15 +191,21 @@ module _ (T : Table) where
   word-term n x w (word-variable {y = y} q) = rw (q, tag-is y 1 (omega arith)) (ap leaf (variable-leaf w y))
   word-term n x w (word-constant {c = c} q h k) = rw (q, tag-is c 2 (omega arith)) (ap leaf (constant-leaf w c ∙ ap (con c) k))
   word-term n x w (word-closure m f q b h l k) =
-      rw (q, tag-is (maxNodes * f + m) 3 (omega arith), node-is m f (node-small T m (b .0)), frame-is m f (node-small T m (b .0)), application-is T m b) (ap₂ app l k)
+      rw (
+        q,
+        tag-is (maxNodes * f + m) 3 (omega arith),
+        node-is m f (node-small T m (b .0)),
+        frame-is m f (node-small T m (b .0)),
+        application-is T m b,
+      ) (ap₂ app l k)
 
-  -- No word has tag 0,
+  -- No word has tag 0.
   pub word-tag : {n x : ℕ} {w : List ℕ} {a : ℕ} {t : Term Leaf} → WordAt n x w a t → tagOf a ≡ 0 → ⊥
   unfolding tagOf
   word-tag (word-variable q) e = omega arith
   word-tag (word-constant q l k) e = omega arith
   word-tag (word-closure m f q l k i j) e = omega arith
 
-  -- so none is 0.
+  -- No word is 0.
   pub word-nonzero : {n x : ℕ} {w : List ℕ} {a : ℕ} {t : Term Leaf} → WordAt n x w a t → a ≡ 0 → ⊥
   word-nonzero g e = word-tag g (ap tagOf e ∙ zero-tag)

@@ -3,52 +3,52 @@ use Prim.Native.Nat.{ℕ, suc, _+_, _-_, _*_, _/_, _%_, _≤_, _<_}
 use native.Mathlib.Omega.{arith}
 use mathlib.Core.Path.{_≡_, ap, _∙_, refl}
 use Rattle.sheet_format.specs.Limits.{maxBudget, maxNodes}
-use Rattle.machine.specs.Words.{narrow, up, variableWord, constantWord, closureWord, tagOf, nameOf, nodeOf, frameOf}
-use Rattle.machine.specs.Matching.{placeWord}
+use Rattle.machine.specs.Words.{truncate, increment, variableWord, constantWord, closureWord, tagOf, nameOf, nodeOf, frameOf}
+use Rattle.machine.specs.Matching.{positionWord}
 
 -- Numbers that fit stay as they are:
-pub narrow-small : (a : ℕ) → a < 4294967296 → narrow a ≡ a
-unfolding narrow
-narrow-small a h = omega arith
+pub truncate-small : (a : ℕ) → a < 4294967296 → truncate a ≡ a
+unfolding truncate
+truncate-small a h = omega arith
 
--- the next number,
-pub up-small : (a : ℕ) → a < 4294967295 → up a ≡ suc a
-unfolding up
-up-small a h = narrow-small (a + 1) (omega arith) ∙ (omega arith)
+-- The next number is not truncated if it fits.
+pub increment-small : (a : ℕ) → a < 4294967295 → increment a ≡ suc a
+unfolding increment
+increment-small a h = truncate-small (a + 1) (omega arith) ∙ (omega arith)
 
--- a variable's word,
+-- A variable's word is not truncated if it fits.
 pub variable-small : (x : ℕ) → x < 1000000000 → variableWord x ≡ 4 * x + 1
 unfolding variableWord
-variable-small x h = narrow-small (4 * x + 1) (omega arith)
+variable-small x h = truncate-small (4 * x + 1) (omega arith)
 
--- a constant's,
+-- A constant's word is not truncated if it fits.
 pub constant-small : (c : ℕ) → c ≤ maxBudget → constantWord c ≡ 4 * c + 2
 unfolding constantWord
-constant-small c h = narrow-small (4 * c + 2) (omega arith)
+constant-small c h = truncate-small (4 * c + 2) (omega arith)
 
--- a closure's,
+-- A closure's word is not truncated if it fits.
 pub closure-small : (n f : ℕ) → n < 1024 → f ≤ 50001 → closureWord n f ≡ 4 * (maxNodes * f + n) + 3
 unfolding closureWord
-closure-small n f h k = narrow-small (4 * (maxNodes * f + n) + 3) (omega arith)
+closure-small n f h k = truncate-small (4 * (maxNodes * f + n) + 3) (omega arith)
 
--- a place.
-pub place-small : (p i : ℕ) → p ≤ 50001 → i < 4 → placeWord p i ≡ 4 * p + i
-unfolding placeWord
-place-small p i h k = narrow-small (4 * p + i) (omega arith)
+-- A position's word is not truncated if it fits.
+pub position-small : (p i : ℕ) → p ≤ 50001 → i < 4 → positionWord p i ≡ 4 * p + i
+unfolding positionWord
+position-small p i h k = truncate-small (4 * p + i) (omega arith)
 
--- Two bits for the tag,
+-- The lowest two bits are the tag.
 mod4 : (p t : ℕ) → t < 4 → (4 * p + t) % 4 ≡ t
 mod4 p t h = omega arith
 
--- the rest above them,
+-- The bits above the tag are the rest of the word.
 div4 : (p t : ℕ) → t < 4 → (4 * p + t) / 4 ≡ p
 div4 p t h = omega arith
 
--- ten bits for a node,
+-- The lowest ten bits of the rest are a node.
 mod1024 : (p t : ℕ) → t < 1024 → (maxNodes * p + t) % 1024 ≡ t
 mod1024 p t h = omega arith
 
--- the frame above them.
+-- The bits above the node are the frame.
 div1024 : (p t : ℕ) → t < 1024 → (maxNodes * p + t) / 1024 ≡ p
 div1024 p t h = omega arith
 
@@ -57,22 +57,22 @@ pub zero-tag : tagOf 0 ≡ 0
 unfolding tagOf
 zero-tag = refl
 
--- The tag,
+-- The tag is read back from a word.
 pub tag-is : (p t : ℕ) → t < 4 → tagOf (4 * p + t) ≡ t
 unfolding tagOf
 tag-is p t h = mod4 p t h
 
--- the name,
+-- The name is read back from a word.
 pub name-is : (p t : ℕ) → t < 4 → nameOf (4 * p + t) ≡ p
 unfolding nameOf
 name-is p t h = div4 p t h
 
--- the node,
+-- The node is read back from a closure's word.
 pub node-is : (n f : ℕ) → n < 1024 → nodeOf (4 * (maxNodes * f + n) + 3) ≡ n
 unfolding nodeOf
 node-is n f h = rw (div4 (maxNodes * f + n) 3 (omega arith)) (mod1024 f n h)
 
--- the frame.
+-- The frame is read back from a closure's word.
 pub frame-is : (n f : ℕ) → n < 1024 → frameOf (4 * (maxNodes * f + n) + 3) ≡ f
 unfolding frameOf
 frame-is n f h = rw (div4 (maxNodes * f + n) 3 (omega arith)) (div1024 f n h)
@@ -85,13 +85,13 @@ tag-of a p t h e = ap tagOf e ∙ tag-is p t h
 pub name-of : (a p t : ℕ) → t < 4 → a ≡ 4 * p + t → nameOf a ≡ p
 name-of a p t h e = ap nameOf e ∙ name-is p t h
 
--- The parts of a place.
-pub place-record : (p i : ℕ) → i < 4 → (4 * p + i) / 4 ≡ p
-place-record p i h = div4 p i h
+-- The parts of a position.
+pub position-record : (p i : ℕ) → i < 4 → (4 * p + i) / 4 ≡ p
+position-record p i h = div4 p i h
 
 -- The argument.
-pub place-argument : (p i : ℕ) → i < 4 → (4 * p + i) % 4 ≡ i
-place-argument p i h = mod4 p i h
+pub position-argument : (p i : ℕ) → i < 4 → (4 * p + i) % 4 ≡ i
+position-argument p i h = mod4 p i h
 
 -- Words of different variables or constants differ.
 pub same-name : (x y t : ℕ) → 4 * x + t ≡ 4 * y + t → x ≡ y

@@ -1,9 +1,12 @@
--- The fields of a record of the work buffer. What act u makes goes to record u. They are in the order of how they change: bindings and levels
--- of variables; the trail; what is written once. A pointer is the number of a record plus 1, 0 for none. Nothing is read that was not written:
+-- The fields of a record of the work buffer. What act u makes goes to record u. They are in the order of how they change:
+-- bindings and levels
+-- of variables; the trail; what is written once. A pointer is the number of a record plus 1, 0 for none. Nothing is read that
+-- was not written:
 -- a lent buffer may hold anything.
 use Prim.Native.Nat.{ℕ}
 
--- 0 .. 8: bindings of nine variables: variable x is number x % 9 of record x / 9; a word (Words), 0 where it is unbound. 9 .. 17: their levels.
+-- 0 .. 8: bindings of nine variables: variable x is number x % 9 of record x / 9; a word (Words), 0 where it is unbound. 9 ..
+-- 17: their levels.
 abbrev pub cells : ℕ
 cells = 9
 
@@ -73,7 +76,8 @@ useCount = 42
 abbrev pub variables : ℕ
 variables = 43
 
--- Choice point: trail, choice point before, goals, path (pointer, line), node, frame, assumptions, level, then assumption, clause, member and
+-- Choice point: trail, choice point before, goals, path (pointer, line), node, frame, assumptions, level, then assumption,
+-- clause, member and
 -- place of the member to try; place 0: a goal to take. Its variables: field 43.
 abbrev pub choiceTrail : ℕ
 choiceTrail = 44

@@ -4,7 +4,7 @@ use mathlib.Core.List.{List}
 use Rattle.sheet_format.specs.Limits.{variableNames}
 use Rattle.machine.specs.Fields as fields
 use Rattle.machine.specs.Records.{putCell, putLevel}
-use Rattle.machine.specs.Words.{up, variableWord, slotOf}
+use Rattle.machine.specs.Words.{increment, variableWord, slotOf}
 use Rattle.memory.specs.Records.{putField}
 
 -- The frame f copied to record u: n names from v on.
@@ -19,7 +19,8 @@ putVariable w x i = putLevel (putCell w x 0) x i
 -- Fresh variables of level i, from x on, for n names, the digits of vs, in the frame in record u.
 unfoldable pub putFresh : ℕ → List ℕ → ℕ → ℕ → ℕ → ℕ → List ℕ
 putFresh zero w u vs x i = w
-putFresh (suc n) w u vs x i = putFresh n (putField (putVariable w x i) u (fields.frame + vs % variableNames) (variableWord x)) u (vs / variableNames) (up x) i
+putFresh (suc n) w u vs x i =
+    putFresh n (putField (putVariable w x i) u (fields.frame + vs % variableNames) (variableWord x)) u (vs / variableNames) (increment x) i
 
 -- Variables from x on, n of them, without names: those of the goal.
 unfoldable pub putVariables : ℕ → List ℕ → ℕ → List ℕ

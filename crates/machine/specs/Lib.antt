@@ -3,14 +3,14 @@
 -- proved in proofs/Simulation (proofs/Proved: what holds of memory after a proved search).
 pub mod Fields
 pub mod Records
-pub mod Changes
+pub mod RegisterUpdates
 pub mod Words
 pub mod Trail
 pub mod Frames
-pub mod Choices
+pub mod ChoicePoints
 pub mod Goals
 pub mod Matching
-pub mod Trying
+pub mod Backchaining
 pub mod Machine
 pub mod Reading
 pub mod Simulation

@@ -6,12 +6,12 @@ use lib.Dec.{eqb, ltb}
 use Rattle.sheet_format.specs.Limits.{variableNames}
 use Rattle.machine.specs.declared.Registers.{Registers}
 use Rattle.machine.specs.Records.{Made, made, takeMode, provedMode, tryMode, compareMode}
-use Rattle.machine.specs.Changes.{onActs}
-use Rattle.machine.specs.Words.{up}
+use Rattle.machine.specs.RegisterUpdates.{withActs}
+use Rattle.machine.specs.Words.{increment}
 use Rattle.machine.specs.Frames.{putVariables}
 use Rattle.machine.specs.Goals.{takeGoal}
 use Rattle.machine.specs.Matching.{comparePair, checkNode}
-use Rattle.machine.specs.Trying.{tryNext}
+use Rattle.machine.specs.Backchaining.{tryNext}
 
 -- The act that is due: t is the table, c the number of the sheet's clauses.
 unfoldable pub dueAct : List ℕ → ℕ → List ℕ → Registers → Made
@@ -23,12 +23,13 @@ dueAct t c w r =
 unfoldable pub act : List ℕ → ℕ → List ℕ → Registers → Made
 act t c w r =
     let m = dueAct t c w r in
-    made (m .memory) (onActs (m .registers) (up (r .acts)))
+    made (m .memory) (withActs (m .registers) (increment (r .acts)))
 
 -- At most n acts: while one is due.
-unfoldable pub run : ℕ → List ℕ → ℕ → List ℕ → Registers → Made
-run zero t c w r = made w r
-run (suc n) t c w r = elim (ltb (r .mode) provedMode) [ true ↦ run n t c (act t c w r .memory) (act t c w r .registers) | false ↦ made w r ]
+unfoldable pub runActs : ℕ → List ℕ → ℕ → List ℕ → Registers → Made
+runActs zero t c w r = made w r
+runActs (suc n) t c w r =
+    elim (ltb (r .mode) provedMode) [ true ↦ runActs n t c (act t c w r .memory) (act t c w r .registers) | false ↦ made w r ]
 
 -- The start: the eight variables of the goal's names are made, the goal is due.
 unfoldable pub startMemory : List ℕ → List ℕ
@@ -60,4 +61,4 @@ startRegisters goal = record {
 
 -- From the start, within a budget.
 unfoldable pub runMachine : ℕ → List ℕ → ℕ → ℕ → List ℕ → Made
-runMachine budget t c goal w = run budget t c (startMemory w) (startRegisters goal)
+runMachine budget t c goal w = runActs budget t c (startMemory w) (startRegisters goal)

@@ -1,6 +1,6 @@
 -- Matching (document 01, "The walk", third paragraph): comparing a pair, looking at one node in a range check. Pairs and nodes
--- wait as the arguments of linked records; a place is a pointer and the number of an argument, in one number, 0 for none. No
--- place is ever past the last argument: what comes then is the place that the record keeps.
+-- wait as the arguments of linked records; a position is a pointer and the number of an argument, in one number, 0 for none. No
+-- position is ever past the last argument: what comes then is the position that the record keeps.
 use Prim.Native.Nat.{ℕ, _+_, _-_, _*_, _/_, _%_, min}
 use mathlib.Core.Bool.{cond}
 use mathlib.Core.List.{List}
@@ -10,37 +10,38 @@ use Rattle.node_table.specs.Layout.{childCount, labelOf, childOf}
 use Rattle.machine.specs.declared.Registers.{Registers}
 use Rattle.machine.specs.Fields as fields
 use Rattle.machine.specs.Records.{levelOf, Made, made, putPairs, putNodes}
-use Rattle.machine.specs.Changes.{onTrail, onPairs, onCheck, onNodes}
-use Rattle.machine.specs.Words.{narrow, up, tagOf, nameOf, nodeOf, frameOf, wordOf, variableTag, constantTag, deref}
+use Rattle.machine.specs.RegisterUpdates.{withTrail, withPairs, withCheck, withNodes}
+use Rattle.machine.specs.Words.{truncate, increment, tagOf, nameOf, nodeOf, frameOf, wordOf, variableTag, constantTag, deref}
 use Rattle.machine.specs.Trail.{effect}
-use Rattle.machine.specs.Choices.{failed}
+use Rattle.machine.specs.ChoicePoints.{failed}
 use Rattle.machine.specs.Goals.{proceed}
 use Rattle.memory.specs.Records.{field}
 
-unfoldable pub placeWord : ℕ → ℕ → ℕ
-placeWord p i = narrow (maxArity * p + i)
+unfoldable pub positionWord : ℕ → ℕ → ℕ
+positionWord p i = truncate (maxArity * p + i)
 
--- The place of argument i in the record of pointer p, if it has one; else what comes after the record.
+-- The position of argument i in the record of pointer p, if it has one; else what comes after the record.
 unfoldable pub pairsFrom : List ℕ → List ℕ → ℕ → ℕ → ℕ
-pairsFrom t w p i = cond (ltb i (childCount t (field w (p - 1) fields.goalSideNode))) (placeWord p i) (field w (p - 1) fields.pairsAfter)
+pairsFrom t w p i = cond (ltb i (childCount t (field w (p - 1) fields.goalSideNode))) (positionWord p i) (field w (p - 1) fields.pairsAfter)
 
 unfoldable pub nodesFrom : List ℕ → List ℕ → ℕ → ℕ → ℕ
-nodesFrom t w p i = cond (ltb i (childCount t (field w (p - 1) fields.waitingNode))) (placeWord p i) (field w (p - 1) fields.waitingAfter)
+nodesFrom t w p i =
+    cond (ltb i (childCount t (field w (p - 1) fields.waitingNode))) (positionWord p i) (field w (p - 1) fields.waitingAfter)
 
--- The argument at a place: f is the field of the node, the frame is in the next one.
+-- The argument at a position: f is the field of the node, the frame is in the next one.
 unfoldable pub argumentWord : List ℕ → List ℕ → ℕ → ℕ → ℕ
 argumentWord t w a f = wordOf t w (childOf t (field w (a / maxArity - 1) f) (a % maxArity)) (field w (a / maxArity - 1) (f + 1))
 
--- The pairs at place a are due; where none is left, the next goal.
+-- The pairs at position a are due; where none is left, the next goal.
 unfoldable pub duePairs : List ℕ → Registers → ℕ → Registers
-duePairs w r a = cond (eqb a 0) (proceed w r) (onPairs r a)
+duePairs w r a = cond (eqb a 0) (proceed w r) (withPairs r a)
 
 -- "Two applications: the same symbol, then their arguments; else fail." After them the pairs at e.
 unfoldable pub compareClosures : List ℕ → List ℕ → Registers → ℕ → ℕ → ℕ → Made
 compareClosures t w r e x y =
     cond (eqb (labelOf t (nodeOf x)) (labelOf t (nodeOf y)))
     (let w′ = putPairs w (r .acts) (nodeOf x) (frameOf x) (nodeOf y) (frameOf y) e in
-    made w′ (duePairs w′ r (pairsFrom t w′ (up (r .acts)) 0)))
+    made w′ (duePairs w′ r (pairsFrom t w′ (increment (r .acts)) 0)))
     (failed w r)
 
 -- "The same variable or the same made constant twice: done."
@@ -50,40 +51,47 @@ compareLeaves w r e x y = cond (eqb x y) (made w (duePairs w r e)) (failed w r)
 -- "Goal side a variable: range check the other side, then bind. Else clause side a variable: likewise." Both are looked through.
 unfoldable pub compareWords : List ℕ → List ℕ → Registers → ℕ → ℕ → ℕ → Made
 compareWords t w r e x y =
-    cond (eqb (tagOf x) variableTag) (cond (eqb x y) (made w (duePairs w r e)) (made w (onCheck r e x y)))
-    (cond (eqb (tagOf y) variableTag) (made w (onCheck r e y x))
-    (cond (eqb (tagOf x) constantTag) (compareLeaves w r e x y) (cond (eqb (tagOf y) constantTag) (failed w r) (compareClosures t w r e x y))))
+    cond (eqb (tagOf x) variableTag) (cond (eqb x y) (made w (duePairs w r e)) (made w (withCheck r e x y)))
+    (cond (eqb (tagOf y) variableTag) (made w (withCheck r e y x))
+    (cond (eqb (tagOf x) constantTag) (compareLeaves w r e x y)
+    (cond (eqb (tagOf y) constantTag) (failed w r) (compareClosures t w r e x y))))
 
 -- One act. Each act binds at most once, so that as many turns as acts done suffice to look through.
 unfoldable pub comparePair : List ℕ → List ℕ → Registers → Made
 comparePair t w r =
-    compareWords t w r (pairsFrom t w (r .pairs / maxArity) (r .pairs % maxArity + 1)) (deref (r .acts) w (argumentWord t w (r .pairs) fields.goalSideNode))
+    compareWords t w r (pairsFrom t w (r .pairs / maxArity) (r .pairs % maxArity + 1))
+    (deref (r .acts) w (argumentWord t w (r .pairs) fields.goalSideNode))
     (deref (r .acts) w (argumentWord t w (r .pairs) fields.clauseSideNode))
 
 -- No node is left: lower z to k, bind, go on with the pairs.
 unfoldable pub bindValue : List ℕ → Registers → ℕ → ℕ → Made
 bindValue w r z k =
     let w′ = effect w (r .acts) z k (r .variable) (r .value) (r .trail) in
-    made w′ (duePairs w′ (onTrail r (up (r .acts))) (r .pairs))
+    made w′ (duePairs w′ (withTrail r (increment (r .acts))) (r .pairs))
 
 -- A node has passed, z is lowered to k (0: nothing is), the nodes at e are left.
 unfoldable pub passNode : List ℕ → Registers → ℕ → ℕ → ℕ → Made
-passNode w r z k e = cond (eqb e 0) (bindValue w r z k) (made (effect w (r .acts) z k 0 0 (r .trail)) (onNodes (onTrail r (up (r .acts))) e))
+passNode w r z k e =
+    cond (eqb e 0) (bindValue w r z k) (made (effect w (r .acts) z k 0 0 (r .trail)) (withNodes (withTrail r (increment (r .acts))) e))
 
 -- "it fails at that variable or at a made constant above k, and lowers a variable above k to k"
 unfoldable pub visitVariable : List ℕ → Registers → ℕ → ℕ → Made
-visitVariable w r e x = cond (eqb x (r .variable)) (failed w r) (passNode w r x (min (levelOf w (nameOf x)) (levelOf w (nameOf (r .variable)))) e)
+visitVariable w r e x =
+    cond (eqb x (r .variable)) (failed w r) (passNode w r x (min (levelOf w (nameOf x)) (levelOf w (nameOf (r .variable)))) e)
 
 unfoldable pub visitConstant : List ℕ → Registers → ℕ → ℕ → Made
-visitConstant w r e x = cond (leb (field w (nameOf x) fields.constantLevel) (levelOf w (nameOf (r .variable)))) (passNode w r 0 0 e) (failed w r)
+visitConstant w r e x =
+    cond (leb (field w (nameOf x) fields.constantLevel) (levelOf w (nameOf (r .variable)))) (passNode w r 0 0 e) (failed w r)
 
 unfoldable pub visitClosure : List ℕ → List ℕ → Registers → ℕ → ℕ → Made
 visitClosure t w r e x =
     let w′ = putNodes w (r .acts) (nodeOf x) (frameOf x) e in
-    passNode w′ r 0 0 (nodesFrom t w′ (up (r .acts)) 0)
+    passNode w′ r 0 0 (nodesFrom t w′ (increment (r .acts)) 0)
 
 unfoldable pub visitWord : List ℕ → List ℕ → Registers → ℕ → ℕ → Made
-visitWord t w r e x = cond (eqb (tagOf x) variableTag) (visitVariable w r e x) (cond (eqb (tagOf x) constantTag) (visitConstant w r e x) (visitClosure t w r e x))
+visitWord t w r e x =
+    cond (eqb (tagOf x) variableTag) (visitVariable w r e x)
+    (cond (eqb (tagOf x) constantTag) (visitConstant w r e x) (visitClosure t w r e x))
 
 -- The node that is due: at first the whole value. After it, the nodes left.
 unfoldable pub dueWord : List ℕ → List ℕ → Registers → ℕ

@@ -10,7 +10,7 @@ use Rattle.sheet_format.specs.Sheets.{Sheet}
 use Rattle.node_table.specs.Decoding.{decodeSheet}
 use Rattle.node_table.specs.WellMade.{WellMade}
 use Rattle.machine.specs.Machine.{runMachine}
-use Rattle.machine.specs.Simulation.{Tells, Stands}
+use Rattle.machine.specs.Simulation.{Reports, Stands}
 
 -- The table is one that the reader makes, and it stands for the sheet.
 pub record StandsFor (bytes t : List ℕ) (symbols nodes clauses goal : ℕ) (s : Sheet) : Type 0 where
@@ -18,10 +18,10 @@ pub record StandsFor (bytes t : List ℕ) (symbols nodes clauses goal : ℕ) (s 
   pub decoded : decodeSheet bytes t symbols clauses goal ≡ s
 
 -- Within a budget.
-abbrev pub MachineTells : Type 0
-MachineTells = (bytes t : List ℕ) (symbols nodes clauses goal : ℕ) (s : Sheet) → StandsFor bytes t symbols nodes clauses goal s
+abbrev pub MachineReports : Type 0
+MachineReports = (bytes t : List ℕ) (symbols nodes clauses goal : ℕ) (s : Sheet) → StandsFor bytes t symbols nodes clauses goal s
     → (budget : ℕ) → budget ≤ maxBudget → (work : List ℕ) → numbersPerUnit * budget ≤ length work
-    → Tells t (runMachine budget t clauses goal work) (search budget (s .clauses) (s .goal))
+    → Reports t (runMachine budget t clauses goal work) (search budget (s .clauses) (s .goal))
 
 -- After each number of acts.
 abbrev pub MachineFollows : Type 0

@@ -1,4 +1,4 @@
--- How the work buffer is read back as level 1's data: the store, the path. (Words has leaves, environments and terms.)
+-- This file reads the work buffer back as level 1's store and path; Words has leaves, environments and terms.
 use Prim.Native.Nat.{ℕ, zero, suc, _-_, _<_}
 use mathlib.Core.Path.{_≡_}
 use mathlib.Core.Bool.{true, false, cond}
@@ -37,9 +37,15 @@ lineAt w q k =
     (cond (eqb k rightLine) (plain Dright)
     (cond (eqb k assumeLine) (plain Dassume)
     (cond (eqb k someLine) (Dsome (leaf (var (field w q fields.variables))))
-    (cond (eqb k allLine) (Dall (leaf (con q (field w q fields.constantLevel)))) (Dclause (field w q fields.usePlace) (variablesFrom (field w q fields.useCount) (field w q fields.variables)))))))))
+    (cond (eqb k allLine) (Dall (leaf (con q (field w q fields.constantLevel))))
+    (Dclause (field w q fields.usePlace) (variablesFrom (field w q fields.useCount) (field w q fields.variables)))))))))
 
 -- The path from pointer p on, latest line first, at most n lines.
 unfoldable pub pathFrom : ℕ → List ℕ → ℕ → ℕ → List (Line Leaf)
 pathFrom zero w p k = []
-pathFrom (suc n) w p k = elim (eqb p 0) [ true ↦ [] | false ↦ lineAt w (p - 1) k ∷ pathFrom n w (field w (p - 1) fields.pathBefore) (field w (p - 1) fields.pathLine) ]
+pathFrom (suc n) w p k =
+    elim (eqb p 0) [
+      | true ↦ []
+      | false ↦ lineAt w (p - 1) k ∷ pathFrom n w (field w (p - 1) fields.pathBefore)
+          (field w (p - 1) fields.pathLine)
+    ]

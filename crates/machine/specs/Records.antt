@@ -73,33 +73,47 @@ made w r = record { memory = w; registers = r }
 
 -- The records of an act, one group of fields each.
 unfoldable pub putEntry : List ℕ → ℕ → ℕ → ℕ → ℕ → ℕ → List ℕ
-putEntry w u lowered level bound before = putField (putField (putField (putField w u fields.entryLowered lowered) u fields.entryLevel level) u fields.entryBound bound) u fields.entryBefore before
+putEntry w u lowered level bound before =
+    putField (putField (putField (putField w u fields.entryLowered lowered) u fields.entryLevel level) u fields.entryBound bound) u
+    fields.entryBefore before
 
 unfoldable pub putGoal : List ℕ → ℕ → ℕ → ℕ → ℕ → ℕ → ℕ → List ℕ
-putGoal w u node frame program level next = putField (putField (putField (putField (putField w u fields.goalNode node) u fields.goalFrame frame) u fields.goalProgram program) u fields.goalLevel level) u fields.goalNext next
+putGoal w u node frame program level next =
+    putField (putField (putField (putField (putField w u fields.goalNode node) u fields.goalFrame frame) u fields.goalProgram program) u
+    fields.goalLevel level) u fields.goalNext next
 
 unfoldable pub putAssumption : List ℕ → ℕ → ℕ → ℕ → ℕ → List ℕ
-putAssumption w u clause frame next = putField (putField (putField w u fields.assumptionNode clause) u fields.assumptionFrame frame) u fields.assumptionNext next
+putAssumption w u clause frame next =
+    putField (putField (putField w u fields.assumptionNode clause) u fields.assumptionFrame frame) u fields.assumptionNext next
 
 unfoldable pub putPath : List ℕ → ℕ → ℕ → ℕ → List ℕ
 putPath w u path line = putField (putField w u fields.pathBefore path) u fields.pathLine line
 
--- of a member's use
+-- Writes the fields of a member's use.
 unfoldable pub putUse : List ℕ → ℕ → ℕ → ℕ → ℕ → List ℕ
 putUse w u place count next = putField (putField (putField w u fields.usePlace place) u fields.useCount count) u fields.variables next
 
 unfoldable pub putChoice : List ℕ → ℕ → ℕ → ℕ → ℕ → ℕ → ℕ → List ℕ
-putChoice w u trail choice goals path line = putField (putField (putField (putField (putField w u fields.choiceTrail trail) u fields.choiceBefore choice) u fields.choiceGoals goals) u fields.choicePath path) u fields.choiceLine line
+putChoice w u trail choice goals path line =
+    putField (putField (putField (putField (putField w u fields.choiceTrail trail) u fields.choiceBefore choice) u fields.choiceGoals
+    goals) u fields.choicePath path) u fields.choiceLine line
 
--- the rest of a choice point: the goal or atom, and the member
+-- Writes the rest of a choice point: first the goal or atom; `putPosition` writes the member.
 unfoldable pub putChosen : List ℕ → ℕ → ℕ → ℕ → ℕ → ℕ → List ℕ
-putChosen w u node frame program level = putField (putField (putField (putField w u fields.choiceNode node) u fields.choiceFrame frame) u fields.choiceProgram program) u fields.choiceLevel level
+putChosen w u node frame program level =
+    putField (putField (putField (putField w u fields.choiceNode node) u fields.choiceFrame frame) u fields.choiceProgram program) u
+    fields.choiceLevel level
 
 unfoldable pub putPosition : List ℕ → ℕ → ℕ → ℕ → ℕ → ℕ → List ℕ
-putPosition w u hypothesis clause member place = putField (putField (putField (putField w u fields.choiceHypothesis hypothesis) u fields.choiceClause clause) u fields.choiceMember member) u fields.choicePlace place
+putPosition w u hypothesis clause member place =
+    putField (putField (putField (putField w u fields.choiceHypothesis hypothesis) u fields.choiceClause clause) u fields.choiceMember
+    member) u fields.choicePlace place
 
 unfoldable pub putPairs : List ℕ → ℕ → ℕ → ℕ → ℕ → ℕ → ℕ → List ℕ
-putPairs w u node frame node′ frame′ after = putField (putField (putField (putField (putField w u fields.goalSideNode node) u fields.goalSideFrame frame) u fields.clauseSideNode node′) u fields.clauseSideFrame frame′) u fields.pairsAfter after
+putPairs w u node frame node′ frame′ after =
+    putField (putField (putField (putField (putField w u fields.goalSideNode node) u fields.goalSideFrame frame) u fields.clauseSideNode
+    node′) u fields.clauseSideFrame frame′) u fields.pairsAfter after
 
 unfoldable pub putNodes : List ℕ → ℕ → ℕ → ℕ → ℕ → List ℕ
-putNodes w u node frame after = putField (putField (putField w u fields.waitingNode node) u fields.waitingFrame frame) u fields.waitingAfter after
+putNodes w u node frame after =
+    putField (putField (putField w u fields.waitingNode node) u fields.waitingFrame frame) u fields.waitingAfter after

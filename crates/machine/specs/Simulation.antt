@@ -13,7 +13,7 @@ use Rattle.node_table.specs.Decoding.{clausesFrom, goalAt}
 use Rattle.node_table.specs.WellMade.{WellMade}
 use Rattle.machine.specs.declared.Registers.{Registers}
 use Rattle.machine.specs.Records.{Made, provedMode, checkMode, compareMode, tryMode, takeMode, noMode}
-use Rattle.machine.specs.Machine.{run, runMachine}
+use Rattle.machine.specs.Machine.{runActs, runMachine}
 use Rattle.machine.specs.Reading.{Holds, pathFrom}
 
 -- The registers and the memory stand at a branch with this mode, store and path.
@@ -23,10 +23,10 @@ pub record StandsAt (t : List ℕ) (m : Made) (due : ℕ) (s : Store) (ls : List
   pub path : pathFrom (m .registers .acts) (m .memory) (m .registers .path) (m .registers .line) ≡ ls
 
 -- The machine tells what the search tells: outcome and units; if proved, the final store and the path.
-unfoldable pub Tells : List ℕ → Made → Outcome → Type 0
-Tells t m (ends (proved s ls) n) = StandsAt t m provedMode s ls × (m .registers .acts ≡ n)
-Tells t m (ends noProof n) = (m .registers .mode ≡ noMode) × (m .registers .acts ≡ n)
-Tells t m spent = m .registers .mode < provedMode
+unfoldable pub Reports : List ℕ → Made → Outcome → Type 0
+Reports t m (ends (proved s ls) n) = StandsAt t m provedMode s ls × (m .registers .acts ≡ n)
+Reports t m (ends noProof n) = (m .registers .mode ≡ noMode) × (m .registers .acts ≡ n)
+Reports t m spent = m .registers .mode < provedMode
 
 -- The machine stands where the search does: the act that is due, the store and the path of the branch, or the verdict.
 unfoldable pub Stands : List ℕ → Made → List Configuration → Type 0
@@ -40,17 +40,23 @@ Stands t m (done s ls ∷ cs) = StandsAt t m provedMode s ls
 
 -- Within a permitted budget, with 64 numbers for each unit: outcome, units, bindings, levels and path are level 1's.
 abbrev pub Simulates : Type 0
-Simulates = (t : List ℕ) (nodes clauses goal : ℕ) → WellMade t nodes clauses goal → (budget : ℕ) → budget ≤ maxBudget → (w : List ℕ) → numbersPerUnit * budget ≤ length w
-    → Tells t (runMachine budget t clauses goal w) (search budget (clausesFrom t clauses 0) (goalAt t goal))
+Simulates =
+    (t : List ℕ) (nodes clauses goal : ℕ) → WellMade t nodes clauses goal → (budget : ℕ) → budget ≤ maxBudget → (w : List ℕ)
+    → numbersPerUnit * budget ≤ length w
+    → Reports t (runMachine budget t clauses goal w) (search budget (clausesFrom t clauses 0) (goalAt t goal))
 
 -- So it is after each number n of acts, of those that the buffer has room for; n acts and then m are n + m acts.
 abbrev pub Follows : Type 0
-Follows = (t : List ℕ) (nodes clauses goal : ℕ) → WellMade t nodes clauses goal → (n : ℕ) → n ≤ maxBudget → (w : List ℕ) → numbersPerUnit ≤ length w → numbersPerUnit * n ≤ length w
+Follows =
+    (t : List ℕ) (nodes clauses goal : ℕ) → WellMade t nodes clauses goal → (n : ℕ) → n ≤ maxBudget → (w : List ℕ)
+    → numbersPerUnit ≤ length w → numbersPerUnit * n ≤ length w
     → Stands t (runMachine n t clauses goal w) (after (clausesFrom t clauses 0) (goalAt t goal) n)
 
 abbrev pub Resumes : Type 0
-Resumes = (t : List ℕ) (c n m : ℕ) (w : List ℕ) (r : Registers) → run (n + m) t c w r ≡ run m t c (run n t c w r .memory) (run n t c w r .registers)
+Resumes =
+    (t : List ℕ) (c n m : ℕ) (w : List ℕ) (r : Registers)
+    → runActs (n + m) t c w r ≡ runActs m t c (runActs n t c w r .memory) (runActs n t c w r .registers)
 
 -- The buffer keeps its length.
 abbrev pub KeepsLength : Type 0
-KeepsLength = (n : ℕ) (t : List ℕ) (c : ℕ) (w : List ℕ) (r : Registers) → length (run n t c w r .memory) ≡ length w
+KeepsLength = (n : ℕ) (t : List ℕ) (c : ℕ) (w : List ℕ) (r : Registers) → length (runActs n t c w r .memory) ≡ length w

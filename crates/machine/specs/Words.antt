@@ -27,20 +27,20 @@ abbrev pub closureTag : ℕ
 closureTag = 3
 
 -- A number kept in 32 bits, and the number after it.
-unfoldable pub narrow : ℕ → ℕ
-narrow a = a % 4294967296
+unfoldable pub truncate : ℕ → ℕ
+truncate a = a % 4294967296
 
-unfoldable pub up : ℕ → ℕ
-up a = narrow (a + 1)
+unfoldable pub increment : ℕ → ℕ
+increment a = truncate (a + 1)
 
 unfoldable pub variableWord : ℕ → ℕ
-variableWord x = narrow (tagCount * x + variableTag)
+variableWord x = truncate (tagCount * x + variableTag)
 
 unfoldable pub constantWord : ℕ → ℕ
-constantWord c = narrow (tagCount * c + constantTag)
+constantWord c = truncate (tagCount * c + constantTag)
 
 unfoldable pub closureWord : ℕ → ℕ → ℕ
-closureWord n f = narrow (tagCount * (maxNodes * f + n) + closureTag)
+closureWord n f = truncate (tagCount * (maxNodes * f + n) + closureTag)
 
 -- The parts of a word.
 unfoldable pub tagOf : ℕ → ℕ

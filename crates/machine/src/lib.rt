@@ -6,32 +6,32 @@ pub mod tags;
 
 // All of the machine's state that is not in the work buffer. A pointer is the number of a record plus 1, and 0 for none.
 pub struct Registers {
-    // the number of acts done, which is the number of the record that the next act may write
+    // The number of acts done, which is the number of the record that the next act may write.
     pub acts: u32,
-    // the act that is due, or the verdict (modes)
+    // The act that is due, or the verdict (module `modes`).
     pub mode: u32,
-    // the number of variables made
+    // The number of variables made.
     pub next: u32,
-    // pointers: the latest trail entry, the latest choice point, the goals that wait, the path
+    // Pointers: the latest trail entry, the latest choice point, the goals that wait, the path.
     pub trail: u32,
     pub choice: u32,
     pub goals: u32,
     pub path: u32,
-    // which line the path's latest record is (lines)
+    // Which line the latest record of the path is (module `lines`).
     pub line: u32,
-    // the goal to take, or the atom whose members are tried: node, frame, assumptions, level
+    // The goal to take, or the atom whose members are tried: node, frame, assumptions, level.
     pub node: u32,
     pub frame: u32,
     pub program: u32,
     pub level: u32,
-    // the member to try: assumption, or 0 and the clause of the sheet; its number within the clause, its place at the atom
+    // The member to try: assumption, or 0 and the clause of the sheet; its number in the clause, its place at the atom.
     pub hypothesis: u32,
     pub clause: u32,
     pub member: u32,
     pub place: u32,
-    // the pairs that wait, the first of them due in a comparison
+    // The pairs that wait, the first of them due in a comparison.
     pub pairs: u32,
-    // a range check: the variable and what it is to be bound to, as words; the nodes that wait, 0 for the whole value
+    // A range check: the variable and what it is to be bound to, as words; the nodes that wait, 0 for the whole value.
     pub variable: u32,
     pub value: u32,
     pub nodes: u32,

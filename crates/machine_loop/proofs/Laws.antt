@@ -7,33 +7,35 @@ use mathlib.Core.List.{List}
 use borrow.Author.Tests.{lt-ltb, le-ltb}
 use Rattle.machine.specs.declared.Registers.{Registers}
 use Rattle.machine.specs.Records.{made}
-use Rattle.machine.specs.Machine.{act, run}
+use Rattle.machine.specs.Machine.{act, runActs}
 
 module _ (t : List ℕ) (c : ℕ) (w : List ℕ) (r : Registers) where
   -- A verdict.
-  pub run-done : (n : ℕ) → 3 < r .mode → run n t c w r ≡ made w r
-  unfolding run
+  pub run-done : (n : ℕ) → 3 < r .mode → runActs n t c w r ≡ made w r
+  unfolding runActs
   run-done zero h = refl
   run-done (suc n) h =
       let k : 4 ≤ r .mode = omega arith in
-      simp (run, le-ltb _ _ k)
+      simp (runActs, le-ltb _ _ k)
 
   -- No unit is left.
-  pub run-spent : (n : ℕ) → n ≡ 0 → run n t c w r ≡ made w r
-  unfolding run
+  pub run-spent : (n : ℕ) → n ≡ 0 → runActs n t c w r ≡ made w r
+  unfolding runActs
   run-spent zero e = refl
   run-spent (suc n) e = absurd (omega arith)
 
-  pub run-end : (n : ℕ) → n ≤ 0 → run n t c w r ≡ made w r
+  pub run-end : (n : ℕ) → n ≤ 0 → runActs n t c w r ≡ made w r
   run-end n h = run-spent n (omega arith)
 
   -- One act.
-  pub run-act : (n : ℕ) (w′ : List ℕ) (r′ : Registers) → (n ≡ 0 → ⊥) → r .mode ≤ 3 → made w′ r′ ≡ act t c w r → run n t c w r ≡ run (n - 1) t c w′ r′
-  unfolding run
+  pub run-act : (n : ℕ) (w′ : List ℕ) (r′ : Registers) → (n ≡ 0 → ⊥) → r .mode ≤ 3 → made w′ r′ ≡ act t c w r
+      → runActs n t c w r ≡ runActs (n - 1) t c w′ r′
+  unfolding runActs
   run-act zero w′ r′ z h e = absurd (z refl)
   run-act (suc n) w′ r′ z h e =
       let k : r .mode < 4 = omega arith in
-      rw (sub-one (suc n)) (simp (run, lt-ltb _ _ k, ← e))
+      rw (sub-one (suc n)) (simp (runActs, lt-ltb _ _ k, ← e))
 
-  pub run-on : (n : ℕ) (w′ : List ℕ) (r′ : Registers) → 0 < n → r .mode ≤ 3 → made w′ r′ ≡ act t c w r → run n t c w r ≡ run (n - 1) t c w′ r′
+  pub run-on : (n : ℕ) (w′ : List ℕ) (r′ : Registers) → 0 < n → r .mode ≤ 3 → made w′ r′ ≡ act t c w r
+      → runActs n t c w r ≡ runActs (n - 1) t c w′ r′
   run-on n w′ r′ z h e = run-act n w′ r′ (λ q. omega arith) h e

@@ -5,17 +5,17 @@ use goal_acts::take_goal;
 use machine::Registers;
 use machine::modes;
 use machine_memory::frames::put_variables;
-use machine_memory::registers::on_acts;
-use machine_memory::words::up;
+use machine_memory::registers::with_acts;
+use machine_memory::words::increment;
 use match_acts::comparing::compare_pair;
 use match_acts::range_check::check_node;
 use node_table::members;
 use sheet_format::limits;
 ghost use mathlib.Core.Path.{_≡_};
 ghost use Rattle.machine.specs.Records.{made};
-ghost use Rattle.machine.specs.Words.{up};
-ghost use Rattle.machine.specs.Trying.{tried};
-ghost use Rattle.machine.specs.Machine.{dueAct, act, run, startMemory, startRegisters, runMachine};
+ghost use Rattle.machine.specs.Words.{increment};
+ghost use Rattle.machine.specs.Backchaining.{tried};
+ghost use Rattle.machine.specs.Machine.{dueAct, act, runActs, startMemory, startRegisters, runMachine};
 
 // The act that is due.
 pub fn due_act(t: &[u32], c: u32, w: &mut [u32], r: Registers) -> Registers
@@ -37,15 +37,15 @@ pub fn due_act(t: &[u32], c: u32, w: &mut [u32], r: Registers) -> Registers
 pub fn act(t: &[u32], c: u32, w: &mut [u32], r: Registers) -> Registers
     ensures { λ s. ⌜ made (now (w .exit)) s ≡ act (now (t .entry)) c (now (w .entry)) r ⌝ }
 {
-    let u = up(r.acts);
-    on_acts(due_act(t, c, w, r), u)
+    let u = increment(r.acts);
+    with_acts(due_act(t, c, w, r), u)
 }
 
 // At most n acts, each of which takes one of the units left. Members are tried in turn: an act of the outer loop takes a goal or
 // tries a member, those of the inner loop compare its argument pairs, and the first mismatch leaves them for the next member. The
 // state between two acts is in the work buffer and the registers alone.
-pub fn run(n: u32, t: &[u32], c: u32, w: &mut [u32], from: Registers) -> Registers
-    ensures { λ s. ⌜ made (now (w .exit)) s ≡ run n (now (t .entry)) c (now (w .entry)) from ⌝ }
+pub fn run_acts(n: u32, t: &[u32], c: u32, w: &mut [u32], from: Registers) -> Registers
+    ensures { λ s. ⌜ made (now (w .exit)) s ≡ runActs n (now (t .entry)) c (now (w .entry)) from ⌝ }
 {
     let mut r = from;
     let mut left = n;
@@ -112,5 +112,5 @@ pub fn run_machine(budget: u32, t: &[u32], c: u32, goal: u32, w: &mut [u32]) -> 
     ensures { λ s. ⌜ made (now (w .exit)) s ≡ runMachine budget (now (t .entry)) c goal (now (w .entry)) ⌝ }
 {
     start_memory(w);
-    run(budget, t, c, w, start_registers(goal))
+    run_acts(budget, t, c, w, start_registers(goal))
 }

@@ -1,15 +1,15 @@
 // The cells of the engine's machine on the lent work buffer: variables, slots of frames. Each function is a
 // definition of the crate machine, and its contract says so. A read past the buffer's end gives 0, a write there does nothing.
 use machine::fields;
+use memory::field;
 use memory::get;
-use memory::wide;
+use memory::put;
+use memory::put_field;
+use memory::widen;
 use sheet_format::limits::NUMBERS_PER_UNIT;
 ghost use mathlib.Core.Path.{_≡_};
 ghost use Prim.Native.Nat.{_+_, _-_};
 ghost use Rattle.machine.specs.Records.{cellOf, levelOf, putCell, putLevel};
-use memory::field;
-use memory::put;
-use memory::put_field;
 ghost use Rattle.memory.specs.Records.{field, putField};
 
 // The binding and the level of variable x.
@@ -41,13 +41,17 @@ pub fn put_level(w: &mut [u32], x: u32, a: u32)
 pub fn slot(w: &[u32], u: u32, v: u32) -> u32
     ensures { λ r. ⌜ r ≡ field (now (w .entry)) u (23 + v) ⌝ }
 {
-    get(w, NUMBERS_PER_UNIT * wide(u) + (fields::FRAME + wide(v)))
+    get(w, NUMBERS_PER_UNIT * widen(u) + (fields::FRAME + widen(v)))
 }
 
 pub fn put_slot(w: &mut [u32], u: u32, v: u32, a: u32)
     ensures { λ _. ⌜ now (w .exit) ≡ putField (now (w .entry)) u (23 + v) a ⌝ }
 {
-    put(w, NUMBERS_PER_UNIT * wide(u) + (fields::FRAME + wide(v)), a);
+    put(
+        w,
+        NUMBERS_PER_UNIT * widen(u) + (fields::FRAME + widen(v)),
+        a,
+    );
 }
 
 // The record of a pointer.

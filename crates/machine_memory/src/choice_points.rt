@@ -1,18 +1,18 @@
-// Taking up an alternative: the trail is undone to its mark, and the registers are as they were. Each function is a definition of
+// Backtracking to a choice point: the trail is undone to its mark, and the registers are as they were. Each function is a definition of
 // the crate machine, and its contract says so.
-use super::registers::on_goal;
-use super::registers::on_member;
-use super::registers::on_mode;
+use super::registers::with_goal;
+use super::registers::with_member;
+use super::registers::with_mode;
 use super::trail::undo;
 use machine::Registers;
 use machine::fields;
 use machine::modes;
+use memory::field;
 ghost use mathlib.Core.Path.{_≡_};
 ghost use Rattle.machine.specs.Records.{made};
-ghost use Rattle.machine.specs.Choices.{resumeGoal, resumeMember, resumeBranch, resume, takeUp, failed};
-use memory::field;
+ghost use Rattle.machine.specs.ChoicePoints.{resumeGoal, resumeMember, resumeBranch, resume, backtrack, failed};
 
-// The registers of the choice point in record q: its goal or atom,
+// Restores the goal or atom of the choice point in record q.
 pub fn resume_goal(w: &[u32], r: Registers, q: u32) -> Registers
     ensures { λ s. ⌜ s ≡ resumeGoal (now (w .entry)) r q ⌝ }
 {
@@ -20,15 +20,15 @@ pub fn resume_goal(w: &[u32], r: Registers, q: u32) -> Registers
     let frame = field(w, q, fields::CHOICE_FRAME);
     let program = field(w, q, fields::CHOICE_PROGRAM);
     let level = field(w, q, fields::CHOICE_LEVEL);
-    on_goal(r, node, frame, program, level)
+    with_goal(r, node, frame, program, level)
 }
 
-// its member, where there is one to try,
+// Restores the member of the choice point in record q, where there is one to try.
 pub fn resume_member(w: &[u32], r: Registers, q: u32) -> Registers
     ensures { λ s. ⌜ s ≡ resumeMember (now (w .entry)) r q ⌝ }
 {
     let place = field(w, q, fields::CHOICE_PLACE);
-    let s = on_member(
+    let s = with_member(
         r,
         field(w, q, fields::CHOICE_HYPOTHESIS),
         field(w, q, fields::CHOICE_CLAUSE),
@@ -36,12 +36,12 @@ pub fn resume_member(w: &[u32], r: Registers, q: u32) -> Registers
         place,
     );
     if place == 0 {
-        return on_mode(s, modes::TAKE);
+        return with_mode(s, modes::TAKE);
     }
-    on_mode(s, modes::TRY)
+    with_mode(s, modes::TRY)
 }
 
-// its branch, and what was open before it.
+// Restores the branch of the choice point in record q, and what was open before it.
 pub fn resume_branch(w: &[u32], r: Registers, q: u32) -> Registers
     ensures { λ s. ⌜ s ≡ resumeBranch (now (w .entry)) r q ⌝ }
 {
@@ -62,8 +62,8 @@ pub fn resume(w: &[u32], r: Registers, q: u32) -> Registers
 }
 
 // The choice point in record q is taken up, with all bindings and levels as they were.
-pub fn take_up(w: &mut [u32], r: Registers, q: u32) -> Registers
-    ensures { λ s. ⌜ made (now (w .exit)) s ≡ takeUp (now (w .entry)) r q ⌝ }
+pub fn backtrack(w: &mut [u32], r: Registers, q: u32) -> Registers
+    ensures { λ s. ⌜ made (now (w .exit)) s ≡ backtrack (now (w .entry)) r q ⌝ }
 {
     let s = resume(w, r, q);
     let mark = field(w, q, fields::CHOICE_TRAIL);
@@ -78,7 +78,7 @@ pub fn failed(w: &mut [u32], r: Registers) -> Registers
 {
     let choice = r.choice;
     if choice == 0 {
-        return on_mode(r, modes::NO);
+        return with_mode(r, modes::NO);
     }
-    take_up(w, r, choice - 1)
+    backtrack(w, r, choice - 1)
 }

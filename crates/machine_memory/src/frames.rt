@@ -2,8 +2,8 @@
 use super::cells::put_cell;
 use super::cells::put_level;
 use super::cells::put_slot;
+use super::words::increment;
 use super::words::slot_of;
-use super::words::up;
 use super::words::variable_word;
 use sheet_format::limits;
 ghost use mathlib.Core.Path.{_≡_};
@@ -44,7 +44,7 @@ pub fn put_fresh(n: u32, w: &mut [u32], u: u32, vs: u32, x: u32, i: u32)
         put_variable(w, fresh, i);
         put_slot(w, u, names % limits::VARIABLE_NAMES, variable_word(fresh));
         names = names / limits::VARIABLE_NAMES;
-        fresh = up(fresh);
+        fresh = increment(fresh);
         left -= 1;
     }
 }

@@ -1,9 +1,10 @@
 // The records of the engine's machine, written whole: entries, goals, assumptions, the path, choice points, pairs.
 // Each function is a definition of the crate machine, and its contract says so.
 use machine::fields;
-ghost use mathlib.Core.Path.{_≡_};
-ghost use Rattle.machine.specs.Records.{putEntry, putGoal, putAssumption, putPath, putUse, putChoice, putChosen, putPosition, putPairs, putNodes};
 use memory::put_field;
+ghost use mathlib.Core.Path.{_≡_};
+ghost use Rattle.machine.specs.Records.{putEntry, putGoal, putAssumption, putPath, putUse, putChoice, putChosen, putPosition, putPairs};
+ghost use Rattle.machine.specs.Records.{putNodes};
 
 // A trail entry.
 pub fn put_entry(w: &mut [u32], u: u32, lowered: u32, level: u32, bound: u32, before: u32)

@@ -6,15 +6,16 @@ use super::records::put_position;
 use machine::Registers;
 use machine::fields;
 use machine::modes;
+use memory::put_field;
 ghost use mathlib.Core.Path.{_≡_};
 ghost use Rattle.machine.specs.Records.{made};
-ghost use Rattle.machine.specs.Changes.{onActs, onMode, onNext, onTrail, onChoice, onGoals, onPath, onGoal, onMember, onPairs, onCheck, onNodes};
-ghost use Rattle.machine.specs.Choices.{saveChoice};
-use memory::put_field;
+ghost use Rattle.machine.specs.RegisterUpdates.{withActs, withMode, withNext, withTrail, withChoice, withGoals, withPath, withGoal};
+ghost use Rattle.machine.specs.RegisterUpdates.{withMember, withPairs, withCheck, withNodes};
+ghost use Rattle.machine.specs.ChoicePoints.{saveChoice};
 
 // One more act is done.
-pub fn on_acts(r: Registers, a: u32) -> Registers
-    ensures { λ s. ⌜ s ≡ onActs r a ⌝ }
+pub fn with_acts(r: Registers, a: u32) -> Registers
+    ensures { λ s. ⌜ s ≡ withActs r a ⌝ }
 {
     let mut s = r;
     s.acts = a;
@@ -22,8 +23,8 @@ pub fn on_acts(r: Registers, a: u32) -> Registers
 }
 
 // The act that is due, or the verdict.
-pub fn on_mode(r: Registers, m: u32) -> Registers
-    ensures { λ s. ⌜ s ≡ onMode r m ⌝ }
+pub fn with_mode(r: Registers, m: u32) -> Registers
+    ensures { λ s. ⌜ s ≡ withMode r m ⌝ }
 {
     let mut s = r;
     s.mode = m;
@@ -31,8 +32,8 @@ pub fn on_mode(r: Registers, m: u32) -> Registers
 }
 
 // Variables have been made.
-pub fn on_next(r: Registers, n: u32) -> Registers
-    ensures { λ s. ⌜ s ≡ onNext r n ⌝ }
+pub fn with_next(r: Registers, n: u32) -> Registers
+    ensures { λ s. ⌜ s ≡ withNext r n ⌝ }
 {
     let mut s = r;
     s.next = n;
@@ -40,8 +41,8 @@ pub fn on_next(r: Registers, n: u32) -> Registers
 }
 
 // The latest trail entry.
-pub fn on_trail(r: Registers, h: u32) -> Registers
-    ensures { λ s. ⌜ s ≡ onTrail r h ⌝ }
+pub fn with_trail(r: Registers, h: u32) -> Registers
+    ensures { λ s. ⌜ s ≡ withTrail r h ⌝ }
 {
     let mut s = r;
     s.trail = h;
@@ -49,8 +50,8 @@ pub fn on_trail(r: Registers, h: u32) -> Registers
 }
 
 // The latest choice point.
-pub fn on_choice(r: Registers, q: u32) -> Registers
-    ensures { λ s. ⌜ s ≡ onChoice r q ⌝ }
+pub fn with_choice(r: Registers, q: u32) -> Registers
+    ensures { λ s. ⌜ s ≡ withChoice r q ⌝ }
 {
     let mut s = r;
     s.choice = q;
@@ -58,8 +59,8 @@ pub fn on_choice(r: Registers, q: u32) -> Registers
 }
 
 // The goals that wait.
-pub fn on_goals(r: Registers, q: u32) -> Registers
-    ensures { λ s. ⌜ s ≡ onGoals r q ⌝ }
+pub fn with_goals(r: Registers, q: u32) -> Registers
+    ensures { λ s. ⌜ s ≡ withGoals r q ⌝ }
 {
     let mut s = r;
     s.goals = q;
@@ -67,8 +68,8 @@ pub fn on_goals(r: Registers, q: u32) -> Registers
 }
 
 // The latest line of the path.
-pub fn on_path(r: Registers, p: u32, l: u32) -> Registers
-    ensures { λ s. ⌜ s ≡ onPath r p l ⌝ }
+pub fn with_path(r: Registers, p: u32, l: u32) -> Registers
+    ensures { λ s. ⌜ s ≡ withPath r p l ⌝ }
 {
     let mut s = r;
     s.path = p;
@@ -77,8 +78,8 @@ pub fn on_path(r: Registers, p: u32, l: u32) -> Registers
 }
 
 // A goal is due.
-pub fn on_goal(r: Registers, n: u32, f: u32, h: u32, i: u32) -> Registers
-    ensures { λ s. ⌜ s ≡ onGoal r n f h i ⌝ }
+pub fn with_goal(r: Registers, n: u32, f: u32, h: u32, i: u32) -> Registers
+    ensures { λ s. ⌜ s ≡ withGoal r n f h i ⌝ }
 {
     let mut s = r;
     s.mode = modes::TAKE;
@@ -90,8 +91,8 @@ pub fn on_goal(r: Registers, n: u32, f: u32, h: u32, i: u32) -> Registers
 }
 
 // The member to try.
-pub fn on_member(r: Registers, h: u32, c: u32, k: u32, p: u32) -> Registers
-    ensures { λ s. ⌜ s ≡ onMember r h c k p ⌝ }
+pub fn with_member(r: Registers, h: u32, c: u32, k: u32, p: u32) -> Registers
+    ensures { λ s. ⌜ s ≡ withMember r h c k p ⌝ }
 {
     let mut s = r;
     s.hypothesis = h;
@@ -102,8 +103,8 @@ pub fn on_member(r: Registers, h: u32, c: u32, k: u32, p: u32) -> Registers
 }
 
 // A pair is due.
-pub fn on_pairs(r: Registers, a: u32) -> Registers
-    ensures { λ s. ⌜ s ≡ onPairs r a ⌝ }
+pub fn with_pairs(r: Registers, a: u32) -> Registers
+    ensures { λ s. ⌜ s ≡ withPairs r a ⌝ }
 {
     let mut s = r;
     s.mode = modes::COMPARE;
@@ -112,8 +113,8 @@ pub fn on_pairs(r: Registers, a: u32) -> Registers
 }
 
 // A range check is due, of the value v for the variable x; then the pairs a.
-pub fn on_check(r: Registers, a: u32, x: u32, v: u32) -> Registers
-    ensures { λ s. ⌜ s ≡ onCheck r a x v ⌝ }
+pub fn with_check(r: Registers, a: u32, x: u32, v: u32) -> Registers
+    ensures { λ s. ⌜ s ≡ withCheck r a x v ⌝ }
 {
     let mut s = r;
     s.mode = modes::CHECK;
@@ -125,8 +126,8 @@ pub fn on_check(r: Registers, a: u32, x: u32, v: u32) -> Registers
 }
 
 // The nodes of a range check that wait.
-pub fn on_nodes(r: Registers, a: u32) -> Registers
-    ensures { λ s. ⌜ s ≡ onNodes r a ⌝ }
+pub fn with_nodes(r: Registers, a: u32) -> Registers
+    ensures { λ s. ⌜ s ≡ withNodes r a ⌝ }
 {
     let mut s = r;
     s.nodes = a;

@@ -7,10 +7,10 @@ use super::cells::record_of;
 use super::records::put_entry;
 use super::words::name_of;
 use machine::fields;
+use memory::field;
 ghost use mathlib.Core.Path.{_≡_};
 ghost use Prim.Native.Nat.{_<_};
 ghost use Rattle.machine.specs.Trail.{lowerTo, bindTo, oldLevel, effect, undoEntry, undo};
-use memory::field;
 
 // Writes to a variable by its word; 0 is no variable.
 pub fn lower_to(w: &mut [u32], a: u32, k: u32)

@@ -3,14 +3,15 @@
 use super::cells::cell_of;
 use super::cells::slot;
 use machine::tags;
-use memory::wide;
+use memory::widen;
 use node_table::kind;
 use node_table::kinds;
 use node_table::label;
 use sheet_format::limits;
 ghost use mathlib.Core.Path.{_≡_};
 ghost use Prim.Native.Nat.{_+_, _-_};
-ghost use Rattle.machine.specs.Words.{narrow, up, variableWord, constantWord, closureWord, tagOf, nameOf, nodeOf, frameOf, slotOf, wordOf, deref};
+ghost use Rattle.machine.specs.Words.{truncate, increment, variableWord, constantWord, closureWord, tagOf, nameOf, nodeOf, frameOf, slotOf};
+ghost use Rattle.machine.specs.Words.{wordOf, deref};
 
 // The tags, their number and the number of nodes as addends and factors of words.
 pub const TAGS: usize = tags::COUNT as usize;
@@ -24,35 +25,35 @@ const CLOSURE_TAG: usize = tags::CLOSURE as usize;
 const NODES: usize = limits::MAX_NODES as usize;
 
 // A number kept in 32 bits, and the number after it.
-pub fn narrow(a: usize) -> u32
-    ensures { λ r. ⌜ r ≡ narrow a ⌝ }
+pub fn truncate(a: usize) -> u32
+    ensures { λ r. ⌜ r ≡ truncate a ⌝ }
 {
     (a % 4294967296) as u32
 }
 
-pub fn up(a: u32) -> u32
-    ensures { λ r. ⌜ r ≡ up a ⌝ }
+pub fn increment(a: u32) -> u32
+    ensures { λ r. ⌜ r ≡ increment a ⌝ }
 {
-    narrow(wide(a) + 1)
+    truncate(widen(a) + 1)
 }
 
 // Packed words.
 pub fn variable_word(x: u32) -> u32
     ensures { λ r. ⌜ r ≡ variableWord x ⌝ }
 {
-    narrow(TAGS * wide(x) + VARIABLE_TAG)
+    truncate(TAGS * widen(x) + VARIABLE_TAG)
 }
 
 pub fn constant_word(c: u32) -> u32
     ensures { λ r. ⌜ r ≡ constantWord c ⌝ }
 {
-    narrow(TAGS * wide(c) + CONSTANT_TAG)
+    truncate(TAGS * widen(c) + CONSTANT_TAG)
 }
 
 pub fn closure_word(n: u32, f: u32) -> u32
     ensures { λ r. ⌜ r ≡ closureWord n f ⌝ }
 {
-    narrow(TAGS * (NODES * wide(f) + wide(n)) + CLOSURE_TAG)
+    truncate(TAGS * (NODES * widen(f) + widen(n)) + CLOSURE_TAG)
 }
 
 // The parts of a word: its tag says whether it is a variable, a made constant or a closure.

@@ -8,18 +8,18 @@ use machine::fields;
 use machine::tags;
 use machine_memory::choice_points::failed;
 use machine_memory::records::put_pairs;
-use machine_memory::registers::on_check;
+use machine_memory::registers::with_check;
+use machine_memory::words::deref;
 use machine_memory::words::frame_of;
+use machine_memory::words::increment;
 use machine_memory::words::node_of;
 use machine_memory::words::tag_of;
-use machine_memory::words::up;
 use node_table::label;
 use sheet_format::limits;
 ghost use mathlib.Core.Path.{_≡_};
 ghost use Prim.Native.Nat.{_+_};
 ghost use Rattle.machine.specs.Records.{made};
 ghost use Rattle.machine.specs.Matching.{compareClosures, compareLeaves, compareWords, comparePair};
-use machine_memory::words::deref;
 
 // Two applications: the same symbol, then their arguments, then the pairs at e.
 pub fn compare_closures(t: &[u32], w: &mut [u32], r: Registers, e: u32, x: u32, y: u32) -> Registers
@@ -32,7 +32,7 @@ pub fn compare_closures(t: &[u32], w: &mut [u32], r: Registers, e: u32, x: u32, 
     }
     let u = r.acts;
     put_pairs(w, u, m, frame_of(x), n, frame_of(y), e);
-    due_pairs(w, r, pairs_from(t, w, up(u), 0))
+    due_pairs(w, r, pairs_from(t, w, increment(u), 0))
 }
 
 // Goal side a made constant: the same one twice, then the pairs at e.
@@ -45,7 +45,7 @@ pub fn compare_leaves(w: &mut [u32], r: Registers, e: u32, x: u32, y: u32) -> Re
     failed(w, r)
 }
 
-// x is the goal's side, y the clause's, both looked through; then the pairs at e.
+// Compares the goal's side x with the clause's side y, both looked through; then the pairs at e are due.
 pub fn compare_words(t: &[u32], w: &mut [u32], r: Registers, e: u32, x: u32, y: u32) -> Registers
     ensures { λ s. ⌜ made (now (w .exit)) s ≡ compareWords (now (t .entry)) (now (w .entry)) r e x y ⌝ }
 {
@@ -54,11 +54,11 @@ pub fn compare_words(t: &[u32], w: &mut [u32], r: Registers, e: u32, x: u32, y: 
         if x == y {
             return due_pairs(w, r, e);
         }
-        return on_check(r, e, x, y);
+        return with_check(r, e, x, y);
     }
     let b = tag_of(y);
     if b == tags::VARIABLE {
-        return on_check(r, e, y, x);
+        return with_check(r, e, y, x);
     }
     if a == tags::CONSTANT {
         return compare_leaves(w, r, e, x, y);

@@ -5,16 +5,16 @@ use machine::Registers;
 use machine::fields;
 use machine_memory::cells::level_of;
 use machine_memory::choice_points::failed;
-use machine_memory::registers::on_nodes;
-use machine_memory::registers::on_trail;
+use machine_memory::registers::with_nodes;
+use machine_memory::registers::with_trail;
 use machine_memory::trail::effect;
+use machine_memory::words::increment;
 use machine_memory::words::name_of;
-use machine_memory::words::up;
+use memory::field;
 ghost use mathlib.Core.Path.{_≡_};
 ghost use Prim.Native.Nat.{min};
 ghost use Rattle.machine.specs.Records.{made};
 ghost use Rattle.machine.specs.Matching.{bindValue, passNode, visitVariable, visitConstant};
-use memory::field;
 ghost use Rattle.memory.specs.Records.{field};
 
 // The range check has passed: lowers z to k, binds, goes on with the pairs.
@@ -22,9 +22,9 @@ pub fn bind_value(w: &mut [u32], r: Registers, z: u32, k: u32) -> Registers
     ensures { λ s. ⌜ made (now (w .exit)) s ≡ bindValue (now (w .entry)) r z k ⌝ }
 {
     let u = r.acts;
-    let entry = up(u);
+    let entry = increment(u);
     effect(w, u, z, k, r.variable, r.value, r.trail);
-    due_pairs(w, on_trail(r, entry), r.pairs)
+    due_pairs(w, with_trail(r, entry), r.pairs)
 }
 
 // A node has passed: lowers z to k (0: nothing), goes on with the nodes at e.
@@ -35,9 +35,9 @@ pub fn pass_node(w: &mut [u32], r: Registers, z: u32, k: u32, e: u32) -> Registe
         return bind_value(w, r, z, k);
     }
     let u = r.acts;
-    let entry = up(u);
+    let entry = increment(u);
     effect(w, u, z, k, 0, 0, r.trail);
-    on_nodes(on_trail(r, entry), e)
+    with_nodes(with_trail(r, entry), e)
 }
 
 // The lower of two levels.

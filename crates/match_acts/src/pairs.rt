@@ -4,37 +4,37 @@ use goal_acts::goals::proceed;
 use machine::Registers;
 use machine::fields;
 use machine_memory::cells::record_of;
-use machine_memory::registers::on_pairs;
-use machine_memory::words::narrow;
+use machine_memory::registers::with_pairs;
+use machine_memory::words::truncate;
 use machine_memory::words::word_of;
+use memory::field;
 use memory::get;
-use memory::wide;
+use memory::widen;
 use node_table::child;
 use node_table::child_count;
 use sheet_format::limits;
 use sheet_format::limits::NUMBERS_PER_UNIT;
 ghost use mathlib.Core.Path.{_≡_};
 ghost use Prim.Native.Nat.{_+_};
-ghost use Rattle.machine.specs.Matching.{placeWord, pairsFrom, nodesFrom, argumentWord, duePairs};
-use memory::field;
+ghost use Rattle.machine.specs.Matching.{positionWord, pairsFrom, nodesFrom, argumentWord, duePairs};
 ghost use Rattle.memory.specs.Records.{field};
 
 const ARGUMENTS: usize = limits::MAX_ARITY as usize;
 
-// The place of argument i in the record of pointer p, in one number.
-pub fn place_word(p: u32, i: u32) -> u32
-    ensures { λ r. ⌜ r ≡ placeWord p i ⌝ }
+// The position of argument i in the record of pointer p, in one number.
+pub fn position_word(p: u32, i: u32) -> u32
+    ensures { λ r. ⌜ r ≡ positionWord p i ⌝ }
 {
-    narrow(ARGUMENTS * wide(p) + wide(i))
+    truncate(ARGUMENTS * widen(p) + widen(i))
 }
 
-// The place of argument i of the pairs at pointer p, or what comes after them.
+// The position of argument i of the pairs at pointer p, or what comes after them.
 pub fn pairs_from(t: &[u32], w: &[u32], p: u32, i: u32) -> u32
     ensures { λ r. ⌜ r ≡ pairsFrom (now (t .entry)) (now (w .entry)) p i ⌝ }
 {
     let q = record_of(p);
     if i < child_count(t, field(w, q, fields::GOAL_SIDE_NODE)) {
-        return place_word(p, i);
+        return position_word(p, i);
     }
     field(w, q, fields::PAIRS_AFTER)
 }
@@ -45,7 +45,7 @@ pub fn nodes_from(t: &[u32], w: &[u32], p: u32, i: u32) -> u32
 {
     let q = record_of(p);
     if i < child_count(t, field(w, q, fields::WAITING_NODE)) {
-        return place_word(p, i);
+        return position_word(p, i);
     }
     field(w, q, fields::WAITING_AFTER)
 }
@@ -54,10 +54,10 @@ pub fn nodes_from(t: &[u32], w: &[u32], p: u32, i: u32) -> u32
 fn field_after(w: &[u32], u: u32, f: u32) -> u32
     ensures { λ r. ⌜ r ≡ field (now (w .entry)) u (f + 1) ⌝ }
 {
-    get(w, NUMBERS_PER_UNIT * wide(u) + (wide(f) + 1))
+    get(w, NUMBERS_PER_UNIT * widen(u) + (widen(f) + 1))
 }
 
-// The word of the argument at place a; its node is in field f of the record, its frame in the next one.
+// The word of the argument at position a; its node is in field f of the record, its frame in the next one.
 pub fn argument_word(t: &[u32], w: &[u32], a: u32, f: u32) -> u32
     ensures { λ r. ⌜ r ≡ argumentWord (now (t .entry)) (now (w .entry)) a f ⌝ }
 {
@@ -66,12 +66,12 @@ pub fn argument_word(t: &[u32], w: &[u32], a: u32, f: u32) -> u32
     word_of(t, w, node, field_after(w, q, f))
 }
 
-// The pairs at place a are due; where none is left, the next goal.
+// The pairs at position a are due; where none is left, the next goal.
 pub fn due_pairs(w: &[u32], r: Registers, a: u32) -> Registers
     ensures { λ s. ⌜ s ≡ duePairs (now (w .entry)) r a ⌝ }
 {
     if a == 0 {
         return proceed(w, r);
     }
-    on_pairs(r, a)
+    with_pairs(r, a)
 }

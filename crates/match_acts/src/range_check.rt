@@ -8,16 +8,16 @@ use machine::Registers;
 use machine::fields;
 use machine::tags;
 use machine_memory::records::put_nodes;
+use machine_memory::words::deref;
 use machine_memory::words::frame_of;
+use machine_memory::words::increment;
 use machine_memory::words::node_of;
 use machine_memory::words::tag_of;
-use machine_memory::words::up;
 use sheet_format::limits;
 ghost use mathlib.Core.Path.{_≡_};
 ghost use Prim.Native.Nat.{_+_};
 ghost use Rattle.machine.specs.Records.{made};
 ghost use Rattle.machine.specs.Matching.{visitClosure, visitWord, dueWord, nodesAfter, checkNode};
-use machine_memory::words::deref;
 
 // The node is an application: its arguments are looked at, then the nodes at e.
 pub fn visit_closure(t: &[u32], w: &mut [u32], r: Registers, e: u32, x: u32) -> Registers
@@ -25,7 +25,7 @@ pub fn visit_closure(t: &[u32], w: &mut [u32], r: Registers, e: u32, x: u32) -> 
 {
     let u = r.acts;
     put_nodes(w, u, node_of(x), frame_of(x), e);
-    let rest = nodes_from(t, w, up(u), 0);
+    let rest = nodes_from(t, w, increment(u), 0);
     pass_node(w, r, 0, 0, rest)
 }
 
@@ -54,7 +54,7 @@ pub fn due_word(t: &[u32], w: &[u32], r: Registers) -> u32
     argument_word(t, w, a, fields::WAITING_NODE)
 }
 
-// The nodes after the one at place a.
+// The nodes after the one at position a.
 pub fn nodes_after(t: &[u32], w: &[u32], a: u32) -> u32
     ensures { λ e. ⌜ e ≡ nodesAfter (now (t .entry)) (now (w .entry)) a ⌝ }
 {

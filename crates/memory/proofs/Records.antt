@@ -16,22 +16,22 @@ pub length-put : (w : List ℕ) (u f a : ℕ) → length (putField w u f a) ≡ 
 unfolding putField
 length-put w u f a = length-set w (64 * u + f) a
 
--- What was written is read,
+-- What was written is read.
 pub field-same : (w : List ℕ) (u f a : ℕ) → 64 * u + f < length w → field (putField w u f a) u f ≡ a
 unfolding field putField
 field-same w u f a h = getD-set-same w (64 * u + f) a 0 h
 
--- another field stays, of any record,
+-- Another field of any record stays.
 pub field-other : (w : List ℕ) (u f v g a : ℕ) → f < 64 → g < 64 → (g ≡ f → ⊥) → field (putField w u f a) v g ≡ field w v g
 unfolding field putField
 field-other w u f v g a p q n = getD-set-other w (64 * u + f) (64 * v + g) a 0 (λ e. n (omega arith))
 
--- and any field of another record.
+-- Any field of another record stays.
 pub record-other : (w : List ℕ) (u f v g a : ℕ) → f < 64 → g < 64 → (v ≡ u → ⊥) → field (putField w u f a) v g ≡ field w v g
 unfolding field putField
 record-other w u f v g a p q n = getD-set-other w (64 * u + f) (64 * v + g) a 0 (λ e. n (omega arith))
 
--- Two memories that agree at a place agree there after the same write,
+-- Two memories that agree at a position agree there after the same write.
 set-agree : (l m : List ℕ) (i j a : ℕ) → length m ≡ length l → getD m j 0 ≡ getD l j 0 → getD (set m i a) j 0 ≡ getD (set l i a) j 0
 set-agree l m i j a e h = go (eqb j i) refl (ltb i (length l)) refl
   where
@@ -42,7 +42,7 @@ set-agree l m i j a e h = go (eqb j i) refl (ltb i (length l)) refl
     go true p false q = let z = ltb-false i (length l) q in rw (set-out m i a (omega arith), set-out l i a z) h
     go false p c q = rw (getD-set-other m i j a 0 (eqb-false j i p), getD-set-other l i j a 0 (eqb-false j i p)) h
 
--- and so they do at a field.
+-- Two memories that agree at a field agree there after the same write.
 pub field-agree : (w w′ : List ℕ) (u f a v g : ℕ) → length w′ ≡ length w → field w′ v g ≡ field w v g
     → field (putField w′ u f a) v g ≡ field (putField w u f a) v g
 unfolding field putField
@@ -57,7 +57,7 @@ unfoldable pub puts : List ℕ → List ℕ → ℕ → ℕ → List ℕ
 puts [] w u f = w
 puts (a ∷ l) w u f = puts l (putField w u f a) u (suc f)
 
--- Fields before and after them stay,
+-- Fields before and after them stay.
 pub puts-out : (l w : List ℕ) (u f v g : ℕ) → f + length l ≤ 64 → g < 64 → (g < f ⊎ f + length l ≤ g)
     → field (puts l w u f) v g ≡ field w v g
 unfolding puts
@@ -69,7 +69,7 @@ puts-out (a ∷ l) w u f v g h k (inr o) =
     puts-out l (putField w u f a) u (suc f) v g (omega arith) k (inr (omega arith))
     ∙ field-other w u f v g a (omega arith) k (λ e. omega arith)
 
--- each of them is read as it was written,
+-- Each of them is read as it was written.
 pub puts-at : (l w : List ℕ) (u f i : ℕ) → f + length l ≤ 64 → 64 * u + 63 < length w → i < length l
     → field (puts l w u f) u (f + i) ≡ getD l i 0
 unfolding puts
@@ -82,7 +82,7 @@ puts-at (a ∷ l) w u f (suc i) h k o =
     let m = length-put w u f a in
     rw e (puts-at l (putField w u f a) u (suc f) i (omega arith) (omega arith) (omega arith))
 
--- and the length stays.
+-- The length stays.
 pub length-puts : (l w : List ℕ) (u f : ℕ) → length (puts l w u f) ≡ length w
 unfolding puts
 length-puts [] w u f = refl

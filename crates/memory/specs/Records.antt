@@ -4,9 +4,14 @@ use Prim.Native.Nat.{ℕ, _+_, _*_}
 use mathlib.Core.List.{List}
 use lib.ListN.{getD, set}
 
+-- How many numbers a record has.
+abbrev pub recordNumbers : ℕ
+recordNumbers = 64
+
 -- Field f of record u.
 unfoldable pub field : List ℕ → ℕ → ℕ → ℕ
-field w u f = getD w (64 * u + f) 0
+field w u f = getD w (recordNumbers * u + f) 0
 
+-- Another number in that field.
 unfoldable pub putField : List ℕ → ℕ → ℕ → ℕ → List ℕ
-putField w u f a = set w (64 * u + f) a
+putField w u f a = set w (recordNumbers * u + f) a

@@ -6,6 +6,9 @@ ghost use mathlib.Core.List.{_++_};
 ghost use lib.ListN.{length, getD, set, drop, replicate};
 ghost use Rattle.memory.specs.Records.{field, putField};
 
+// How many numbers a record has (specs/Records.antt).
+pub const RECORD_NUMBERS: usize = 64;
+
 pub fn get(w: &[u32], i: usize) -> u32
     ensures { λ r. ⌜ r ≡ getD (now (w .entry)) i 0 ⌝ }
 {
@@ -33,7 +36,7 @@ pub fn byte(s: &[u8], i: usize) -> u8
 }
 
 // A number of 32 bits as an index. The bound is for callers: a loop's variable has no range of its own.
-pub fn wide(x: u32) -> usize
+pub fn widen(x: u32) -> usize
     ensures { λ r. ⌜ (r ≡ x) × (r < 4294967296) ⌝ }
 {
     x as usize
@@ -43,13 +46,13 @@ pub fn wide(x: u32) -> usize
 pub fn field(w: &[u32], u: u32, f: u32) -> u32
     ensures { λ r. ⌜ r ≡ field (now (w .entry)) u f ⌝ }
 {
-    get(w, 64 * wide(u) + wide(f))
+    get(w, RECORD_NUMBERS * widen(u) + widen(f))
 }
 
 pub fn put_field(w: &mut [u32], u: u32, f: u32, a: u32)
     ensures { λ _. ⌜ now (w .exit) ≡ putField (now (w .entry)) u f a ⌝ }
 {
-    put(w, 64 * wide(u) + wide(f), a);
+    put(w, RECORD_NUMBERS * widen(u) + widen(f), a);
 }
 
 // The first n numbers become 0; the rest stay.

@@ -9,7 +9,8 @@ use lib.Dec.{eqb}
 use borrow.Author.Tests.{eqb-true, eqb-false}
 use Rattle.terms.specs.Terms.{Term, leaf, app, cons}
 use Rattle.formulas.specs.Formulas.{Goal, atom, truth, and, or, implies, exists, forall, fact, rule, both, each}
-use Rattle.node_table.specs.Layout.{kindOf, childCount, labelOf, childOf, forallKind, impliesKind, andKind, atomKind, existsKind, orKind, trueKind, applicationKind, variableKind}
+use Rattle.node_table.specs.Layout.{kindOf, childCount, labelOf, childOf, forallKind, impliesKind, andKind, atomKind, existsKind}
+use Rattle.node_table.specs.Layout.{orKind, trueKind, applicationKind, variableKind}
 use Rattle.node_table.specs.Decoding.{childrenBy, termBy, termAt, argumentsAt, goalBy, clauseBy, goalAt, clauseAtNode}
 use Rattle.node_table.specs.WellMade.{IsTerm, IsGoal, IsClause, Arguments, TermNode, GoalNode, ClauseNode, WellMade}
 use Rattle.node_table.proofs.Same.{Same, same-self, same-kind, same-count, same-label, same-child}
@@ -39,7 +40,7 @@ pub data ClauseKind (k : ℕ) : Type 0 where
   rule-kind : k ≡ 6 → ClauseKind k
   each-kind : k ≡ 8 → ClauseKind k
 
--- equal, or not
+-- Two numbers are equal, or they are not.
 decided : (R : Type 0) (k j : ℕ) → (k ≡ j → R) → ((k ≡ j → ⊥) → R) → R
 decided R k j f g = go (eqb k j) refl
   where
@@ -65,7 +66,8 @@ module _ (f : ℕ) (t : List ℕ) (n : ℕ) where
   unfolding termBy
   termBy-variable e = rw (termBy, e)
 
-  pub termBy-application : kindOf t n ≡ applicationKind → termBy (suc f) t n ≡ app (labelOf t n) (childrenBy (termBy f t) t n (childCount t n) 0)
+  pub termBy-application : kindOf t n ≡ applicationKind
+      → termBy (suc f) t n ≡ app (labelOf t n) (childrenBy (termBy f t) t n (childCount t n) 0)
   unfolding termBy
   termBy-application e = rw (termBy, e)
 
@@ -116,14 +118,16 @@ module _ (f : ℕ) (t : List ℕ) (n : ℕ) where
 
 -- two tables that are the same below `nodes`, and any two fuels
 
--- children that are read alike
-children-agree : (r s : ℕ → Term ℕ) (t u : List ℕ) (n c j : ℕ) → ((i : ℕ) → j ≤ i → i < j + c → r (childOf u n i) ≡ s (childOf t n i)) → childrenBy r u n c j ≡ childrenBy s t n c j
+-- Children that are read alike make equal lists.
+children-agree : (r s : ℕ → Term ℕ) (t u : List ℕ) (n c j : ℕ) → ((i : ℕ) → j ≤ i → i < j + c → r (childOf u n i) ≡ s (childOf t n i))
+    → childrenBy r u n c j ≡ childrenBy s t n c j
 unfolding childrenBy
 children-agree r s t u n zero j h = refl
-children-agree r s t u n (suc c) j h = ap₂ cons (h j (omega arith) (omega arith)) (children-agree r s t u n c (suc j) (λ i k l. h i (omega arith) (omega arith)))
+children-agree r s t u n (suc c) j h =
+    ap₂ cons (h j (omega arith) (omega arith)) (children-agree r s t u n c (suc j) (λ i k l. h i (omega arith) (omega arith)))
 
 module _ (t u : List ℕ) (symbols nodes : ℕ) (same : Same t u symbols nodes) where
-  -- the arguments of a node, where the children are read alike
+  -- A node has the same arguments in both tables, where the children are read alike.
   arguments-agree : (r s : ℕ → Term ℕ) (n : ℕ) → n < nodes → Arguments t n → ((i : ℕ) → i < n → IsTerm t i → r i ≡ s i)
       → childrenBy r u n (childCount u n) 0 ≡ childrenBy s t n (childCount t n) 0
   arguments-agree r s n h a k =
@@ -136,7 +140,8 @@ module _ (t u : List ℕ) (symbols nodes : ℕ) (same : Same t u symbols nodes) 
           ap r (same-child t u symbols nodes same n h i (omega arith)) ∙ k (childOf t n i) (a .terms i l .0) (a .terms i l .1)
 
   module _ (made : Nodes t nodes) where
-    term-step : (f g n : ℕ) → n < nodes → IsTerm t n → ((i : ℕ) → i < n → IsTerm t i → termBy f u i ≡ termBy g t i) → termBy (suc f) u n ≡ termBy (suc g) t n
+    term-step : (f g n : ℕ) → n < nodes → IsTerm t n → ((i : ℕ) → i < n → IsTerm t i → termBy f u i ≡ termBy g t i)
+        → termBy (suc f) u n ≡ termBy (suc g) t n
     term-step f g n h i ih =
         let e = same-kind t u symbols nodes same n h in
         let l = same-label t u symbols nodes same n h in
@@ -146,7 +151,8 @@ module _ (t u : List ℕ) (symbols nodes : ℕ) (same : Same t u symbols nodes) 
         (λ z. termBy-variable f u n (e ∙ z) ∙ ap leaf l ∙ sym (termBy-variable g t n z))
         (λ z.
         let y : kindOf t n ≡ applicationKind = omega arith in
-        termBy-application f u n (e ∙ y) ∙ ap₂ app l (arguments-agree (termBy f u) (termBy g t) n h (m .application y) ih) ∙ sym (termBy-application g t n y))
+        termBy-application f u n (e ∙ y) ∙ ap₂ app l (arguments-agree (termBy f u) (termBy g t) n h (m .application y) ih)
+        ∙ sym (termBy-application g t n y))
 
     pub term-agree : (f g n : ℕ) → n < f → n < g → n < nodes → IsTerm t n → termBy f u n ≡ termBy g t n
     term-agree zero g n j k h i = absurd (omega arith)
@@ -163,11 +169,12 @@ module _ (t u : List ℕ) (symbols nodes : ℕ) (same : Same t u symbols nodes) 
 
     module _ (f g n : ℕ) (h : n < nodes) (ihG : (i : ℕ) → i < n → IsGoal t i → goalBy f u i ≡ goalBy g t i)
         (ihC : (i : ℕ) → i < n → IsClause t i → clauseBy f u i ≡ clauseBy g t i) where
-      -- a child that is a goal, or a clause
+      -- A child that is a goal, or a clause, is read alike in both tables.
       goal-child : (j : ℕ) → j < 4 → childOf t n j < n → IsGoal t (childOf t n j) → goalBy f u (childOf u n j) ≡ goalBy g t (childOf t n j)
       goal-child j l k i = ap (goalBy f u) (same-child t u symbols nodes same n h j l) ∙ ihG (childOf t n j) k i
 
-      clause-child : (j : ℕ) → j < 4 → childOf t n j < n → IsClause t (childOf t n j) → clauseBy f u (childOf u n j) ≡ clauseBy g t (childOf t n j)
+      clause-child : (j : ℕ) → j < 4 → childOf t n j < n → IsClause t (childOf t n j)
+          → clauseBy f u (childOf u n j) ≡ clauseBy g t (childOf t n j)
       clause-child j l k i = ap (clauseBy f u) (same-child t u symbols nodes same n h j l) ∙ ihC (childOf t n j) k i
 
       goal-step : IsGoal t n → goalBy (suc f) u n ≡ goalBy (suc g) t n
@@ -175,28 +182,39 @@ module _ (t u : List ℕ) (symbols nodes : ℕ) (same : Same t u symbols nodes) 
           let m = made .goal n h i in
           go m (same-kind t u symbols nodes same n h) (same-label t u symbols nodes same n h) (goal-kind (kindOf t n) (m .least) (m .most))
         where
-          go : GoalNode t n → kindOf u n ≡ kindOf t n → labelOf u n ≡ labelOf t n → GoalKind (kindOf t n) → goalBy (suc f) u n ≡ goalBy (suc g) t n
+          go : GoalNode t n → kindOf u n ≡ kindOf t n → labelOf u n ≡ labelOf t n → GoalKind (kindOf t n)
+              → goalBy (suc f) u n ≡ goalBy (suc g) t n
           go m e l (atom-kind k) = goalBy-atom f u n (e ∙ k) ∙ ap₂ atom l (argumentsAt-same n h (m .atom k)) ∙ sym (goalBy-atom g t n k)
           go m e l (true-kind k) = goalBy-true f u n (e ∙ k) ∙ sym (goalBy-true g t n k)
           go m e l (and-kind k) =
               let a = m .and k in
-              goalBy-and f u n (e ∙ k) ∙ ap₂ and (goal-child 0 (omega arith) (a .0) (a .1)) (goal-child 1 (omega arith) (a .2) (a .3)) ∙ sym (goalBy-and g t n k)
+              goalBy-and f u n (e ∙ k) ∙ ap₂ and (goal-child 0 (omega arith) (a .0) (a .1)) (goal-child 1 (omega arith) (a .2) (a .3))
+              ∙ sym (goalBy-and g t n k)
           go m e l (or-kind k) =
               let a = m .or k in
-              goalBy-or f u n (e ∙ k) ∙ ap₂ or (goal-child 0 (omega arith) (a .0) (a .1)) (goal-child 1 (omega arith) (a .2) (a .3)) ∙ sym (goalBy-or g t n k)
+              goalBy-or f u n (e ∙ k) ∙ ap₂ or (goal-child 0 (omega arith) (a .0) (a .1)) (goal-child 1 (omega arith) (a .2) (a .3))
+              ∙ sym (goalBy-or g t n k)
           go m e l (implies-kind k) =
               let a = m .implies k in
-              goalBy-implies f u n (e ∙ k) ∙ ap₂ implies (clause-child 0 (omega arith) (a .0) (a .1)) (goal-child 1 (omega arith) (a .2) (a .3)) ∙ sym (goalBy-implies g t n k)
-          go m e l (exists-kind k) = let a = m .exists k in goalBy-exists f u n (e ∙ k) ∙ ap₂ exists l (goal-child 0 (omega arith) (a .1) (a .2)) ∙ sym (goalBy-exists g t n k)
-          go m e l (forall-kind k) = let a = m .forall k in goalBy-forall f u n (e ∙ k) ∙ ap₂ forall l (goal-child 0 (omega arith) (a .1) (a .2)) ∙ sym (goalBy-forall g t n k)
+              goalBy-implies f u n (e ∙ k) ∙ ap₂ implies (clause-child 0 (omega arith) (a .0) (a .1))
+              (goal-child 1 (omega arith) (a .2) (a .3)) ∙ sym (goalBy-implies g t n k)
+          go m e l (exists-kind k) =
+              let a = m .exists k in goalBy-exists f u n (e ∙ k) ∙ ap₂ exists l (goal-child 0 (omega arith) (a .1) (a .2))
+              ∙ sym (goalBy-exists g t n k)
+          go m e l (forall-kind k) =
+              let a = m .forall k in goalBy-forall f u n (e ∙ k) ∙ ap₂ forall l (goal-child 0 (omega arith) (a .1) (a .2))
+              ∙ sym (goalBy-forall g t n k)
 
-      -- the head of a rule
+      -- The head of a rule is read alike in both tables.
       head-agree : childOf t n 1 < n → Arguments t (childOf t n 1) → (goal goal′ : Goal) → goal ≡ goal′
-          → rule goal (labelOf u (childOf u n 1)) (argumentsAt u (childOf u n 1)) ≡ rule goal′ (labelOf t (childOf t n 1)) (argumentsAt t (childOf t n 1))
+          → rule goal (labelOf u (childOf u n 1)) (argumentsAt u (childOf u n 1)) ≡ rule goal′ (labelOf t (childOf t n 1))
+          (argumentsAt t (childOf t n 1))
       head-agree k a x y q =
           let d = same-child t u symbols nodes same n h 1 (omega arith) in
-          let v : labelOf u (childOf u n 1) ≡ labelOf t (childOf t n 1) = ap (labelOf u) d ∙ same-label t u symbols nodes same (childOf t n 1) (omega arith) in
-          let w : argumentsAt u (childOf u n 1) ≡ argumentsAt t (childOf t n 1) = ap (argumentsAt u) d ∙ argumentsAt-same (childOf t n 1) (omega arith) a in
+          let v : labelOf u (childOf u n 1) ≡ labelOf t (childOf t n 1) = ap (labelOf u) d
+          ∙ same-label t u symbols nodes same (childOf t n 1) (omega arith) in
+          let w : argumentsAt u (childOf u n 1) ≡ argumentsAt t (childOf t n 1) = ap (argumentsAt u) d
+          ∙ argumentsAt-same (childOf t n 1) (omega arith) a in
           cc
 
       clause-step : IsClause t n → clauseBy (suc f) u n ≡ clauseBy (suc g) t n
@@ -204,17 +222,22 @@ module _ (t u : List ℕ) (symbols nodes : ℕ) (same : Same t u symbols nodes) 
           let m = made .clause n h i in
           go m (same-kind t u symbols nodes same n h) (same-label t u symbols nodes same n h) (clause-kind (kindOf t n) (m .kind))
         where
-          go : ClauseNode t n → kindOf u n ≡ kindOf t n → labelOf u n ≡ labelOf t n → ClauseKind (kindOf t n) → clauseBy (suc f) u n ≡ clauseBy (suc g) t n
+          go : ClauseNode t n → kindOf u n ≡ kindOf t n → labelOf u n ≡ labelOf t n → ClauseKind (kindOf t n)
+              → clauseBy (suc f) u n ≡ clauseBy (suc g) t n
           go m e l (fact-kind k) = clauseBy-fact f u n (e ∙ k) ∙ ap₂ fact l (argumentsAt-same n h (m .atom k)) ∙ sym (clauseBy-fact g t n k)
           go m e l (both-kind k) =
               let a = m .and k in
-              clauseBy-both f u n (e ∙ k) ∙ ap₂ both (clause-child 0 (omega arith) (a .0) (a .1)) (clause-child 1 (omega arith) (a .2) (a .3)) ∙ sym (clauseBy-both g t n k)
+              clauseBy-both f u n (e ∙ k) ∙ ap₂ both (clause-child 0 (omega arith) (a .0) (a .1))
+              (clause-child 1 (omega arith) (a .2) (a .3)) ∙ sym (clauseBy-both g t n k)
           go m e l (rule-kind k) =
               let a = m .implies k in
               clauseBy-rule f u n (e ∙ k)
-              ∙ head-agree (a .2) (a .4) (goalBy f u (childOf u n 0)) (goalBy g t (childOf t n 0)) (goal-child 0 (omega arith) (a .0) (a .1))
+              ∙ head-agree (a .2) (a .4) (goalBy f u (childOf u n 0)) (goalBy g t (childOf t n 0))
+              (goal-child 0 (omega arith) (a .0) (a .1))
               ∙ sym (clauseBy-rule g t n k)
-          go m e l (each-kind k) = let a = m .each k in clauseBy-each f u n (e ∙ k) ∙ ap₂ each l (clause-child 0 (omega arith) (a .1) (a .2)) ∙ sym (clauseBy-each g t n k)
+          go m e l (each-kind k) =
+              let a = m .each k in clauseBy-each f u n (e ∙ k) ∙ ap₂ each l (clause-child 0 (omega arith) (a .1) (a .2))
+              ∙ sym (clauseBy-each g t n k)
 
     mutual
       pub goal-agree : (f g n : ℕ) → n < f → n < g → n < nodes → IsGoal t n → goalBy f u n ≡ goalBy g t n
@@ -242,7 +265,7 @@ module _ (t u : List ℕ) (symbols nodes : ℕ) (same : Same t u symbols nodes) 
 -- trees by kind
 
 module _ (t : List ℕ) (nodes : ℕ) (made : Nodes t nodes) (n : ℕ) (h : n < nodes) where
-  -- a child's tree, at the fuel that its parent has left
+  -- A child has its tree at the fuel that its parent has left.
   term-below : (i : ℕ) → i < n → IsTerm t i → termBy n t i ≡ termAt t i
   unfolding termAt
   term-below i l q = term-agree t t 0 nodes (same-self t 0 nodes) made n (suc i) i l (omega arith) (omega arith) q
@@ -263,7 +286,8 @@ module _ (t : List ℕ) (nodes : ℕ) (made : Nodes t nodes) (n : ℕ) (h : n < 
   unfolding termAt argumentsAt
   term-application i e =
       termBy-application n t n e
-      ∙ ap (app (labelOf t n)) (arguments-agree t t 0 nodes (same-self t 0 nodes) (termBy n t) (termAt t) n h (made .term n h i .application e) term-below)
+      ∙ ap (app (labelOf t n)) (arguments-agree t t 0 nodes (same-self t 0 nodes) (termBy n t) (termAt t) n h
+      (made .term n h i .application e) term-below)
 
   pub goal-atom : kindOf t n ≡ atomKind → goalAt t n ≡ atom (labelOf t n) (argumentsAt t n)
   unfolding goalAt
@@ -285,7 +309,8 @@ module _ (t : List ℕ) (nodes : ℕ) (made : Nodes t nodes) (n : ℕ) (h : n < 
       let a = made .goal n h i .or e in
       goalBy-or n t n e ∙ ap₂ or (goal-below (childOf t n 0) (a .0) (a .1)) (goal-below (childOf t n 1) (a .2) (a .3))
 
-  pub goal-implies : IsGoal t n → kindOf t n ≡ impliesKind → goalAt t n ≡ implies (clauseAtNode t (childOf t n 0)) (goalAt t (childOf t n 1))
+  pub goal-implies : IsGoal t n → kindOf t n ≡ impliesKind
+      → goalAt t n ≡ implies (clauseAtNode t (childOf t n 0)) (goalAt t (childOf t n 1))
   unfolding goalAt
   goal-implies i e =
       let a = made .goal n h i .implies e in
@@ -293,17 +318,20 @@ module _ (t : List ℕ) (nodes : ℕ) (made : Nodes t nodes) (n : ℕ) (h : n < 
 
   pub goal-exists : IsGoal t n → kindOf t n ≡ existsKind → goalAt t n ≡ exists (labelOf t n) (goalAt t (childOf t n 0))
   unfolding goalAt
-  goal-exists i e = let a = made .goal n h i .exists e in goalBy-exists n t n e ∙ ap (exists (labelOf t n)) (goal-below (childOf t n 0) (a .1) (a .2))
+  goal-exists i e =
+      let a = made .goal n h i .exists e in goalBy-exists n t n e ∙ ap (exists (labelOf t n)) (goal-below (childOf t n 0) (a .1) (a .2))
 
   pub goal-forall : IsGoal t n → kindOf t n ≡ forallKind → goalAt t n ≡ forall (labelOf t n) (goalAt t (childOf t n 0))
   unfolding goalAt
-  goal-forall i e = let a = made .goal n h i .forall e in goalBy-forall n t n e ∙ ap (forall (labelOf t n)) (goal-below (childOf t n 0) (a .1) (a .2))
+  goal-forall i e =
+      let a = made .goal n h i .forall e in goalBy-forall n t n e ∙ ap (forall (labelOf t n)) (goal-below (childOf t n 0) (a .1) (a .2))
 
   pub clause-fact : kindOf t n ≡ atomKind → clauseAtNode t n ≡ fact (labelOf t n) (argumentsAt t n)
   unfolding clauseAtNode
   clause-fact e = clauseBy-fact n t n e
 
-  pub clause-both : IsClause t n → kindOf t n ≡ andKind → clauseAtNode t n ≡ both (clauseAtNode t (childOf t n 0)) (clauseAtNode t (childOf t n 1))
+  pub clause-both : IsClause t n → kindOf t n ≡ andKind
+      → clauseAtNode t n ≡ both (clauseAtNode t (childOf t n 0)) (clauseAtNode t (childOf t n 1))
   unfolding clauseAtNode
   clause-both i e =
       let a = made .clause n h i .and e in
@@ -319,4 +347,5 @@ module _ (t : List ℕ) (nodes : ℕ) (made : Nodes t nodes) (n : ℕ) (h : n < 
 
   pub clause-each : IsClause t n → kindOf t n ≡ forallKind → clauseAtNode t n ≡ each (labelOf t n) (clauseAtNode t (childOf t n 0))
   unfolding clauseAtNode
-  clause-each i e = let a = made .clause n h i .each e in clauseBy-each n t n e ∙ ap (each (labelOf t n)) (clause-below (childOf t n 0) (a .1) (a .2))
+  clause-each i e =
+      let a = made .clause n h i .each e in clauseBy-each n t n e ∙ ap (each (labelOf t n)) (clause-below (childOf t n 0) (a .1) (a .2))

@@ -12,11 +12,12 @@ use Rattle.formulas.specs.Members.{members}
 use Rattle.node_table.specs.Layout.{kindOf, labelOf, childOf, maskOf, bitOf, membersOf, arityOf, atomKind, applicationKind}
 use Rattle.node_table.specs.Decoding.{termAt, goalAt, clauseAtNode}
 use Rattle.node_table.specs.WellMade.{IsTerm, IsGoal, IsClause, Arguments, TermNode, GoalNode, ClauseNode}
-use Rattle.node_table.proofs.Same.{Same, same-kind, same-count, same-label, same-child, same-mask, same-goal, same-members, same-size, same-arity}
+use Rattle.node_table.proofs.Same.{Same, same-kind, same-count, same-label, same-child, same-mask, same-goal, same-members}
+use Rattle.node_table.proofs.Same.{same-size, same-arity}
 use Rattle.node_table.proofs.Decoding.{Nodes, termAt-same, goalAt-same, clauseAt-same}
 
 module _ (t u : List ℕ) (symbols nodes : ℕ) (s : Same t u symbols nodes) where
-  -- being a term, a goal, a clause
+  -- A node is a term, a goal or a clause in one table if it is one in the other.
   pub is-term-same : (n : ℕ) → n < nodes → IsTerm t n → IsTerm u n
   is-term-same n h i = let e = same-size t u symbols nodes s n h in omega arith
 
@@ -36,18 +37,21 @@ module _ (t u : List ℕ) (symbols nodes : ℕ) (s : Same t u symbols nodes) whe
   is-clause-back n h i = let e = same-members t u symbols nodes s n h in omega arith
 
   module _ (n : ℕ) (h : n < nodes) where
-    -- a child that comes before its node and is a term, a goal, a clause
+    -- A child that comes before its node and is a term is so in the other table.
     term-child : (j : ℕ) → j < 4 → (childOf t n j < n) × IsTerm t (childOf t n j) → (childOf u n j < n) × IsTerm u (childOf u n j)
     term-child j l p =
-        subst (λ (c : ℕ). (c < n) × IsTerm u c) (sym (same-child t u symbols nodes s n h j l)) (p .0, is-term-same (childOf t n j) (omega arith) (p .1))
+        subst (λ (c : ℕ). (c < n) × IsTerm u c) (sym (same-child t u symbols nodes s n h j l))
+        (p .0, is-term-same (childOf t n j) (omega arith) (p .1))
 
     goal-child : (j : ℕ) → j < 4 → childOf t n j < n → IsGoal t (childOf t n j) → (childOf u n j < n) × IsGoal u (childOf u n j)
     goal-child j l p q =
-        subst (λ (c : ℕ). (c < n) × IsGoal u c) (sym (same-child t u symbols nodes s n h j l)) (p, is-goal-same (childOf t n j) (omega arith) q)
+        subst (λ (c : ℕ). (c < n) × IsGoal u c) (sym (same-child t u symbols nodes s n h j l))
+        (p, is-goal-same (childOf t n j) (omega arith) q)
 
     clause-child : (j : ℕ) → j < 4 → childOf t n j < n → IsClause t (childOf t n j) → (childOf u n j < n) × IsClause u (childOf u n j)
     clause-child j l p q =
-        subst (λ (c : ℕ). (c < n) × IsClause u c) (sym (same-child t u symbols nodes s n h j l)) (p, is-clause-same (childOf t n j) (omega arith) q)
+        subst (λ (c : ℕ). (c < n) × IsClause u c) (sym (same-child t u symbols nodes s n h j l))
+        (p, is-clause-same (childOf t n j) (omega arith) q)
 
     pub arguments-same : labelOf t n < symbols → Arguments t n → Arguments u n
     arguments-same l a =
@@ -62,8 +66,9 @@ module _ (t u : List ℕ) (symbols nodes : ℕ) (s : Same t u symbols nodes) whe
           terms = λ j k. term-child j (omega arith) (a .terms j (omega arith));
         }
 
-  module _ (made : Nodes t nodes) (named : (n : ℕ) → n < nodes → applicationKind ≤ kindOf t n → kindOf t n ≤ atomKind → labelOf t n < symbols) where
-    -- the arguments of an older node
+  module _ (made : Nodes t nodes) (named : (n : ℕ) → n < nodes → applicationKind ≤ kindOf t n → kindOf t n ≤ atomKind
+      → labelOf t n < symbols) where
+    -- An older node has its arguments in the other table.
     older : (n : ℕ) → n < nodes → (k : ℕ) → kindOf t n ≡ k → 1 ≤ k → k ≤ 2 → Arguments t n → Arguments u n
     older n h k e l m a = arguments-same n h (named n h (omega arith) (omega arith)) a
 
@@ -99,18 +104,26 @@ module _ (t u : List ℕ) (symbols nodes : ℕ) (s : Same t u symbols nodes) whe
           most = omega arith;
           atom = λ k. older n h 2 (sym e ∙ k) (omega arith) (omega arith) (m .atom (sym e ∙ k));
           and = λ k. let a = m .and (sym e ∙ k) in
-              let x = goal-child n h 0 (omega arith) (a .0) (a .1) in let y = goal-child n h 1 (omega arith) (a .2) (a .3) in (x .0, x .1, y .0, y .1);
+              let x = goal-child n h 0 (omega arith) (a .0) (a .1) in let y = goal-child n h 1 (omega arith) (a .2) (a .3) in
+              (x .0, x .1, y .0, y .1);
           or = λ k. let a = m .or (sym e ∙ k) in
-              let x = goal-child n h 0 (omega arith) (a .0) (a .1) in let y = goal-child n h 1 (omega arith) (a .2) (a .3) in (x .0, x .1, y .0, y .1);
+              let x = goal-child n h 0 (omega arith) (a .0) (a .1) in let y = goal-child n h 1 (omega arith) (a .2) (a .3) in
+              (x .0, x .1, y .0, y .1);
           implies = λ k. let a = m .implies (sym e ∙ k) in
-              let x = clause-child n h 0 (omega arith) (a .0) (a .1) in let y = goal-child n h 1 (omega arith) (a .2) (a .3) in (x .0, x .1, y .0, y .1);
-          exists = λ k. let a = m .exists (sym e ∙ k) in let x = goal-child n h 0 (omega arith) (a .1) (a .2) in (subst (λ (x : ℕ). x < 8) (sym l) (a .0), x .0, x .1);
-          forall = λ k. let a = m .forall (sym e ∙ k) in let x = goal-child n h 0 (omega arith) (a .1) (a .2) in (subst (λ (x : ℕ). x < 8) (sym l) (a .0), x .0, x .1);
+              let x = clause-child n h 0 (omega arith) (a .0) (a .1) in let y = goal-child n h 1 (omega arith) (a .2) (a .3) in
+              (x .0, x .1, y .0, y .1);
+          exists =
+              λ k. let a = m .exists (sym e ∙ k) in let x = goal-child n h 0 (omega arith) (a .1) (a .2) in
+              (subst (λ (x : ℕ). x < 8) (sym l) (a .0), x .0, x .1);
+          forall =
+              λ k. let a = m .forall (sym e ∙ k) in let x = goal-child n h 0 (omega arith) (a .1) (a .2) in
+              (subst (λ (x : ℕ). x < 8) (sym l) (a .0), x .0, x .1);
           free = free-same n h (freeG (goalAt t n)) (freeG (goalAt u n)) (m .free) (λ v. ap (λ (x : Goal). freeG x v) tree);
         }
 
     members-child : (n : ℕ) → n < nodes → (j : ℕ) → j < 4 → childOf t n j < n → membersOf u (childOf u n j) ≡ membersOf t (childOf t n j)
-    members-child n h j l k = ap (membersOf u) (same-child t u symbols nodes s n h j l) ∙ same-members t u symbols nodes s (childOf t n j) (omega arith)
+    members-child n h j l k =
+        ap (membersOf u) (same-child t u symbols nodes s n h j l) ∙ same-members t u symbols nodes s (childOf t n j) (omega arith)
 
     pub clause-same : (n : ℕ) → n < nodes → IsClause t n → ClauseNode u n
     clause-same n h i =
@@ -124,15 +137,26 @@ module _ (t u : List ℕ) (symbols nodes : ℕ) (s : Same t u symbols nodes) whe
           kind = λ p q r. e ∙ m .kind (λ k. p (e ∙ k)) (λ k. q (e ∙ k)) (λ k. r (e ∙ k));
           atom = λ k. older n h 2 (sym e ∙ k) (omega arith) (omega arith) (m .atom (sym e ∙ k));
           and = λ k. let a = m .and (sym e ∙ k) in
-              let x = clause-child n h 0 (omega arith) (a .0) (a .1) in let y = clause-child n h 1 (omega arith) (a .2) (a .3) in
-              (x .0, x .1, y .0, y .1, c ∙ a .4 ∙ sym (ap₂ _+_ (members-child n h 0 (omega arith) (a .0)) (members-child n h 1 (omega arith) (a .2))));
+              let x = clause-child n h 0 (omega arith) (a .0) (a .1) in let y = clause-child n h 1 (omega arith) (a .2) (a .3) in (
+                x .0,
+                x .1,
+                y .0,
+                y .1,
+                c ∙ a .4
+                    ∙ sym (ap₂ _+_ (members-child n h 0 (omega arith) (a .0)) (members-child n h 1 (omega arith) (a .2))),
+              );
           implies = λ k. let a = m .implies (sym e ∙ k) in
               let x = goal-child n h 0 (omega arith) (a .0) (a .1) in
               let d = same-child t u symbols nodes s n h 1 (omega arith) in
               let b = a .2 in
               let f : kindOf u (childOf t n 1) ≡ atomKind = same-kind t u symbols nodes s (childOf t n 1) (omega arith) ∙ a .3 in
-              let g : Arguments u (childOf t n 1) = older (childOf t n 1) (omega arith) 2 (a .3) (omega arith) (omega arith) (a .4) in
-              (x .0, x .1, subst (λ (i : ℕ). i < n) (sym d) b, subst (λ (i : ℕ). kindOf u i ≡ atomKind) (sym d) f, subst (λ (i : ℕ). Arguments u i) (sym d) g);
+              let g : Arguments u (childOf t n 1) = older (childOf t n 1) (omega arith) 2 (a .3) (omega arith) (omega arith) (a .4) in (
+                x .0,
+                x .1,
+                subst (λ (i : ℕ). i < n) (sym d) b,
+                subst (λ (i : ℕ). kindOf u i ≡ atomKind) (sym d) f,
+                subst (λ (i : ℕ). Arguments u i) (sym d) g,
+              );
           each = λ k. let a = m .each (sym e ∙ k) in
               let x = clause-child n h 0 (omega arith) (a .1) (a .2) in
               (subst (λ (x : ℕ). x < 8) (sym l) (a .0), x .0, x .1, c ∙ a .3 ∙ sym (members-child n h 0 (omega arith) (a .1)));

@@ -4,13 +4,14 @@ use native.Mathlib.Omega.{arith}
 use mathlib.Core.Path.{_≡_, refl, ap}
 use mathlib.Core.List.{List}
 use lib.ListN.{getD}
-use Rattle.node_table.specs.Layout.{symbolAt, nodeAt, kindOf, childCount, labelOf, childOf, infoOf, maskOf, goalBit, membersOf, sizeOf, nameStart, nameLength, isFunctionBit, arityOf}
+use Rattle.node_table.specs.Layout.{symbolAt, nodeAt, kindOf, childCount, labelOf, childOf, infoOf, maskOf, goalBit, membersOf}
+use Rattle.node_table.specs.Layout.{sizeOf, nameStart, nameLength, isFunctionBit, arityOf}
 
 pub record Same (t u : List ℕ) (symbols nodes : ℕ) : Type 0 where
   pub symbol : (i f : ℕ) → i < symbols → f < 3 → getD u (symbolAt i f) 0 ≡ getD t (symbolAt i f) 0
   pub node : (n f : ℕ) → n < nodes → f < 7 → getD u (nodeAt n f) 0 ≡ getD t (nodeAt n f) 0
 
--- a table is the same as itself
+-- A table is the same as itself.
 pub same-self : (t : List ℕ) (symbols nodes : ℕ) → Same t t symbols nodes
 same-self t symbols nodes = record { symbol = λ i f h k. refl; node = λ n f h k. refl }
 

@@ -8,7 +8,8 @@ use Rattle.terms.specs.Terms.{Term, leaf, app, Terms, nil, cons}
 use Rattle.formulas.specs.Formulas.{Goal, atom, truth, and, or, implies, exists, forall, Clause, fact, rule, both, each}
 use Rattle.sheet_format.specs.Nodes.{Declaration}
 use Rattle.sheet_format.specs.Sheets.{Sheet}
-use Rattle.node_table.specs.Layout.{kindOf, childCount, labelOf, childOf, isFunctionBit, nameStart, nameLength, arityOf, clauseNode, forallKind, impliesKind, andKind, existsKind, orKind, atomKind, variableKind}
+use Rattle.node_table.specs.Layout.{kindOf, childCount, labelOf, childOf, isFunctionBit, nameStart, nameLength, arityOf, clauseNode}
+use Rattle.node_table.specs.Layout.{forallKind, impliesKind, andKind, existsKind, orKind, atomKind, variableKind}
 
 -- The children from the j-th on, c of them, each read by r.
 unfoldable pub childrenBy : (ℕ → Term ℕ) → List ℕ → ℕ → ℕ → ℕ → Terms ℕ
@@ -17,7 +18,12 @@ childrenBy r t n (suc c) j = cons (r (childOf t n j)) (childrenBy r t n c (suc j
 
 unfoldable pub termBy : ℕ → List ℕ → ℕ → Term ℕ
 termBy zero t n = leaf 0
-termBy (suc f) t n = elim (eqb (kindOf t n) variableKind) [ true ↦ leaf (labelOf t n) | false ↦ app (labelOf t n) (childrenBy (termBy f t) t n (childCount t n) 0) ]
+termBy (suc f) t n =
+    elim (eqb (kindOf t n) variableKind) [
+      | true ↦ leaf (labelOf t n)
+      | false ↦
+          app (labelOf t n) (childrenBy (termBy f t) t n (childCount t n) 0)
+    ]
 
 unfoldable pub termAt : List ℕ → ℕ → Term ℕ
 termAt t n = termBy (suc n) t n
@@ -46,7 +52,8 @@ unfoldable mutual
                               elim (eqb (kindOf t n) existsKind) [
                                 | true ↦ exists (labelOf t n) (goalBy f t (childOf t n 0))
                                 | false ↦
-                                    elim (eqb (kindOf t n) forallKind) [ true ↦ forall (labelOf t n) (goalBy f t (childOf t n 0)) | false ↦ truth ]
+                                    elim (eqb (kindOf t n) forallKind)
+                                    [ true ↦ forall (labelOf t n) (goalBy f t (childOf t n 0)) | false ↦ truth ]
                               ]
                         ]
                   ]
@@ -94,4 +101,5 @@ clausesFrom t (suc c) i = clauseAtNode t (clauseNode t i) ∷ clausesFrom t c (s
 
 -- The sheet: so many symbols, so many clauses, the node of the goal.
 unfoldable pub decodeSheet : List ℕ → List ℕ → ℕ → ℕ → ℕ → Sheet
-decodeSheet bytes t symbols clauses goal = record { symbols = declarationsFrom bytes t symbols 0; clauses = clausesFrom t clauses 0; goal = goalAt t goal }
+decodeSheet bytes t symbols clauses goal =
+    record { symbols = declarationsFrom bytes t symbols 0; clauses = clausesFrom t clauses 0; goal = goalAt t goal }

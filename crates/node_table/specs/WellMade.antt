@@ -10,7 +10,9 @@ use Rattle.terms.specs.Terms.{size}
 use Rattle.formulas.specs.Formulas.{freeT, freeG, freeC}
 use Rattle.formulas.specs.Members.{members}
 use Rattle.sheet_format.specs.Limits.{maxArity, maxNodes, maxSymbols, maxClauses, variableNames, maxMembers}
-use Rattle.node_table.specs.Layout.{kindOf, childCount, labelOf, childOf, maskOf, bitOf, goalBit, membersOf, sizeOf, arityOf, clauseNode, applicationKind, forallKind, impliesKind, atomKind, andKind, existsKind, orKind, variableKind}
+use Rattle.node_table.specs.Layout.{kindOf, childCount, labelOf, childOf, maskOf, bitOf, goalBit, membersOf, sizeOf, arityOf}
+use Rattle.node_table.specs.Layout.{clauseNode, applicationKind, forallKind, impliesKind, atomKind, andKind, existsKind, orKind}
+use Rattle.node_table.specs.Layout.{variableKind}
 use Rattle.node_table.specs.Decoding.{termAt, goalAt, clauseAtNode}
 
 abbrev pub IsTerm : List ℕ → ℕ → Type 0
@@ -54,8 +56,10 @@ pub record ClauseNode (t : List ℕ) (n : ℕ) : Type 0 where
   pub atom : kindOf t n ≡ atomKind → Arguments t n
   pub and : kindOf t n ≡ andKind → (childOf t n 0 < n) × IsClause t (childOf t n 0) × (childOf t n 1 < n) × IsClause t (childOf t n 1)
       × (membersOf t n ≡ membersOf t (childOf t n 0) + membersOf t (childOf t n 1))
-  pub implies : kindOf t n ≡ impliesKind → (childOf t n 0 < n) × IsGoal t (childOf t n 0) × (childOf t n 1 < n) × (kindOf t (childOf t n 1) ≡ atomKind) × Arguments t (childOf t n 1)
-  pub each : kindOf t n ≡ forallKind → (labelOf t n < variableNames) × (childOf t n 0 < n) × IsClause t (childOf t n 0) × (membersOf t n ≡ membersOf t (childOf t n 0))
+  pub implies : kindOf t n ≡ impliesKind → (childOf t n 0 < n) × IsGoal t (childOf t n 0) × (childOf t n 1 < n)
+      × (kindOf t (childOf t n 1) ≡ atomKind) × Arguments t (childOf t n 1)
+  pub each : kindOf t n ≡ forallKind → (labelOf t n < variableNames) × (childOf t n 0 < n) × IsClause t (childOf t n 0)
+      × (membersOf t n ≡ membersOf t (childOf t n 0))
   pub few : membersOf t n ≤ maxMembers
   pub members : membersOf t n ≡ length (members (clauseAtNode t n))
   pub free : (v : ℕ) → v < variableNames → eqb (bitOf (maskOf t n) v) 1 ≡ freeC (clauseAtNode t n) v

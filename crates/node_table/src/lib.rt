@@ -3,19 +3,20 @@ pub mod kinds;
 pub mod layout;
 
 use memory::get;
-use memory::wide;
+use memory::widen;
 ghost use mathlib.Core.Path.{_≡_};
 ghost use Prim.Native.Nat.{_+_, _*_, _<_, _≤_};
 ghost use lib.Dec.{eqb};
 ghost use lib.ListN.{getD};
-ghost use Rattle.node_table.specs.Layout.{symbolAt, nodeAt, kindOf, childCount, labelOf, childOf, infoOf, maskOf, bitOf, goalBit, membersOf, sizeOf, nameStart, nameLength, isFunctionBit, arityOf, clauseNode};
+ghost use Rattle.node_table.specs.Layout.{symbolAt, nodeAt, kindOf, childCount, labelOf, childOf, infoOf, maskOf, bitOf, goalBit};
+ghost use Rattle.node_table.specs.Layout.{membersOf, sizeOf, nameStart, nameLength, isFunctionBit, arityOf, clauseNode};
 
 // Field f of node n.
 fn node_field(t: &[u32], n: u32, f: usize) -> u32
     requires { ⌜ f < 8589934592 ⌝ }
     ensures { λ r. ⌜ r ≡ getD (now (t .entry)) (nodeAt n f) 0 ⌝ }
 {
-    let w = wide(n);
+    let w = widen(n);
     get(t, layout::FIRST_NODE + (layout::NODE_NUMBERS * w + f))
 }
 
@@ -24,7 +25,7 @@ fn symbol_field(t: &[u32], i: u32, f: usize) -> u32
     requires { ⌜ f < 8589934592 ⌝ }
     ensures { λ r. ⌜ r ≡ getD (now (t .entry)) (symbolAt i f) 0 ⌝ }
 {
-    let w = wide(i);
+    let w = widen(i);
     get(t, layout::SYMBOL_NUMBERS * w + f)
 }
 
@@ -51,7 +52,7 @@ pub fn label(t: &[u32], n: u32) -> u32
 pub fn child(t: &[u32], n: u32, j: u32) -> u32
     ensures { λ r. ⌜ r ≡ childOf (now (t .entry)) n j ⌝ }
 {
-    let w = wide(j);
+    let w = widen(j);
     node_field(t, n, layout::FIRST_CHILD + w)
 }
 
@@ -124,7 +125,7 @@ pub fn arity(t: &[u32], i: u32) -> u32
 pub fn clause_node(t: &[u32], i: u32) -> u32
     ensures { λ r. ⌜ r ≡ clauseNode (now (t .entry)) i ⌝ }
 {
-    let w = wide(i);
+    let w = widen(i);
     get(t, layout::FIRST_CLAUSE + w)
 }
 

@@ -6,12 +6,12 @@ use first_levels::is_symbol;
 use first_levels::level_at;
 use first_levels::number_after;
 use memory::byte;
-use scanning::Shown;
+use scanning::SymbolCounts;
 ghost use mathlib.Core.Path.{_≡_};
 ghost use Prim.Native.Nat.{_+_, _-_};
-ghost use Rattle.scanning.specs.Showing.{inOrder, countAfter, showMade, showLeftover, showAt, showFrom};
+ghost use Rattle.scanning.specs.Numbering.{inOrder, countAfter, checkMade, checkLeftover, checkSymbol, checkNumbering};
 
-// Whether the symbol at place i is in order, k of its kind having shown.
+// Whether the symbol at position i is in order, k of its kind having shown.
 fn in_order(text: &[u8], i: usize, k: u32) -> bool
     ensures { λ r. ⌜ r ≡ inOrder (now (text .entry)) i k ⌝ }
 {
@@ -38,57 +38,57 @@ fn count_after(text: &[u8], i: usize, k: u32) -> u32
     k
 }
 
-// A made constant at place i, m made constants and l leftover variables having shown.
-fn show_made(text: &[u8], i: usize, m: u32, l: u32) -> Shown
-    ensures { λ r. ⌜ r ≡ showMade (now (text .entry)) i m l ⌝ }
+// A made constant at position i, m made constants and l leftover variables having shown.
+fn check_made(text: &[u8], i: usize, m: u32, l: u32) -> SymbolCounts
+    ensures { λ r. ⌜ r ≡ checkMade (now (text .entry)) i m l ⌝ }
 {
     if in_order(text, i, m) {
-        return Shown::Counts(count_after(text, i, m), l);
+        return SymbolCounts::Counts(count_after(text, i, m), l);
     }
-    Shown::Misnumbered
+    SymbolCounts::Misnumbered
 }
 
 // A leftover variable.
-fn show_leftover(text: &[u8], i: usize, m: u32, l: u32) -> Shown
-    ensures { λ r. ⌜ r ≡ showLeftover (now (text .entry)) i m l ⌝ }
+fn check_leftover(text: &[u8], i: usize, m: u32, l: u32) -> SymbolCounts
+    ensures { λ r. ⌜ r ≡ checkLeftover (now (text .entry)) i m l ⌝ }
 {
     if in_order(text, i, l) {
-        return Shown::Counts(m, count_after(text, i, l));
+        return SymbolCounts::Counts(m, count_after(text, i, l));
     }
-    Shown::Misnumbered
+    SymbolCounts::Misnumbered
 }
 
-// Whatever is at place i.
-fn show_at(text: &[u8], i: usize, m: u32, l: u32) -> Shown
-    ensures { λ r. ⌜ r ≡ showAt (now (text .entry)) i m l ⌝ }
+// Whatever is at position i.
+fn check_symbol(text: &[u8], i: usize, m: u32, l: u32) -> SymbolCounts
+    ensures { λ r. ⌜ r ≡ checkSymbol (now (text .entry)) i m l ⌝ }
 {
     if is_symbol(text, i) {
         if byte(text, i) == b'!' {
-            return show_made(text, i, m, l);
+            return check_made(text, i, m, l);
         }
-        return show_leftover(text, i, m, l);
+        return check_leftover(text, i, m, l);
     }
-    Shown::Counts(m, l)
+    SymbolCounts::Counts(m, l)
 }
 
-// The places from i to e.
-pub fn show_from(text: &[u8], i: usize, e: usize, m: u32, l: u32) -> Shown
-    ensures { λ r. ⌜ r ≡ showFrom (e - i) (now (text .entry)) i m l ⌝ }
+// The positions from i to e.
+pub fn check_numbering(text: &[u8], i: usize, e: usize, m: u32, l: u32) -> SymbolCounts
+    ensures { λ r. ⌜ r ≡ checkNumbering (e - i) (now (text .entry)) i m l ⌝ }
 {
     let mut at = i;
     let mut made = m;
     let mut leftover = l;
     while at < e {
-        match show_at(text, at, made, leftover) {
-            Shown::Counts(p, q) => {
+        match check_symbol(text, at, made, leftover) {
+            SymbolCounts::Counts(p, q) => {
                 made = p;
                 leftover = q;
             }
-            Shown::Misnumbered => {
-                return Shown::Misnumbered;
+            SymbolCounts::Misnumbered => {
+                return SymbolCounts::Misnumbered;
             }
         }
         at += 1;
     }
-    Shown::Counts(made, leftover)
+    SymbolCounts::Counts(made, leftover)
 }

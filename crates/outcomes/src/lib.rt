@@ -32,7 +32,7 @@ pub enum Verdict {
     Refused(Refusal),
 }
 
-pub fn refused(number: u32, line: u32) -> Run
+pub fn refused_run(number: u32, line: u32) -> Run
     ensures { λ r. ⌜ r ≡ refusedRun number line ⌝ }
 {
     let f = Refusal { number, line };

@@ -4,67 +4,95 @@ use mathlib.Core.Path.{_≡_, refl}
 use mathlib.Core.List.{List, [], _∷_, _++_}
 use lib.ListN.{replicate}
 use Rattle.printing.specs.Writer.{Answered}
-use Rattle.machine.specs.Records.{cellOf, levelOf, putCell, putLevel, putEntry, putGoal, putAssumption, putPath, putUse, putChoice, putChosen, putPosition, putPairs, putNodes}
-use Rattle.machine.specs.Changes.{onActs, onMode, onNext, onTrail, onChoice, onGoals, onPath, onGoal, onMember, onPairs, onCheck, onNodes}
-use Rattle.machine.specs.Words.{narrow, up, variableWord, constantWord, closureWord, tagOf, nameOf, nodeOf, frameOf, slotOf, wordOf, leafOf, environmentAt, termOf, deref}
+use Rattle.machine.specs.Records.{cellOf, levelOf, putCell, putLevel, putEntry, putGoal, putAssumption, putPath, putUse, putChoice}
+use Rattle.machine.specs.Records.{putChosen, putPosition, putPairs, putNodes}
+use Rattle.machine.specs.RegisterUpdates.{withActs, withMode, withNext, withTrail, withChoice, withGoals, withPath, withGoal, withMember}
+use Rattle.machine.specs.RegisterUpdates.{withPairs, withCheck, withNodes}
+use Rattle.machine.specs.Words.{truncate, increment, variableWord, constantWord, closureWord, tagOf, nameOf, nodeOf, frameOf, slotOf}
+use Rattle.machine.specs.Words.{wordOf, leafOf, environmentAt, termOf, deref}
 use Rattle.machine.specs.Trail.{lowerTo, bindTo, oldLevel, effect, undoEntry, undo}
 use Rattle.machine.specs.Frames.{copyFrame, putVariable, putFresh, putVariables}
-use Rattle.machine.specs.Choices.{saveChoice, resumeGoal, resumeMember, resumeBranch, resume, takeUp, failed}
-use Rattle.machine.specs.Goals.{dueGoal, proceed, membersLeft, tryFrom, takeAtom, takeTrue, takeAnd, rightBranch, takeOr, takeImplies, takeExists, putConstant, takeForall, takeGoal}
-use Rattle.machine.specs.Matching.{placeWord, pairsFrom, nodesFrom, argumentWord, duePairs, compareClosures, compareLeaves, compareWords, comparePair, bindValue, passNode, visitVariable, visitConstant, visitClosure, visitWord, dueWord, nodesAfter, checkNode}
-use Rattle.machine.specs.Trying.{clauseOf, clauseFrame, nextClause, nextMember, putPrefix, leaveOthers, putBody, putTry, tried, tryMember, tryFound, tryNext}
-use Rattle.machine.specs.Machine.{dueAct, act, run, startMemory, startRegisters, runMachine}
-use Rattle.node_table.specs.Layout.{kindOf, childCount, labelOf, childOf, infoOf, packInfo, maskOf, goalBit, membersOf, sizeOf, bitOf, nameStart, nameLength, isFunctionBit, arityOf, clauseNode}
+use Rattle.machine.specs.ChoicePoints.{saveChoice, resumeGoal, resumeMember, resumeBranch, resume, backtrack, failed}
+use Rattle.machine.specs.Goals.{dueGoal, proceed, membersLeft, tryFrom, takeAtom, takeTrue, takeAnd, rightBranch, takeOr, takeImplies}
+use Rattle.machine.specs.Goals.{takeExists, putConstant, takeForall, takeGoal}
+use Rattle.machine.specs.Matching.{positionWord, pairsFrom, nodesFrom, argumentWord, duePairs, compareClosures, compareLeaves, compareWords}
+use Rattle.machine.specs.Matching.{comparePair, bindValue, passNode, visitVariable, visitConstant, visitClosure, visitWord, dueWord}
+use Rattle.machine.specs.Matching.{nodesAfter, checkNode}
+use Rattle.machine.specs.Backchaining.{clauseOf, clauseFrame, nextClause, nextMember, putPrefix, saveAlternative, putBody, putTry, tried}
+use Rattle.machine.specs.Backchaining.{tryMember, tryFound, tryNext}
+use Rattle.machine.specs.Machine.{dueAct, act, runActs, startMemory, startRegisters, runMachine}
+use Rattle.node_table.specs.Layout.{kindOf, childCount, labelOf, childOf, infoOf, packInfo, maskOf, goalBit, membersOf, sizeOf, bitOf}
+use Rattle.node_table.specs.Layout.{nameStart, nameLength, isFunctionBit, arityOf, clauseNode}
 use Rattle.printing.specs.Output.{emit, writeBytes, copyBytes, writeDigits, writeNumber, writeSymbol}
-use Rattle.printing.specs.Marks.{onAt, onVariables, onConstants, wrote, markVariable, markConstant, showVariable, showConstant}
+use Rattle.printing.specs.Numbering.{withPosition, withVariables, withConstants, wrote, numberVariable, numberConstant, writeVariable}
+use Rattle.printing.specs.Numbering.{writeConstant}
 use Rattle.printing.specs.WriteTerms.{emitTo, writeName, separator, argumentsBy, applicationBy, wordBy, writeTerm, termTo}
-use Rattle.printing.specs.WriteLines.{bytesTo, numberTo, resultTo, plainBytes, termLine, bindingsTo, prefixTo, clauseTo, lineTo, linesTo}
-use Rattle.printing.specs.Links.{linkWord, linkPath, clearConstants, clearVariables}
-use Rattle.printing.specs.Writer.{textLimit, proofPass, prepare, firstLink, writePass, writeProof, shortPass, writeShort, writeNo, writeSpent}
+use Rattle.printing.specs.WriteLines.{bytesTo, numberTo, resultTo, plainBytes, termLine, bindingsTo, prefixTo, clauseTo, lineTo}
+use Rattle.printing.specs.WriteLines.{linesTo}
+use Rattle.printing.specs.PathLinks.{linkWord, linkPath, clearConstants, clearVariables}
+use Rattle.printing.specs.Writer.{textLimit, proofPass, prepare, firstLink, writePass, writeProof, shortPass, writeShort, writeNo}
+use Rattle.printing.specs.Writer.{writeSpent}
 use Rattle.sheet_format.specs.Bytes.{ascii}
 use Rattle.memory.specs.Records.{field, putField}
 use Rattle.clause_members.specs.Members.{hasName, pushName, addName, findMember, member, headOf}
 
 -- A run of the machine, and the text written.
 unfoldable computeAnswer : List ℕ → List ℕ → ℕ → ℕ → ℕ → List ℕ → List ℕ → Answered
-unfolding field putField cellOf levelOf putCell putLevel putEntry putGoal putAssumption putPath putUse putChoice putChosen putPosition putPairs putNodes onActs onMode onNext onTrail onChoice onGoals onPath onGoal onMember onPairs onCheck onNodes narrow up variableWord constantWord closureWord tagOf nameOf nodeOf frameOf slotOf wordOf deref leafOf environmentAt termOf lowerTo bindTo oldLevel effect undoEntry undo copyFrame putVariable putFresh putVariables hasName pushName addName findMember member headOf saveChoice resumeGoal resumeMember resumeBranch resume takeUp failed dueGoal proceed membersLeft tryFrom takeAtom takeTrue takeAnd rightBranch takeOr takeImplies takeExists putConstant takeForall takeGoal placeWord pairsFrom nodesFrom argumentWord duePairs compareClosures compareLeaves compareWords comparePair bindValue passNode visitVariable visitConstant visitClosure visitWord dueWord nodesAfter checkNode clauseOf clauseFrame nextClause nextMember putPrefix leaveOthers putBody putTry tried tryMember tryFound tryNext dueAct act run startMemory startRegisters runMachine kindOf childCount labelOf childOf infoOf packInfo maskOf goalBit membersOf sizeOf bitOf nameStart nameLength isFunctionBit arityOf clauseNode emit writeBytes copyBytes writeDigits writeNumber writeSymbol onAt onVariables onConstants wrote markVariable markConstant showVariable showConstant emitTo writeName separator argumentsBy applicationBy wordBy writeTerm termTo bytesTo numberTo resultTo plainBytes termLine bindingsTo prefixTo clauseTo lineTo linesTo linkWord linkPath clearConstants clearVariables textLimit proofPass prepare firstLink writePass writeProof shortPass writeShort writeNo writeSpent ascii
+unfolding field putField cellOf levelOf putCell putLevel putEntry putGoal putAssumption putPath putUse putChoice putChosen putPosition
+    putPairs putNodes withActs withMode withNext withTrail withChoice withGoals withPath withGoal withMember withPairs withCheck withNodes
+    truncate increment variableWord constantWord closureWord tagOf nameOf nodeOf frameOf slotOf wordOf deref leafOf environmentAt termOf
+    lowerTo bindTo oldLevel effect undoEntry undo copyFrame putVariable putFresh putVariables hasName pushName addName findMember member
+    headOf saveChoice resumeGoal resumeMember resumeBranch resume backtrack failed dueGoal proceed membersLeft tryFrom takeAtom takeTrue
+    takeAnd rightBranch takeOr takeImplies takeExists putConstant takeForall takeGoal positionWord pairsFrom nodesFrom argumentWord duePairs
+    compareClosures compareLeaves compareWords comparePair bindValue passNode visitVariable visitConstant visitClosure visitWord dueWord
+    nodesAfter checkNode clauseOf clauseFrame nextClause nextMember putPrefix saveAlternative putBody putTry tried tryMember tryFound
+    tryNext dueAct act runActs startMemory startRegisters runMachine kindOf childCount labelOf childOf infoOf packInfo maskOf goalBit
+    membersOf sizeOf bitOf nameStart nameLength isFunctionBit arityOf clauseNode emit writeBytes copyBytes writeDigits writeNumber
+    writeSymbol withPosition withVariables withConstants wrote numberVariable numberConstant writeVariable writeConstant emitTo writeName
+    separator argumentsBy applicationBy wordBy writeTerm termTo bytesTo numberTo resultTo plainBytes termLine bindingsTo prefixTo clauseTo
+    lineTo linesTo linkWord linkPath clearConstants clearVariables textLimit proofPass prepare firstLink writePass writeProof shortPass
+    writeShort writeNo writeSpent ascii
 computeAnswer sheet t clauses goal budget w out = writeProof sheet t goal (runMachine budget t clauses goal w) budget out
 
--- "Goal every b some a p(a,b)", with the clause every z p(z,z): nodes V 0, V 1, p(0,0), U, p(0,1), E, U
+-- "Goal every b some a p(a,b)", with the clause every z p(z,z), has the nodes V 0, V 1, p(0,0), U, p(0,1), E, U.
 constants : List ℕ
 unfolding ascii
 constants = ascii "P\tp\t2\nV\t0\nV\t1\nA\t0\t0\t0\nU\t0\t2\nA\t0\t0\t1\nE\t0\t4\nU\t1\t5\nC\t3\nQ\t6\n"
 
--- its table
+-- This is the table of the sheet `constants`.
 constants-table : List ℕ
 constants-table =
     (2 ∷ 1 ∷ 4 ∷ []) ++ (replicate 765 0
-    ++ ((0 ∷ 0 ∷ 0 ∷ 0 ∷ 0 ∷ 0 ∷ 65537 ∷ 0 ∷ 1 ∷ 0 ∷ 0 ∷ 0 ∷ 0 ∷ 65538 ∷ 34 ∷ 0 ∷ 0 ∷ 0 ∷ 0 ∷ 0 ∷ 769 ∷ 24 ∷ 0 ∷ 2 ∷ 0 ∷ 0 ∷ 0 ∷ 768 ∷ 34 ∷ 0 ∷ 0 ∷ 1 ∷ 0 ∷ 0 ∷ 771 ∷ 23 ∷ 0 ∷ 4 ∷ 0 ∷ 0 ∷ 0 ∷ 258 ∷ 24 ∷ 1 ∷ 5 ∷ 0 ∷ 0 ∷ 0 ∷ 256 ∷ [])
+    ++ ((0 ∷ 0 ∷ 0 ∷ 0 ∷ 0 ∷ 0 ∷ 65537 ∷ 0 ∷ 1 ∷ 0 ∷ 0 ∷ 0 ∷ 0 ∷ 65538 ∷ 34 ∷ 0 ∷ 0 ∷ 0 ∷ 0 ∷ 0 ∷ 769 ∷ 24 ∷ 0 ∷ 2 ∷ 0 ∷ 0 ∷ 0 ∷ 768 ∷ 34
+    ∷ 0 ∷ 0 ∷ 1 ∷ 0 ∷ 0 ∷ 771 ∷ 23 ∷ 0 ∷ 4 ∷ 0 ∷ 0 ∷ 0 ∷ 258 ∷ 24 ∷ 1 ∷ 5 ∷ 0 ∷ 0 ∷ 0 ∷ 256 ∷ [])
     ++ (replicate 7119 0 ++ (3 ∷ []))))
 
--- its text, and ten bytes that stay
-constants-written : computeAnswer constants constants-table 1 6 8 (replicate 512 7) (replicate 60 0) .buffer ≡ ascii "R\tproved\t8\nD\tall\t!0@1\nD\tsome\t!0@1\nD\tclause\t1\t!0@1\n" ++ replicate 10 0
+-- The text of `constants` is written, and the ten bytes after it stay.
+constants-written : computeAnswer constants constants-table 1 6 8 (replicate 512 7)
+    (replicate 60 0) .buffer ≡ ascii "R\tproved\t8\nD\tall\t!0@1\nD\tsome\t!0@1\nD\tclause\t1\t!0@1\n" ++ replicate 10 0
 unfolding computeAnswer constants constants-table ascii
 constants-written = refl
 
--- a buffer that is one byte short
+-- The text of `constants` does not fit a buffer that is one byte short.
 constants-short : computeAnswer constants constants-table 1 6 8 (replicate 512 7) (replicate 49 0) .length ≡ 65536
 unfolding computeAnswer constants constants-table ascii
 constants-short = refl
 
--- the free goal p(a) with the clause every z p(f(z)): nodes V 0, f(0), p(f(0)), U, p(0)
+-- The free goal p(a), with the clause every z p(f(z)), has the nodes V 0, f(0), p(f(0)), U, p(0).
 variables : List ℕ
 unfolding ascii
 variables = ascii "P\tp\t1\nF\tf\t1\nV\t0\nA\t1\t0\nA\t0\t1\nU\t0\t2\nA\t0\t0\nC\t3\nQ\t4\n"
 
--- its table
+-- This is the table of the sheet `variables`.
 variables-table : List ℕ
 variables-table =
     (2 ∷ 1 ∷ 2 ∷ 8 ∷ 1 ∷ 3 ∷ []) ++ (replicate 762 0
-    ++ ((0 ∷ 0 ∷ 0 ∷ 0 ∷ 0 ∷ 0 ∷ 65537 ∷ 17 ∷ 1 ∷ 0 ∷ 0 ∷ 0 ∷ 0 ∷ 131073 ∷ 18 ∷ 0 ∷ 1 ∷ 0 ∷ 0 ∷ 0 ∷ 769 ∷ 24 ∷ 0 ∷ 2 ∷ 0 ∷ 0 ∷ 0 ∷ 768 ∷ 18 ∷ 0 ∷ 0 ∷ 0 ∷ 0 ∷ 0 ∷ 769 ∷ [])
+    ++ ((0 ∷ 0 ∷ 0 ∷ 0 ∷ 0 ∷ 0 ∷ 65537 ∷ 17 ∷ 1 ∷ 0 ∷ 0 ∷ 0 ∷ 0 ∷ 131073 ∷ 18 ∷ 0 ∷ 1 ∷ 0 ∷ 0 ∷ 0 ∷ 769 ∷ 24 ∷ 0 ∷ 2 ∷ 0 ∷ 0 ∷ 0 ∷ 768
+    ∷ 18 ∷ 0 ∷ 0 ∷ 0 ∷ 0 ∷ 0 ∷ 769 ∷ [])
     ++ (replicate 7133 0 ++ (3 ∷ []))))
 
--- its text
-variables-written : computeAnswer variables variables-table 1 4 5 (replicate 320 7) (replicate 39 0) .buffer ≡ ascii "R\tproved\t5\nB\t0\tf(_0@0)\nD\tclause\t1\t_0@0\n"
+-- The text of `variables` is written.
+variables-written : computeAnswer variables variables-table 1 4 5 (replicate 320 7)
+    (replicate 39 0) .buffer ≡ ascii "R\tproved\t5\nB\t0\tf(_0@0)\nD\tclause\t1\t_0@0\n"
 unfolding computeAnswer variables variables-table ascii
 variables-written = refl

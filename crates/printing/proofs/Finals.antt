@@ -18,7 +18,8 @@ pub unbound-alone : (bs : List Binding) (x : ℕ) → WellBound bs → Unbound b
 unbound-alone bs x w u = cell-none bs x (unbound-cell bs x w u)
 
 -- What holds of the leaves of all values holds of those of the final values.
-pub final-leaves : (P : Leaf → Type 0) → ((x : ℕ) → P (var x)) → (bs : List Binding) → WellBound bs → ((x : ℕ) → Leaves (boundTo bs x) P) → (x : ℕ) → Leaves (final bs x) P
+pub final-leaves : (P : Leaf → Type 0) → ((x : ℕ) → P (var x)) → (bs : List Binding) → WellBound bs → ((x : ℕ) → Leaves (boundTo bs x) P)
+    → (x : ℕ) → Leaves (final bs x) P
 unfolding boundTo solved Leaves WellBound at onlyAt update
 final-leaves P v [] w h x = v x
 final-leaves P v (b ∷ bs) w h x =
@@ -28,7 +29,9 @@ final-leaves P v (b ∷ bs) w h x =
   where
     before : (y : ℕ) (c : Bool) → eqb y (b .name) ≡ c → Leaves (cond c (b .value) (boundTo bs y)) P → Leaves (boundTo bs y) P
     before y true e l =
-        subst (λ (t : Term Leaf). Leaves t P) (sym (subst (λ (z : ℕ). boundTo bs z ≡ leaf (var z)) (sym (eqb-true y (b .name) e)) (unbound-alone bs (b .name) (w .3) (w .0)))) (v y)
+        subst (λ (t : Term Leaf). Leaves t P)
+        (sym (subst (λ (z : ℕ). boundTo bs z ≡ leaf (var z)) (sym (eqb-true y (b .name) e)) (unbound-alone bs (b .name) (w .3) (w .0))))
+        (v y)
     before y false e l = l
 
     value : Leaves (b .value) P

@@ -1,8 +1,8 @@
 -- The text that the writer writes.
 pub mod Bytes
-pub mod Pages
+pub mod PrinterStates
 pub mod Tokens
-pub mod Alike
+pub mod LeftAlone
 pub mod Steps
 pub mod Words
 pub mod Finals
@@ -10,7 +10,7 @@ pub mod Values
 pub mod TermSteps
 pub mod LineSteps
 pub mod PathSteps
-pub mod Firsts
+pub mod FirstShowings
 pub mod Numbered
 pub mod Passes
 pub mod Restored

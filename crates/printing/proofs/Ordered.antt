@@ -19,7 +19,7 @@ use Rattle.machine.specs.Fields as fields
 use Rattle.machine.specs.Records.{cellOf, Made, provedMode}
 use Rattle.machine.specs.Words.{tagOf, nameOf, nodeOf, frameOf, slotOf}
 use Rattle.machine.specs.Machine.{runMachine}
-use Rattle.machine.specs.Simulation.{StandsAt, Tells}
+use Rattle.machine.specs.Simulation.{StandsAt, Reports}
 use Rattle.machine.proofs.Words.{tag-is, name-is, node-is, frame-is}
 use Rattle.machine.proofs.Tables.{Table, node-small}
 use Rattle.machine.proofs.Terms.{LeafAt, variable-at, constant-at, frame-le, slot-leaf, WordAt, word-variable, word-constant, word-closure}
@@ -27,7 +27,7 @@ use Rattle.machine.proofs.Bindings.{cell, unbound-cell}
 use Rattle.machine.proofs.Stores.{CellAt}
 use Rattle.machine.proofs.Branches.{PathAt}
 use Rattle.machine.proofs.Configurations.{storeOf, ConfigurationAt}
-use Rattle.machine.proofs.Alternatives.{Bounded, StateAt}
+use Rattle.machine.proofs.ChoicePoints.{Bounded, StateAt}
 use Rattle.machine.proofs.Simulation.{simulates}
 use Rattle.machine.proofs.Proved.{proved-at}
 use Rattle.printing.specs.Written.{LeafWord, variable, constant, TermWord, ofLeaf, ofClosure, PathMade, Orderly, WritesAnswer}
@@ -37,12 +37,14 @@ use Rattle.memory.specs.Records.{field}
 -- Words of the simulation are the writer's.
 leaf-is : (n a : ℕ) → LeafAt n a → LeafWord n a
 leaf-is n a (variable-at x e) = variable (ap tagOf e ∙ tag-is x 1 (omega arith))
-leaf-is n a (constant-at c e h) = constant (ap tagOf e ∙ tag-is c 2 (omega arith)) (subst (λ (d : ℕ). d < n) (sym (ap nameOf e ∙ name-is c 2 (omega arith))) h)
+leaf-is n a (constant-at c e h) =
+    constant (ap tagOf e ∙ tag-is c 2 (omega arith)) (subst (λ (d : ℕ). d < n) (sym (ap nameOf e ∙ name-is c 2 (omega arith))) h)
 
--- of terms
+-- Words of terms of the simulation are the writer's.
 word-is : (T : Table) (n x : ℕ) (w : List ℕ) {a : ℕ} {u : Term Leaf} → WordAt T n x w a u → TermWord (T .numbers) w (T .nodes) n a
 word-is T n x w (word-variable {y = y} e) = ofLeaf (variable (ap tagOf e ∙ tag-is y 1 (omega arith)))
-word-is T n x w (word-constant {c = c} e h k) = ofLeaf (constant (ap tagOf e ∙ tag-is c 2 (omega arith)) (subst (λ (d : ℕ). d < n) (sym (ap nameOf e ∙ name-is c 2 (omega arith))) h))
+word-is T n x w (word-constant {c = c} e h k) =
+    ofLeaf (constant (ap tagOf e ∙ tag-is c 2 (omega arith)) (subst (λ (d : ℕ). d < n) (sym (ap nameOf e ∙ name-is c 2 (omega arith))) h))
 word-is T n x w (word-closure {a = a} m f e b h l k) =
     let p : nodeOf a ≡ m = ap nodeOf e ∙ node-is m f (node-small T m (b .0)) in
     let q : frameOf a ≡ f = ap frameOf e ∙ frame-is m f (node-small T m (b .0)) in
@@ -63,7 +65,7 @@ path-pointer n x [] w (suc r) k c = absurd c
 path-pointer n x (l ∷ ls) w zero k c = absurd c
 path-pointer n x (l ∷ ls) w (suc r) k c = let h = c .0 in omega arith
 
--- the path, line by line
+-- The path of the simulation is the writer's, line by line.
 path-made : (f n x : ℕ) (ls : List (Line Leaf)) (w : List ℕ) (p k : ℕ) → n ≤ f → PathAt n x ls w p k → PathMade f w x p k
 unfolding PathAt PathMade
 path-made zero n x [] w zero k h c = refl
@@ -78,12 +80,19 @@ path-made (suc f) n x (l ∷ ls) w (suc r) k h c =
     let i = c .0 in
     let q = path-pointer r x ls w (field w r fields.pathBefore) (field w r fields.pathLine) (c .3) in
     let b = c .2 in
-    inr (omega arith, rw e (record { kind = b .kind; some = b .some; clause = b .clause }), rw e (omega arith), rw e (path-made f r x ls w (field w r fields.pathBefore) (field w r fields.pathLine) (omega arith) (c .3)))
+    inr (
+      omega arith,
+      rw e (record { kind = b .kind; some = b .some; clause = b .clause }),
+      rw e (omega arith),
+      rw e (path-made f r x ls w (field w r fields.pathBefore) (field w r fields.pathLine) (omega arith) (c .3)),
+    )
 
 -- A state at which a proof is found.
 module _ (T : Table) where
-  orderly-at : (m : Made) (s : Store) (ls : List (Line Leaf)) (ds : List Configuration) → StateAt T (m .registers .acts) (m .memory) (m .registers) (done s ls) ds → Formed s
-      → m .registers .acts ≤ maxBudget → 1 ≤ m .registers .acts → numbersPerUnit * m .registers .acts ≤ length (m .memory) → Orderly (T .numbers) (T .nodes) m s
+  orderly-at : (m : Made) (s : Store) (ls : List (Line Leaf)) (ds : List Configuration)
+      → StateAt T (m .registers .acts) (m .memory) (m .registers) (done s ls) ds → Formed s
+      → m .registers .acts ≤ maxBudget → 1 ≤ m .registers .acts → numbersPerUnit * m .registers .acts ≤ length (m .memory)
+      → Orderly (T .numbers) (T .nodes) m s
   unfolding ConfigurationAt storeOf CellAt
   orderly-at m s ls ds st formed few least room = record {
     few = few;
@@ -92,7 +101,9 @@ module _ (T : Table) where
     variables = let v = bounded .later least in omega arith;
     formed = formed;
     bindings = bounded .bindings;
-    unbound = λ x l u. subst (CellAt T acts (s .next) w (cellOf w x)) (unbound-cell (s .bindings) x (formed .bound) u) (st .shared .store .cells x l);
+    unbound =
+        λ x l u. subst (CellAt T acts (s .next) w (cellOf w x)) (unbound-cell (s .bindings) x (formed .bound) u)
+        (st .shared .store .cells x l);
     words = λ x l. word x (cell (s .bindings) x) (st .shared .store .cells x l);
     pointer = path-pointer acts (s .next) ls w (m .registers .path) (m .registers .line) (st .front .1);
     path = path-made acts acts (s .next) ls w (m .registers .path) (m .registers .line) (omega arith) (st .front .1);
@@ -112,11 +123,12 @@ module _ (T : Table) where
       word x none c = inl c
       word x (some u) c = inr (word-is T acts (s .next) w c)
 
--- A run that ends with a proof leaves an orderly memory,
-pub proved-orderly : (t : List ℕ) (nodes clauses goal : ℕ) → WellMade t nodes clauses goal → (budget : ℕ) → budget ≤ maxBudget → (w : List ℕ) → numbersPerUnit * budget ≤ length w
+-- A run that ends with a proof leaves an orderly memory.
+pub proved-orderly : (t : List ℕ) (nodes clauses goal : ℕ) → WellMade t nodes clauses goal → (budget : ℕ) → budget ≤ maxBudget
+    → (w : List ℕ) → numbersPerUnit * budget ≤ length w
     → (s : Store) (path : List (Line Leaf)) (n : ℕ) → search budget (clausesFrom t clauses 0) (goalAt t goal) ≡ ends (proved s path) n
     → StandsAt t (runMachine budget t clauses goal w) provedMode s path × Orderly t nodes (runMachine budget t clauses goal w) s
-unfolding Tells
+unfolding Reports
 proved-orderly t nodes clauses goal table budget few w room s path n e =
     let T : Table = record { numbers = t; nodes = nodes; clauses = clauses; goal = goal; made = table } in
     let m = runMachine budget t clauses goal w in
@@ -125,12 +137,14 @@ proved-orderly t nodes clauses goal table budget few w room s path n e =
     let f = p .few in
     let l = p .first in
     let r = p .room in (
-      subst (Tells t m) e (simulates t nodes clauses goal table budget few w room) .0,
-      orderly-at T m s path (p .alternatives) (subst (λ (k : ℕ). StateAt T k (m .memory) (m .registers) (done s path) (p .alternatives)) (sym a) (p .state)) (p .formed) (omega arith)
+      subst (Reports t m) e (simulates t nodes clauses goal table budget few w room) .0,
+      orderly-at T m s path (p .alternatives)
+          (subst (λ (k : ℕ). StateAt T k (m .memory) (m .registers) (done s path) (p .alternatives)) (sym a) (p .state)) (p .formed)
+          (omega arith)
           (omega arith) (omega arith),
     )
 
--- so that its answer text is written.
+-- After a run that ends with a proof its answer text is written.
 pub writes-answer : WritesAnswer
 writes-answer sheet t symbols nodes clauses goal table named budget few w room s path n e out =
     let r = proved-orderly t nodes clauses goal table budget few w room s path n e in

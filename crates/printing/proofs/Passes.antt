@@ -1,4 +1,4 @@
--- The two passes, and the theorem: the answer buffer and the length are what `told` says of the answer text.
+-- The two passes, and the theorem: the answer buffer and the length are what `reportedLength` says of the answer text.
 use Prim.Native.Nat.{ℕ, _+_, _≤_, _<_}
 use native.Mathlib.Omega.{arith}
 use mathlib.Core.Path.{_≡_, refl, sym, ap, _∙_, subst}
@@ -27,32 +27,36 @@ use Rattle.answer_texts.specs.Promises.{searchText}
 use Rattle.answer_texts.proofs.Showings.{has}
 use Rattle.machine.specs.Records.{Made, provedMode}
 use Rattle.machine.specs.Simulation.{StandsAt}
-use Rattle.printing.specs.declared.Pen.{Pen}
+use Rattle.printing.specs.declared.Cursor.{Cursor}
 use Rattle.printing.specs.Output.{Written, written, emit, writeBytes}
-use Rattle.printing.specs.Marks.{onAt, Page, page}
+use Rattle.printing.specs.Numbering.{withPosition, Printer, printer}
 use Rattle.printing.specs.WriteLines.{resultTo, bindingsTo}
-use Rattle.printing.specs.Writer.{textLimit, noRoom, freshPen, proofPass, prepare, firstLink, Answered, answered, writePass, writeProof, shortPass, writeShort, writeNo, writeSpent}
-use Rattle.printing.specs.Written.{Orderly, told, WritesProof, WritesNo, WritesSpent}
-use Rattle.printing.specs.Links.{nextLineField}
+use Rattle.printing.specs.Writer.{textLimit, noRoom, startCursor, proofPass, prepare, firstLink, Answered, answered, writePass}
+use Rattle.printing.specs.Writer.{writeProof, shortPass, writeShort, writeNo, writeSpent}
+use Rattle.printing.specs.Written.{Orderly, reportedLength, WritesProof, WritesNo, WritesSpent}
+use Rattle.printing.specs.PathLinks.{nextLineField}
 use Rattle.printing.proofs.Bytes.{bytes-end, bytes-fit, bytes-append, number-bytes}
 use Rattle.printing.proofs.Tokens.{byte, textTokens, tokens, tokens-append, signs, tokens-signs, spelled, tokens-spelled}
-use Rattle.printing.proofs.Alike.{Alike, alike-trans, alike-fewer}
+use Rattle.printing.proofs.LeftAlone.{Alike, alike-trans, alike-fewer}
 use Rattle.printing.proofs.Steps.{Right}
 use Rattle.printing.proofs.TermSteps.{Basis}
 use Rattle.printing.proofs.LineSteps.{Reached, reach-alike, reach-kept, reach-as, reach-then, reach-result, reach-bindings}
-use Rattle.printing.proofs.PathSteps.{PathLine, pathLines, lineOf, lines-read, lines-few, reverse-map, Prepared, prepared, lineShown, reach-lines}
-use Rattle.printing.proofs.Numbered.{cellMark, fieldMark, Variable, Constant, Numbered, Due, due-first, due-again, Wrote, steps-numbered}
+use Rattle.printing.proofs.PathSteps.{PathLine, pathLines, lineOf, lines-read, lines-few, reverse-map, Prepared, prepared, lineShown}
+use Rattle.printing.proofs.PathSteps.{reach-lines}
+use Rattle.printing.proofs.Numbered.{cellNumber, fieldNumber, Variable, Constant, Numbered, Due, due-first, due-again, Wrote}
+use Rattle.printing.proofs.Numbered.{steps-numbered}
 use Rattle.memory.specs.Records.{field}
 
 -- Written or not, by the length of the text.
-told-fits : (text out : List ℕ) → length text ≤ textLimit out → told text out ≡ written (text ++ drop (length text) out) (length text)
-unfolding told
-told-fits text out h = rw (le-leb (length text) (textLimit out) h)
+reported-fits : (text out : List ℕ) → length text ≤ textLimit out
+    → reportedLength text out ≡ written (text ++ drop (length text) out) (length text)
+unfolding reportedLength
+reported-fits text out h = rw (le-leb (length text) (textLimit out) h)
 
--- not, where it does not fit
-told-long : (text out : List ℕ) → textLimit out < length text → told text out ≡ written out noRoom
-unfolding told
-told-long text out h = rw (lt-leb (length text) (textLimit out) h)
+-- A text that does not fit is not written.
+reported-long : (text out : List ℕ) → textLimit out < length text → reportedLength text out ≡ written out noRoom
+unfolding reportedLength
+reported-long text out h = rw (lt-leb (length text) (textLimit out) h)
 
 module _ (out : List ℕ) where
   -- The limit is at most 65,535.
@@ -65,23 +69,24 @@ module _ (out : List ℕ) where
   unfolding textLimit
   limit-room = omega arith
 
-  -- Counting tells whether the text fits,
+  -- A count above the limit tells that the text does not fit.
   counted-long : (text : List ℕ) (n : ℕ) → n ≡ writeBytes text [] (textLimit out) 0 .at → textLimit out < n → textLimit out < length text
   counted-long text n e h = let z = bytes-end text [] (textLimit out) 0 limit-low (omega arith) in omega arith
 
-  -- that it fits,
+  -- A count within the limit tells that the text fits.
   counted-fits : (text : List ℕ) (n : ℕ) → n ≡ writeBytes text [] (textLimit out) 0 .at → n ≤ textLimit out → length text ≤ textLimit out
   counted-fits text n e h = let z = bytes-end text [] (textLimit out) 0 limit-low (omega arith) in omega arith
 
-  -- and then writing writes it.
-  written-fits : (text : List ℕ) → length text ≤ textLimit out → writeBytes text out (textLimit out) 0 ≡ told text out
+  -- Writing a text that fits writes it.
+  written-fits : (text : List ℕ) → length text ≤ textLimit out → writeBytes text out (textLimit out) 0 ≡ reportedLength text out
   written-fits text h =
       bytes-fit text [] out (textLimit out) 0 limit-low refl (omega arith) (let r = limit-room in omega arith)
       ∙ ap (written (text ++ drop (length text) out)) (let e : 0 + length text ≡ length text = omega arith in e)
-      ∙ sym (told-fits text out h)
+      ∙ sym (reported-fits text out h)
 
 -- The texts of no and spent.
-short-bytes : (bs : List ℕ) (units : ℕ) (out : List ℕ) (limit : ℕ) → shortPass bs units out limit ≡ writeBytes (bs ++ (decimal units ++ (lf ∷ []))) out limit 0
+short-bytes : (bs : List ℕ) (units : ℕ) (out : List ℕ) (limit : ℕ)
+    → shortPass bs units out limit ≡ writeBytes (bs ++ (decimal units ++ (lf ∷ []))) out limit 0
 unfolding shortPass writeBytes
 short-bytes bs units out limit =
     let s = writeBytes bs out limit 0 in
@@ -89,10 +94,11 @@ short-bytes bs units out limit =
     ∙ sym (bytes-append (decimal units) (lf ∷ []) (s .buffer) limit (s .at))
     ∙ sym (bytes-append bs (decimal units ++ (lf ∷ [])) out limit 0)
 
--- they are written if they fit
-short-told : (bs : List ℕ) (units : ℕ) (out : List ℕ) → writeShort bs units out ≡ told (bs ++ (decimal units ++ (lf ∷ []))) out
+-- The texts of no and spent are written if they fit.
+short-reported : (bs : List ℕ) (units : ℕ) (out : List ℕ)
+    → writeShort bs units out ≡ reportedLength (bs ++ (decimal units ++ (lf ∷ []))) out
 unfolding writeShort
-short-told bs units out = go (ltb (textLimit out) (shortPass bs units [] (textLimit out) .at)) refl
+short-reported bs units out = go (ltb (textLimit out) (shortPass bs units [] (textLimit out) .at)) refl
   where
     text : List ℕ
     text = bs ++ (decimal units ++ (lf ∷ []))
@@ -101,36 +107,41 @@ short-told bs units out = go (ltb (textLimit out) (shortPass bs units [] (textLi
     count = ap (λ (s : Written). s .at) (short-bytes bs units [] (textLimit out))
 
     go : (b : Bool) → ltb (textLimit out) (shortPass bs units [] (textLimit out) .at) ≡ b
-        → _≡_ {A = Written} (elim b [ true ↦ written out noRoom | false ↦ shortPass bs units out (textLimit out) ]) (told text out)
-    go true e = sym (told-long text out (counted-long out text (shortPass bs units [] (textLimit out) .at) count (ltb-true (textLimit out) (shortPass bs units [] (textLimit out) .at) e)))
+        → _≡_ {A = Written} (elim b [ true ↦ written out noRoom | false ↦ shortPass bs units out (textLimit out) ])
+        (reportedLength text out)
+    go true e =
+        sym (reported-long text out (counted-long out text (shortPass bs units [] (textLimit out) .at) count
+        (ltb-true (textLimit out) (shortPass bs units [] (textLimit out) .at) e)))
     go false e =
         short-bytes bs units out (textLimit out)
-        ∙ written-fits out text (counted-fits out text (shortPass bs units [] (textLimit out) .at) count (ltb-false (textLimit out) (shortPass bs units [] (textLimit out) .at) e))
+        ∙ written-fits out text (counted-fits out text (shortPass bs units [] (textLimit out) .at) count
+        (ltb-false (textLimit out) (shortPass bs units [] (textLimit out) .at) e))
 
 -- The text of no.
 pub writes-no : WritesNo
 unfolding writeNo noText textLine join ascii
-writes-no units out = short-told (ascii "R\tno\t") units out
+writes-no units out = short-reported (ascii "R\tno\t") units out
 
 -- The text of spent.
 pub writes-spent : WritesSpent
 unfolding writeSpent spentText textLine join ascii
-writes-spent budget out = short-told (ascii "R\tspent\t") budget out
+writes-spent budget out = short-reported (ascii "R\tspent\t") budget out
 
-module _ (sheet t : List ℕ) (symbols nodes clauses goal : ℕ) (table : WellMade t nodes clauses goal) (named : Named t nodes symbols) (m : Made) (s : Store)
+module _ (sheet t : List ℕ) (symbols nodes clauses goal : ℕ) (table : WellMade t nodes clauses goal) (named : Named t nodes symbols)
+    (m : Made) (s : Store)
     (path : List (Line Leaf)) (stands : StandsAt t m provedMode s path) (o : Orderly t nodes m s) (units : ℕ) where
   abbrev acts : ℕ
   acts = m .registers .acts
 
-  -- the memory before the writer
+  -- `w` is the memory before the writer.
   abbrev w : List ℕ
   w = m .memory
 
-  -- the symbols of the sheet
+  -- `ds` has the symbols of the sheet.
   abbrev ds : List Declaration
   ds = declarationsFrom sheet t symbols 0
 
-  -- what the writer relies on
+  -- What the writer relies on holds.
   pub basis : Basis t symbols nodes w acts s
   basis = record {
     table = nodes-of t nodes clauses goal table;
@@ -147,30 +158,32 @@ module _ (sheet t : List ℕ) (symbols nodes clauses goal : ℕ) (table : WellMa
     words = o .words;
   }
 
-  -- the path in the order taken
+  -- `order` is the path in the order taken.
   abbrev order : List PathLine
   order = reverse (pathLines acts w (m .registers .path) (m .registers .line))
 
-  -- links and no numbers
+  -- The prepared memory has the links and no numbers.
   ready : Prepared w (s .next) acts (prepare m) (firstLink m) order
   ready = prepared m (s .next) (o .room) (o .pointer) (o .path)
 
-  -- the lines of the text
+  -- `lines` has the lines of the text.
   abbrev lines : List TextLine
   lines = answerLines units (freeVariables (goalAt t goal)) (finalEnvironment s) (finalLines s path)
 
-  -- they are those of the path
+  -- The lines of the path in the order taken are those of the text.
   order-lines : map (lineShown w s) order ≡ map derivationLine (finalLines s path)
   unfolding finalLines
   order-lines =
       let P = pathLines acts w (m .registers .path) (m .registers .line) in
-      sym (ap (λ (l : List (Line Leaf)). map derivationLine (map (putLine (final s)) (reverse l))) (sym (stands .path) ∙ lines-read acts w (m .registers .path) (m .registers .line))
+      sym (ap (λ (l : List (Line Leaf)). map derivationLine (map (putLine (final s)) (reverse l))) (sym (stands .path)
+      ∙ lines-read acts w (m .registers .path) (m .registers .line))
       ∙ ap (λ (l : List (Line Leaf)). map derivationLine (map (putLine (final s)) l)) (sym (reverse-map (lineOf w) P []))
       ∙ ap (map derivationLine) (map-map (lineOf w) (putLine (final s)) (reverse P))
       ∙ map-map (λ x. putLine (final s) (lineOf w x)) derivationLine (reverse P))
 
   -- A pass goes through the tokens of the text.
-  reach-pass : (limit : ℕ) (low : limit ≤ 65535) (g : Page) → Alike 62 w (g .memory) → ((u : ℕ) → field (g .memory) u nextLineField ≡ field (prepare m) u nextLineField)
+  reach-pass : (limit : ℕ) (low : limit ≤ 65535) (g : Printer) → Alike 62 w (g .memory)
+      → ((u : ℕ) → field (g .memory) u nextLineField ≡ field (prepare m) u nextLineField)
       → Reached sheet t symbols nodes w acts s basis limit low (tokens ds lines) g (proofPass sheet t acts limit goal units (firstLink m) g)
   unfolding proofPass answerLines tokens textTokens freeVariables
   reach-pass limit low g k f =
@@ -183,35 +196,41 @@ module _ (sheet t : List ℕ) (symbols nodes clauses goal : ℕ) (table : WellMa
       let a = reach-alike sheet t symbols nodes w acts s basis limit low x g h p k in
       let kh = reach-kept sheet t symbols nodes w acts s basis limit low x g h p k in
       let q = reach-bindings sheet t symbols nodes w acts s basis limit low (goalAt t goal) 8 (maskOf t goal) 0 h (omega arith) (o .goals)
-      (λ j l. table .goalNode goal (table .goal-there) (table .goal-is) .free j l ∙ ap (freeG (goalAt t goal)) (let e : j ≡ 0 + j = omega arith in e)) kh
+      (λ j l. table .goalNode goal (table .goal-there) (table .goal-is) .free j l
+      ∙ ap (freeG (goalAt t goal)) (let e : j ≡ 0 + j = omega arith in e)) kh
       in
       let b = reach-alike sheet t symbols nodes w acts s basis limit low bs h i q kh in
       let ki = reach-kept sheet t symbols nodes w acts s basis limit low bs h i q kh in
       let r = reach-lines sheet t symbols nodes w acts s basis limit low (prepare m) order acts
-      (let y = lines-few acts w (m .registers .path) (m .registers .line) in let z = length-reverse (pathLines acts w (m .registers .path) (m .registers .line)) in omega arith)
+      (let y = lines-few acts w (m .registers .path) (m .registers .line) in let z =
+      length-reverse (pathLines acts w (m .registers .path) (m .registers .line)) in omega arith)
       i (firstLink m) (ready .chain) ki (λ u. b .fields u 62 (omega arith) (omega arith) ∙ a .fields u 62 (omega arith) (omega arith) ∙ f u)
       in
       reach-as sheet t symbols nodes w acts s basis limit low (x ++ (bs ++ ls)) (tokens ds lines) g _
       (ap (x ++_) (ap (λ (l : List TextLine). bs ++ tokens ds l) order-lines
-      ∙ sym (tokens-append ds (map (λ v. bindingLine v (finalEnvironment s v)) (freeVariables (goalAt t goal))) (map derivationLine (finalLines s path)))))
-      (reach-then sheet t symbols nodes w acts s basis limit low x (bs ++ ls) g h _ p (reach-then sheet t symbols nodes w acts s basis limit low bs ls h i _ q r))
+      ∙ sym (tokens-append ds (map (λ v. bindingLine v (finalEnvironment s v)) (freeVariables (goalAt t goal)))
+      (map derivationLine (finalLines s path)))))
+      (reach-then sheet t symbols nodes w acts s basis limit low x (bs ++ ls) g h _ p
+      (reach-then sheet t symbols nodes w acts s basis limit low bs ls h i _ q r))
 
   -- The text, and its renaming.
   abbrev renaming : Renaming
   renaming = numberingOf (signs (tokens ds lines))
 
-  -- its bytes
+  -- `text` has the bytes of the text.
   abbrev text : List ℕ
   text = spelled renaming (tokens ds lines)
 
-  -- they are the text of the search
+  -- The bytes written are the text of the search.
   text-is : text ≡ searchText (decodeSheet sheet t symbols clauses goal) s path units
   unfolding searchText proofText numbered decodeSheet
-  text-is = ap (λ (l : List Symbol). spelled (numberingOf l) (tokens ds lines)) (tokens-signs ds lines) ∙ tokens-spelled ds lines (numberingOf (shown lines))
+  text-is =
+      ap (λ (l : List Symbol). spelled (numberingOf l) (tokens ds lines)) (tokens-signs ds lines)
+      ∙ tokens-spelled ds lines (numberingOf (shown lines))
 
-  -- The first pass begins with no number,
-  first-numbered : Numbered w (s .next) acts renaming 0 [] (prepare m) freshPen
-  unfolding madeOnly leftoverOnly firsts has cellMark fieldMark Variable Constant Right
+  -- The first pass begins with no number.
+  first-numbered : Numbered w (s .next) acts renaming 0 [] (prepare m) startCursor
+  unfolding madeOnly leftoverOnly firsts has cellNumber fieldNumber Variable Constant Right
   first-numbered = record {
     alike = ready .alike;
     variables = record { marks = λ z r. variable z r; counts = refl };
@@ -220,25 +239,33 @@ module _ (sheet t : List ℕ) (symbols nodes clauses goal : ℕ) (table : WellMa
     fewConstants = omega arith;
   }
     where
-      variable : (z : Symbol) → Variable w (s .next) acts z → cellMark (prepare m) z ≡ 0
+      variable : (z : Symbol) → Variable w (s .next) acts z → cellNumber (prepare m) z ≡ 0
       variable (made c k) r = refl
       variable (leftover x k) r = ready .cells x ∙ r .1
 
-      constant : (z : Symbol) → Constant w (s .next) acts z → fieldMark (prepare m) z ≡ 0
+      constant : (z : Symbol) → Constant w (s .next) acts z → fieldNumber (prepare m) z ≡ 0
       constant (made c k) r = ready .cleared c (r .0)
       constant (leftover x k) r = refl
 
-  -- the second with all of them.
-  second-numbered : (l : List Symbol) (v : List ℕ) (p : Pen) → p .at ≤ 65536 → Numbered w (s .next) acts renaming 0 l v p → Numbered w (s .next) acts renaming 65536 l v (onAt p 0)
-  unfolding onAt
+  -- The second pass begins with all numbers.
+  second-numbered : (l : List Symbol) (v : List ℕ) (p : Cursor) → p .at ≤ 65536 → Numbered w (s .next) acts renaming 0 l v p
+      → Numbered w (s .next) acts renaming 65536 l v (withPosition p 0)
+  unfolding withPosition
   second-numbered l v p h n =
       let x = n .fewVariables in
       let y = n .fewConstants in
-      record { alike = n .alike; variables = n .variables; constants = n .constants; fewVariables = omega arith; fewConstants = omega arith }
+      record {
+        alike = n .alike;
+        variables = n .variables;
+        constants = n .constants;
+        fewVariables = omega arith;
+        fewConstants = omega arith;
+      }
 
   -- What a pass writes.
-  pass-wrote : (limit base : ℕ) (low : limit ≤ 65535) (h : List Symbol) (g : Page) → base ≤ 65536 → Alike 62 w (g .memory) → ((u : ℕ) → field (g .memory) u nextLineField ≡ field (prepare m) u nextLineField)
-      → Due renaming h (signs (tokens ds lines)) → Numbered w (s .next) acts renaming base h (g .memory) (g .pen)
+  pass-wrote : (limit base : ℕ) (low : limit ≤ 65535) (h : List Symbol) (g : Printer) → base ≤ 65536 → Alike 62 w (g .memory)
+      → ((u : ℕ) → field (g .memory) u nextLineField ≡ field (prepare m) u nextLineField)
+      → Due renaming h (signs (tokens ds lines)) → Numbered w (s .next) acts renaming base h (g .memory) (g .cursor)
       → Wrote w (s .next) acts renaming base limit (tokens ds lines) h g (proofPass sheet t acts limit goal units (firstLink m) g)
   pass-wrote limit base low h g small k f due n =
       let r = reach-pass limit low g k f in
@@ -246,43 +273,52 @@ module _ (sheet t : List ℕ) (symbols nodes clauses goal : ℕ) (table : WellMa
       (steps-numbered w (s .next) acts renaming base (o .room) (o .variables) limit low small (tokens ds lines) h g (r .right) due (λ l. n))
 
   -- The first pass, into no buffer.
-  abbrev counting : List ℕ → Page
-  counting out = proofPass sheet t acts (textLimit out) goal units (firstLink m) (page (prepare m) [] freshPen)
+  abbrev counting : List ℕ → Printer
+  counting out = proofPass sheet t acts (textLimit out) goal units (firstLink m) (printer (prepare m) [] startCursor)
 
-  -- it goes through the tokens,
-  counting-reached : (out : List ℕ) → Reached sheet t symbols nodes w acts s basis (textLimit out) (limit-low out) (tokens ds lines) (page (prepare m) [] freshPen) (counting out)
-  counting-reached out = reach-pass (textLimit out) (limit-low out) (page (prepare m) [] freshPen) (ready .alike) (λ u. refl)
+  -- The first pass goes through the tokens.
+  counting-reached : (out : List ℕ) → Reached sheet t symbols nodes w acts s basis (textLimit out) (limit-low out) (tokens ds lines)
+      (printer (prepare m) [] startCursor) (counting out)
+  counting-reached out = reach-pass (textLimit out) (limit-low out) (printer (prepare m) [] startCursor) (ready .alike) (λ u. refl)
 
-  -- leaves the memory alike,
+  -- The first pass leaves the memory alike.
   counting-alike : (out : List ℕ) → Alike 63 (prepare m) (counting out .memory)
   counting-alike out =
-      reach-alike sheet t symbols nodes w acts s basis (textLimit out) (limit-low out) (tokens ds lines) (page (prepare m) [] freshPen) (counting out) (counting-reached out) (ready .alike)
+      reach-alike sheet t symbols nodes w acts s basis (textLimit out) (limit-low out) (tokens ds lines)
+      (printer (prepare m) [] startCursor) (counting out) (counting-reached out) (ready .alike)
 
-  -- counts the text, and numbers its symbols
-  counting-wrote : (out : List ℕ) → Wrote w (s .next) acts renaming 0 (textLimit out) (tokens ds lines) [] (page (prepare m) [] freshPen) (counting out)
+  -- The first pass counts the text, and numbers its symbols.
+  counting-wrote : (out : List ℕ) → Wrote w (s .next) acts renaming 0 (textLimit out) (tokens ds lines) []
+      (printer (prepare m) [] startCursor) (counting out)
   counting-wrote out =
-      pass-wrote (textLimit out) 0 (limit-low out) [] (page (prepare m) [] freshPen) (omega arith) (ready .alike) (λ u. refl) (due-first [] (signs (tokens ds lines))) first-numbered
+      pass-wrote (textLimit out) 0 (limit-low out) [] (printer (prepare m) [] startCursor) (omega arith) (ready .alike) (λ u. refl)
+      (due-first [] (signs (tokens ds lines))) first-numbered
 
   -- The second pass, into the lent buffer.
-  abbrev writing : List ℕ → Page
-  writing out = proofPass sheet t acts (textLimit out) goal units (firstLink m) (page (counting out .memory) out (onAt (counting out .pen) 0))
+  abbrev writing : List ℕ → Printer
+  writing out =
+      proofPass sheet t acts (textLimit out) goal units (firstLink m)
+      (printer (counting out .memory) out (withPosition (counting out .cursor) 0))
 
-  -- it writes the text
-  writing-bytes : (out : List ℕ) → counting out .pen .at ≤ textLimit out → written (writing out .buffer) (writing out .pen .at) ≡ writeBytes text out (textLimit out) 0
-  unfolding onAt
+  -- The second pass writes the text.
+  writing-bytes : (out : List ℕ) → counting out .cursor .at ≤ textLimit out
+      → written (writing out .buffer) (writing out .cursor .at) ≡ writeBytes text out (textLimit out) 0
+  unfolding withPosition
   writing-bytes out h =
       let low = limit-low out in
       let n = counting-wrote out .numbered h in
-      pass-wrote (textLimit out) 65536 low (signs (tokens ds lines)) (page (counting out .memory) out (onAt (counting out .pen) 0)) (omega arith) (n .alike)
+      pass-wrote (textLimit out) 65536 low (signs (tokens ds lines))
+      (printer (counting out .memory) out (withPosition (counting out .cursor) 0)) (omega arith) (n .alike)
       (λ u. counting-alike out .fields u 62 (omega arith) (omega arith)) (due-again renaming (signs (tokens ds lines)))
-      (second-numbered (signs (tokens ds lines)) (counting out .memory) (counting out .pen) (omega arith) n) .bytes
+      (second-numbered (signs (tokens ds lines)) (counting out .memory) (counting out .cursor) (omega arith) n) .bytes
 
   -- What the writer leaves in the answer buffer.
-  proof-told : (out : List ℕ) → written (writeProof sheet t goal m units out .buffer) (writeProof sheet t goal m units out .length) ≡ told text out
+  proof-reported : (out : List ℕ)
+      → written (writeProof sheet t goal m units out .buffer) (writeProof sheet t goal m units out .length) ≡ reportedLength text out
   unfolding writeProof writePass
-  proof-told out = go (ltb (textLimit out) (counting out .pen .at)) refl
+  proof-reported out = go (ltb (textLimit out) (counting out .cursor .at)) refl
     where
-      count : counting out .pen .at ≡ writeBytes text [] (textLimit out) 0 .at
+      count : counting out .cursor .at ≡ writeBytes text [] (textLimit out) 0 .at
       count = ap (λ (x : Written). x .at) (counting-wrote out .bytes)
 
       result : Bool → Answered
@@ -291,16 +327,19 @@ module _ (sheet t : List ℕ) (symbols nodes clauses goal : ℕ) (table : WellMa
         | false ↦ writePass sheet t acts (textLimit out) goal units (firstLink m) (counting out) out
       ]
 
-      go : (b : Bool) → ltb (textLimit out) (counting out .pen .at) ≡ b → written (result b .buffer) (result b .length) ≡ told text out
-      go true e = sym (told-long text out (counted-long out text (counting out .pen .at) count (ltb-true (textLimit out) (counting out .pen .at) e)))
+      go : (b : Bool) → ltb (textLimit out) (counting out .cursor .at) ≡ b
+          → written (result b .buffer) (result b .length) ≡ reportedLength text out
+      go true e =
+          sym (reported-long text out (counted-long out text (counting out .cursor .at) count
+          (ltb-true (textLimit out) (counting out .cursor .at) e)))
       go false e =
-          let h = ltb-false (textLimit out) (counting out .pen .at) e in
-          writing-bytes out h ∙ written-fits out text (counted-fits out text (counting out .pen .at) count h)
+          let h = ltb-false (textLimit out) (counting out .cursor .at) e in
+          writing-bytes out h ∙ written-fits out text (counted-fits out text (counting out .cursor .at) count h)
 
   -- What it leaves of the memory.
   pub proof-alike : (out : List ℕ) → Alike 62 w (writeProof sheet t goal m units out .memory)
   unfolding writeProof writePass
-  proof-alike out = go (ltb (textLimit out) (counting out .pen .at))
+  proof-alike out = go (ltb (textLimit out) (counting out .cursor .at))
     where
       counted : Alike 62 w (counting out .memory)
       counted = alike-trans 62 w (prepare m) _ (ready .alike) (alike-fewer 63 62 (prepare m) _ (omega arith) (counting-alike out))
@@ -314,12 +353,12 @@ module _ (sheet t : List ℕ) (symbols nodes clauses goal : ℕ) (table : WellMa
       go : (b : Bool) → Alike 62 w (result b .memory)
       go true = counted
       go false =
-          let g = page (counting out .memory) out (onAt (counting out .pen) 0) in
+          let g = printer (counting out .memory) out (withPosition (counting out .cursor) 0) in
           reach-kept sheet t symbols nodes w acts s basis (textLimit out) (limit-low out) (tokens ds lines) g (writing out)
           (reach-pass (textLimit out) (limit-low out) g counted (λ u. counting-alike out .fields u 62 (omega arith) (omega arith))) counted
 
 -- The writer writes the answer text of a proved search.
 pub writes-proof : WritesProof
 writes-proof sheet t symbols nodes clauses goal table named m s path stands o units out =
-    proof-told sheet t symbols nodes clauses goal table named m s path stands o units out
-    ∙ ap (λ (x : List ℕ). told x out) (text-is sheet t symbols nodes clauses goal table named m s path stands o units)
+    proof-reported sheet t symbols nodes clauses goal table named m s path stands o units out
+    ∙ ap (λ (x : List ℕ). reportedLength x out) (text-is sheet t symbols nodes clauses goal table named m s path stands o units)

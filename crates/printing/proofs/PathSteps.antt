@@ -20,14 +20,14 @@ use Rattle.answer_texts.specs.TextLines.{TextLine, derivationLine}
 use Rattle.machine.specs.Fields as fields
 use Rattle.machine.specs.Records.{cellOf, Made}
 use Rattle.machine.specs.Reading.{lineAt, pathFrom}
-use Rattle.printing.specs.Marks.{Page, constantNumberField}
+use Rattle.printing.specs.Numbering.{Printer, constantNumberField}
 use Rattle.printing.specs.WriteLines.{lineTo, linesTo}
-use Rattle.printing.specs.Links.{linkWord, Linked, linked, linkPath, clearConstants, nextLineField}
+use Rattle.printing.specs.PathLinks.{linkWord, Linked, linked, linkPath, clearConstants, nextLineField}
 use Rattle.printing.specs.Writer.{prepare, firstLink}
 use Rattle.printing.specs.Written.{LineMade, PathMade}
 use Rattle.machine.proofs.Records.{cell-put}
 use Rattle.printing.proofs.Tokens.{lineTokens, textTokens, tokens}
-use Rattle.printing.proofs.Alike.{Alike, alike-refl, alike-trans, alike-fewer, alike-put}
+use Rattle.printing.proofs.LeftAlone.{Alike, alike-refl, alike-trans, alike-fewer, alike-put}
 use Rattle.printing.proofs.Words.{link-pointer, link-line}
 use Rattle.printing.proofs.TermSteps.{Basis}
 use Rattle.printing.proofs.LineSteps.{Reached, reach-alike, reach-kept, reach-none, reach-then, reach-line-at}
@@ -39,43 +39,60 @@ pub record PathLine : Type 0 where
   pub pointer : ℕ
   pub line : ℕ
 
--- the two together
+-- A pointer and a line make a line of the path.
 abbrev pathLine : ℕ → ℕ → PathLine
 pathLine p k = record { pointer = p; line = k }
 
 -- Latest first, as `pathFrom` reads them.
 unfoldable pub pathLines : ℕ → List ℕ → ℕ → ℕ → List PathLine
 pathLines zero w p k = []
-pathLines (suc n) w p k = elim (eqb p 0) [ true ↦ [] | false ↦ pathLine p k ∷ pathLines n w (field w (p - 1) fields.pathBefore) (field w (p - 1) fields.pathLine) ]
+pathLines (suc n) w p k =
+    elim (eqb p 0) [
+      | true ↦ []
+      | false ↦ pathLine p k ∷ pathLines n w (field w (p - 1) fields.pathBefore)
+          (field w (p - 1) fields.pathLine)
+    ]
 
 -- The line itself.
 abbrev pub lineOf : List ℕ → PathLine → Line Leaf
 lineOf w x = lineAt w (x .pointer - 1) (x .line)
 
--- they are what `pathFrom` reads,
+-- The lines of the path are what `pathFrom` reads.
 pub lines-read : (n : ℕ) (w : List ℕ) (p k : ℕ) → pathFrom n w p k ≡ map (lineOf w) (pathLines n w p k)
 unfolding pathFrom pathLines
 lines-read zero w p k = refl
 lines-read (suc n) w p k = go (eqb p 0) (lines-read n w (field w (p - 1) fields.pathBefore) (field w (p - 1) fields.pathLine))
   where
-    go : (b : Bool) → pathFrom n w (field w (p - 1) fields.pathBefore) (field w (p - 1) fields.pathLine) ≡ map (lineOf w) (pathLines n w (field w (p - 1) fields.pathBefore) (field w (p - 1) fields.pathLine))
-        → _≡_ {A = List (Line Leaf)} (elim b [ true ↦ [] | false ↦ lineAt w (p - 1) k ∷ pathFrom n w (field w (p - 1) fields.pathBefore) (field w (p - 1) fields.pathLine) ])
-        (map (lineOf w) (elim b [ true ↦ [] | false ↦ pathLine p k ∷ pathLines n w (field w (p - 1) fields.pathBefore) (field w (p - 1) fields.pathLine) ]))
+    go : (b : Bool) → pathFrom n w (field w (p - 1) fields.pathBefore) (field w (p - 1) fields.pathLine) ≡ map (lineOf w)
+        (pathLines n w (field w (p - 1) fields.pathBefore) (field w (p - 1) fields.pathLine))
+        → _≡_ {A = List (Line Leaf)}
+        (elim b [
+          | true ↦ []
+          | false ↦ lineAt w (p - 1) k ∷ pathFrom n w (field w (p - 1) fields.pathBefore)
+              (field w (p - 1) fields.pathLine)
+        ])
+        (map (lineOf w)
+        (elim b [ true ↦ [] | false ↦ pathLine p k ∷ pathLines n w (field w (p - 1) fields.pathBefore) (field w (p - 1) fields.pathLine) ]))
     go true h = refl
     go false h = ap (lineAt w (p - 1) k ∷_) h
 
--- and no more than its turns
+-- The path has no more lines than turns.
 pub lines-few : (n : ℕ) (w : List ℕ) (p k : ℕ) → length (pathLines n w p k) ≤ n
 unfolding pathLines
 lines-few zero w p k = omega arith
 lines-few (suc n) w p k = go (eqb p 0) (lines-few n w (field w (p - 1) fields.pathBefore) (field w (p - 1) fields.pathLine))
   where
     go : (b : Bool) → length (pathLines n w (field w (p - 1) fields.pathBefore) (field w (p - 1) fields.pathLine)) ≤ n
-        → length {A = PathLine} (elim b [ true ↦ [] | false ↦ pathLine p k ∷ pathLines n w (field w (p - 1) fields.pathBefore) (field w (p - 1) fields.pathLine) ]) ≤ suc n
+        → length {A = PathLine}
+        (elim b [
+          | true ↦ []
+          | false ↦ pathLine p k ∷ pathLines n w (field w (p - 1) fields.pathBefore)
+              (field w (p - 1) fields.pathLine)
+        ]) ≤ suc n
     go true h = omega arith
     go false h = omega arith
 
--- reversing goes through a map
+-- Reversing commutes with a map.
 pub reverse-map : {A B : Type 0} (f : A → B) (l r : List A) → map f (reverseAux l r) ≡ reverseAux (map f l) (map f r)
 reverse-map f [] r = refl
 reverse-map f (a ∷ l) r = reverse-map f l (a ∷ r)
@@ -84,16 +101,27 @@ module _ (w : List ℕ) (next acts : ℕ) where
   -- In memory v, link e leads along these lines to the end.
   unfoldable pub Chain : List ℕ → ℕ → List PathLine → Type 0
   Chain v e [] = e ≡ 0
-  Chain v e (x ∷ l) = (e ≡ linkWord (x .pointer) (x .line)) × (1 ≤ x .pointer) × (x .pointer ≤ acts) × LineMade w next (x .pointer - 1) (x .line) × Chain v (field v (x .pointer - 1) nextLineField) l
+  Chain v e (x ∷ l) =
+      (e ≡ linkWord (x .pointer) (x .line)) × (1 ≤ x .pointer) × (x .pointer ≤ acts) × LineMade w next (x .pointer - 1) (x .line)
+      × Chain v (field v (x .pointer - 1) nextLineField) l
 
-  -- it depends on the links only
-  pub chain-same : (v v′ : List ℕ) → ((u : ℕ) → field v′ u nextLineField ≡ field v u nextLineField) → (e : ℕ) (l : List PathLine) → Chain v e l → Chain v′ e l
+  -- A chain depends on the links only.
+  pub chain-same : (v v′ : List ℕ) → ((u : ℕ) → field v′ u nextLineField ≡ field v u nextLineField) → (e : ℕ) (l : List PathLine)
+      → Chain v e l → Chain v′ e l
   unfolding Chain
   chain-same v v′ f e [] c = c
-  chain-same v v′ f e (x ∷ l) c = (c .0, c .1, c .2, c .3, subst (λ (d : ℕ). Chain v′ d l) (sym (f (x .pointer - 1))) (chain-same v v′ f (field v (x .pointer - 1) nextLineField) l (c .4)))
+  chain-same v v′ f e (x ∷ l) c = (
+    c .0,
+    c .1,
+    c .2,
+    c .3,
+    subst (λ (d : ℕ). Chain v′ d l) (sym (f (x .pointer - 1)))
+        (chain-same v v′ f (field v (x .pointer - 1) nextLineField) l (c .4)),
+  )
 
-  -- the link of an earlier record is written
-  chain-put : (v : List ℕ) (p a : ℕ) → 1 ≤ p → (e : ℕ) (l : List PathLine) → All (λ x. p < x .pointer) l → Chain v e l → Chain (putField v (p - 1) nextLineField a) e l
+  -- Writing the link of an earlier record leaves a chain.
+  chain-put : (v : List ℕ) (p a : ℕ) → 1 ≤ p → (e : ℕ) (l : List PathLine) → All (λ x. p < x .pointer) l → Chain v e l
+      → Chain (putField v (p - 1) nextLineField a) e l
   unfolding Chain
   chain-put v p a h e [] o c = c
   chain-put v p a h e (x ∷ l) o c =
@@ -102,7 +130,8 @@ module _ (w : List ℕ) (next acts : ℕ) where
         c .1,
         c .2,
         c .3,
-        subst (λ (d : ℕ). Chain (putField v (p - 1) nextLineField a) d l) (sym (record-other v (p - 1) nextLineField (x .pointer - 1) nextLineField a (omega arith) (omega arith) (λ q. omega arith)))
+        subst (λ (d : ℕ). Chain (putField v (p - 1) nextLineField a) d l)
+            (sym (record-other v (p - 1) nextLineField (x .pointer - 1) nextLineField a (omega arith) (omega arith) (λ q. omega arith)))
             (chain-put v p a h (field v (x .pointer - 1) nextLineField) l (o .1) (c .4)),
       )
 
@@ -112,15 +141,20 @@ module _ (w : List ℕ) (next acts : ℕ) where
     alike : Alike 62 v (r .memory)
 
   -- Linking reverses the path.
-  link-chain : (n : ℕ) (v : List ℕ) (p k e : ℕ) (l : List PathLine) → numbersPerUnit * acts ≤ length v → Alike 62 w v → PathMade n w next p k → p ≤ acts → All (λ x. p < x .pointer) l → Chain v e l
+  link-chain : (n : ℕ) (v : List ℕ) (p k e : ℕ) (l : List PathLine) → numbersPerUnit * acts ≤ length v → Alike 62 w v
+      → PathMade n w next p k → p ≤ acts → All (λ x. p < x .pointer) l → Chain v e l
       → Joined v (linkPath n v p k e) (reverseAux (pathLines n w p k) l)
   unfolding linkPath pathLines PathMade Chain
   link-chain zero v p k e l room a m h o c = record { chain = c; alike = alike-refl 62 v }
   link-chain (suc n) v p k e l room a m h o c = go m (link-chain n (putField v (p - 1) nextLineField e))
     where
-      go : (p ≡ 0) ⊎ ((1 ≤ p) × LineMade w next (p - 1) k × (field w (p - 1) fields.pathBefore < p) × PathMade n w next (field w (p - 1) fields.pathBefore) (field w (p - 1) fields.pathLine))
-          → ((q j d : ℕ) (i : List PathLine) → numbersPerUnit * acts ≤ length (putField v (p - 1) nextLineField e) → Alike 62 w (putField v (p - 1) nextLineField e) → PathMade n w next q j → q ≤ acts → All (λ x. q < x .pointer) i
-          → Chain (putField v (p - 1) nextLineField e) d i → Joined (putField v (p - 1) nextLineField e) (linkPath n (putField v (p - 1) nextLineField e) q j d) (reverseAux (pathLines n w q j) i))
+      go : (p ≡ 0) ⊎ ((1 ≤ p) × LineMade w next (p - 1) k × (field w (p - 1) fields.pathBefore < p)
+          × PathMade n w next (field w (p - 1) fields.pathBefore) (field w (p - 1) fields.pathLine))
+          → ((q j d : ℕ) (i : List PathLine) → numbersPerUnit * acts ≤ length (putField v (p - 1) nextLineField e)
+          → Alike 62 w (putField v (p - 1) nextLineField e) → PathMade n w next q j → q ≤ acts → All (λ x. q < x .pointer) i
+          → Chain (putField v (p - 1) nextLineField e) d i
+          → Joined (putField v (p - 1) nextLineField e) (linkPath n (putField v (p - 1) nextLineField e) q j d)
+          (reverseAux (pathLines n w q j) i))
           → Joined v (linkPath (suc n) v p k e) (reverseAux (pathLines (suc n) w p k) l)
       go (inl z) f = rw (linkPath, pathLines, eq-eqb p 0 z) (record { chain = c; alike = alike-refl 62 v })
       go (inr q) f =
@@ -132,55 +166,76 @@ module _ (w : List ℕ) (next acts : ℕ) where
             q .0,
             h,
             q .1,
-            subst (λ (d : ℕ). Chain (putField v (p - 1) nextLineField e) d l) (sym (field-same v (p - 1) nextLineField e (omega arith))) (chain-put v p e (q .0) e l o c),
+            subst (λ (d : ℕ). Chain (putField v (p - 1) nextLineField e) d l) (sym (field-same v (p - 1) nextLineField e (omega arith)))
+                (chain-put v p e (q .0) e l o c),
           )
           in
-          let r = f (field w (p - 1) fields.pathBefore) (field w (p - 1) fields.pathLine) (linkWord p k) (pathLine p k ∷ l) (let y = g .long in omega arith) (alike-trans 62 w v _ a g) (q .3) (omega arith)
+          let r = f (field w (p - 1) fields.pathBefore) (field w (p - 1) fields.pathLine) (linkWord p k) (pathLine p k ∷ l)
+          (let y = g .long in omega arith) (alike-trans 62 w v _ a g) (q .3) (omega arith)
           (falls, all-weaken (λ x. p < x .pointer) (λ x. field w (p - 1) fields.pathBefore < x .pointer) (λ x y. omega arith) l o) c′
           in
-          rw (linkPath, pathLines, ne-eqb p 0 (λ y. omega arith), a .fields (p - 1) 39 (omega arith) (omega arith), a .fields (p - 1) 40 (omega arith) (omega arith))
+          rw (
+            linkPath,
+            pathLines,
+            ne-eqb p 0 (λ y. omega arith),
+            a .fields (p - 1) 39 (omega arith) (omega arith),
+            a .fields (p - 1) 40 (omega arith) (omega arith),
+          )
           (record { chain = r .chain; alike = alike-trans 62 v _ _ g (r .alike) })
 
   -- The numbers of constants are cleared: the links stay.
   clear-alike : (n : ℕ) (v : List ℕ) → Alike 63 v (clearConstants n v)
   unfolding clearConstants
   clear-alike zero v = alike-refl 63 v
-  clear-alike (suc n) v = alike-trans 63 v (putField v n constantNumberField 0) _ (alike-put 63 v n 63 0 (omega arith) (omega arith) (omega arith)) (clear-alike n (putField v n constantNumberField 0))
+  clear-alike (suc n) v =
+      alike-trans 63 v (putField v n constantNumberField 0) _ (alike-put 63 v n 63 0 (omega arith) (omega arith) (omega arith))
+      (clear-alike n (putField v n constantNumberField 0))
 
   -- They are 0 then.
   clear-beyond : (n : ℕ) (v : List ℕ) (c : ℕ) → n ≤ c → field (clearConstants n v) c constantNumberField ≡ field v c constantNumberField
   unfolding clearConstants
   clear-beyond zero v c h = refl
-  clear-beyond (suc n) v c h = clear-beyond n (putField v n constantNumberField 0) c (omega arith) ∙ record-other v n constantNumberField c constantNumberField 0 (omega arith) (omega arith) (λ q. omega arith)
+  clear-beyond (suc n) v c h =
+      clear-beyond n (putField v n constantNumberField 0) c (omega arith)
+      ∙ record-other v n constantNumberField c constantNumberField 0 (omega arith) (omega arith) (λ q. omega arith)
 
-  -- all that were to be
+  -- The numbers of all constants below n are 0 after clearing.
   clear-zero : (n : ℕ) (v : List ℕ) (c : ℕ) → numbersPerUnit * n ≤ length v → c < n → field (clearConstants n v) c constantNumberField ≡ 0
   unfolding clearConstants
   clear-zero zero v c r h = absurd (omega arith)
   clear-zero (suc n) v c r h = go (eqb c n) refl (clear-zero n (putField v n constantNumberField 0) c)
     where
-      go : (b : Bool) → eqb c n ≡ b → (numbersPerUnit * n ≤ length (putField v n constantNumberField 0) → c < n → field (clearConstants n (putField v n constantNumberField 0)) c constantNumberField ≡ 0) → field (clearConstants n (putField v n constantNumberField 0)) c constantNumberField ≡ 0
-      go true e f = let q = eqb-true c n e in clear-beyond n (putField v n constantNumberField 0) c (omega arith) ∙ ap (λ (d : ℕ). field (putField v n constantNumberField 0) d constantNumberField) q ∙ field-same v n constantNumberField 0 (omega arith)
+      go : (b : Bool) → eqb c n ≡ b → (numbersPerUnit * n ≤ length (putField v n constantNumberField 0) → c < n
+          → field (clearConstants n (putField v n constantNumberField 0)) c constantNumberField ≡ 0)
+          → field (clearConstants n (putField v n constantNumberField 0)) c constantNumberField ≡ 0
+      go true e f =
+          let q = eqb-true c n e in clear-beyond n (putField v n constantNumberField 0) c (omega arith)
+          ∙ ap (λ (d : ℕ). field (putField v n constantNumberField 0) d constantNumberField) q
+          ∙ field-same v n constantNumberField 0 (omega arith)
       go false e f = let q = eqb-false c n e in f (let l = length-put v n constantNumberField 0 in omega arith) (omega arith)
 
 -- No cell is written.
 link-cells : (n : ℕ) (v : List ℕ) (p k e x : ℕ) → cellOf (linkPath n v p k e .memory) x ≡ cellOf v x
 unfolding linkPath
 link-cells zero v p k e x = refl
-link-cells (suc n) v p k e x = go (eqb p 0) (link-cells n (putField v (p - 1) nextLineField e) (field v (p - 1) fields.pathBefore) (field v (p - 1) fields.pathLine) (linkWord p k) x)
+link-cells (suc n) v p k e x =
+    go (eqb p 0) (link-cells n (putField v (p - 1) nextLineField e) (field v (p - 1) fields.pathBefore) (field v (p - 1) fields.pathLine)
+    (linkWord p k) x)
   where
     r : Linked
     r = linkPath n (putField v (p - 1) nextLineField e) (field v (p - 1) fields.pathBefore) (field v (p - 1) fields.pathLine) (linkWord p k)
 
-    go : (b : Bool) → cellOf (r .memory) x ≡ cellOf (putField v (p - 1) nextLineField e) x → cellOf ((elim b as (λ b. Linked) [ true ↦ linked v e | false ↦ r ]) .memory) x ≡ cellOf v x
+    go : (b : Bool) → cellOf (r .memory) x ≡ cellOf (putField v (p - 1) nextLineField e) x
+        → cellOf ((elim b as (λ b. Linked) [ true ↦ linked v e | false ↦ r ]) .memory) x ≡ cellOf v x
     go true h = refl
     go false h = h ∙ cell-put v x (p - 1) nextLineField e (omega arith) (omega arith)
 
--- nor by clearing
+-- Clearing the numbers of constants writes no cell.
 clear-cells : (n : ℕ) (v : List ℕ) (x : ℕ) → cellOf (clearConstants n v) x ≡ cellOf v x
 unfolding clearConstants
 clear-cells zero v x = refl
-clear-cells (suc n) v x = clear-cells n (putField v n constantNumberField 0) x ∙ cell-put v x n constantNumberField 0 (omega arith) (omega arith)
+clear-cells (suc n) v x =
+    clear-cells n (putField v n constantNumberField 0) x ∙ cell-put v x n constantNumberField 0 (omega arith) (omega arith)
 
 -- What the writer finds when its passes begin.
 pub record Prepared (w : List ℕ) (next acts : ℕ) (v : List ℕ) (e : ℕ) (l : List PathLine) : Type 0 where
@@ -192,7 +247,8 @@ pub record Prepared (w : List ℕ) (next acts : ℕ) (v : List ℕ) (e : ℕ) (l
 -- The preparation makes it so.
 pub prepared : (m : Made) (next : ℕ) → numbersPerUnit * m .registers .acts ≤ length (m .memory) → m .registers .path ≤ m .registers .acts
     → PathMade (m .registers .acts) (m .memory) next (m .registers .path) (m .registers .line)
-    → Prepared (m .memory) next (m .registers .acts) (prepare m) (firstLink m) (reverse (pathLines (m .registers .acts) (m .memory) (m .registers .path) (m .registers .line)))
+    → Prepared (m .memory) next (m .registers .acts) (prepare m) (firstLink m)
+    (reverse (pathLines (m .registers .acts) (m .memory) (m .registers .path) (m .registers .line)))
 unfolding prepare firstLink Chain
 prepared m next room h path =
     let acts = m .registers .acts in
@@ -203,13 +259,16 @@ prepared m next room h path =
     record {
       alike = alike-trans 62 w (r .memory) _ (j .alike) (alike-fewer 63 62 (r .memory) _ (omega arith) c);
       cells = λ x. clear-cells acts (r .memory) x ∙ link-cells acts w (m .registers .path) (m .registers .line) 0 x;
-      chain = chain-same w next acts (r .memory) (clearConstants acts (r .memory)) (λ u. c .fields u 62 (omega arith) (omega arith)) (r .first) (reverse (pathLines acts w (m .registers .path) (m .registers .line))) (j .chain);
+      chain =
+          chain-same w next acts (r .memory) (clearConstants acts (r .memory)) (λ u. c .fields u 62 (omega arith) (omega arith))
+          (r .first) (reverse (pathLines acts w (m .registers .path) (m .registers .line))) (j .chain);
       cleared = λ d l. clear-zero w next acts acts (r .memory) d (let y = j .alike .long in omega arith) l;
     }
 
--- one line and then the others
-lines-next : (sheet t : List ℕ) (turns limit n : ℕ) (g : Page) (e p k : ℕ) → e / 8 ≡ p → e % 8 ≡ k → 1 ≤ p
-    → linesTo sheet t turns limit (suc n) g e ≡ linesTo sheet t turns limit n (lineTo sheet t turns limit g (p - 1) k) (field (g .memory) (p - 1) nextLineField)
+-- The writer writes one line and then the lines after it.
+lines-next : (sheet t : List ℕ) (turns limit n : ℕ) (g : Printer) (e p k : ℕ) → e / 8 ≡ p → e % 8 ≡ k → 1 ≤ p
+    → linesTo sheet t turns limit (suc n) g e ≡ linesTo sheet t turns limit n (lineTo sheet t turns limit g (p - 1) k)
+    (field (g .memory) (p - 1) nextLineField)
 unfolding linesTo
 lines-next sheet t turns limit n g e p k q r h = rw (linesTo, q, ne-eqb p 0 (λ z. omega arith), q, r)
 
@@ -218,13 +277,15 @@ abbrev pub lineShown : List ℕ → Store → PathLine → TextLine
 lineShown w s x = derivationLine (putLine (final s) (lineOf w x))
 
 -- The lines from a link on.
-module _ (sheet t : List ℕ) (symbols nodes : ℕ) (w : List ℕ) (acts : ℕ) (s : Store) (b : Basis t symbols nodes w acts s) (limit : ℕ) (low : limit ≤ 65535) where
-  -- the symbols of the sheet
+module _ (sheet t : List ℕ) (symbols nodes : ℕ) (w : List ℕ) (acts : ℕ) (s : Store) (b : Basis t symbols nodes w acts s) (limit : ℕ)
+    (low : limit ≤ 65535) where
+  -- `ds` has the symbols of the sheet.
   abbrev ds : List Declaration
   ds = declarationsFrom sheet t symbols 0
 
   -- They are written one after the other.
-  pub reach-lines : (v : List ℕ) (l : List PathLine) (n : ℕ) → length l ≤ n → (g : Page) (e : ℕ) → Chain w (s .next) acts v e l → Alike 62 w (g .memory)
+  pub reach-lines : (v : List ℕ) (l : List PathLine) (n : ℕ) → length l ≤ n → (g : Printer) (e : ℕ) → Chain w (s .next) acts v e l
+      → Alike 62 w (g .memory)
       → ((u : ℕ) → field (g .memory) u nextLineField ≡ field v u nextLineField)
       → Reached sheet t symbols nodes w acts s b limit low (tokens ds (map (lineShown w s) l)) g (linesTo sheet t acts limit n g e)
   unfolding linesTo tokens textTokens Chain
@@ -242,7 +303,9 @@ module _ (sheet t : List ℕ) (symbols nodes : ℕ) (w : List ℕ) (acts : ℕ) 
       let line = reach-line-at sheet t symbols nodes w acts s b limit low (p - 1) (x .line) g (omega arith) (c .3) k in
       let ks = lineTokens ds (putLine (final s) (lineOf w x)) in
       let alike = reach-alike sheet t symbols nodes w acts s b limit low ks g i line k in
-      subst (Reached sheet t symbols nodes w acts s b limit low (ks ++ tokens ds (map (lineShown w s) l)) g) (sym (lines-next sheet t acts limit n g e p (x .line) q r (c .1)))
+      subst (Reached sheet t symbols nodes w acts s b limit low (ks ++ tokens ds (map (lineShown w s) l)) g)
+      (sym (lines-next sheet t acts limit n g e p (x .line) q r (c .1)))
       (reach-then sheet t symbols nodes w acts s b limit low ks (tokens ds (map (lineShown w s) l)) g i _ line
-      (reach-lines v l n (omega arith) i (field (g .memory) (p - 1) nextLineField) (subst (λ (d : ℕ). Chain w (s .next) acts v d l) (sym (f (p - 1))) (c .4))
+      (reach-lines v l n (omega arith) i (field (g .memory) (p - 1) nextLineField)
+      (subst (λ (d : ℕ). Chain w (s .next) acts v d l) (sym (f (p - 1))) (c .4))
       (reach-kept sheet t symbols nodes w acts s b limit low ks g i line k) (λ u. alike .fields u 62 (omega arith) (omega arith) ∙ f u)))

@@ -11,27 +11,27 @@ use borrow.Author.Tests.{eqb-true, eqb-false}
 use Rattle.sheet_format.specs.Limits.{numbersPerUnit}
 use Rattle.machine.specs.Records.{cellOf, putCell}
 use Rattle.machine.specs.Words.{tagOf}
-use Rattle.printing.specs.Links.{clearVariables}
+use Rattle.printing.specs.PathLinks.{clearVariables}
 use Rattle.printing.specs.Writer.{writeProof}
 use Rattle.printing.specs.Written.{variable, constant, TermWord, ofLeaf, ofClosure, Restores}
 use Rattle.machine.proofs.Records.{There, cell-same, cell-other}
-use Rattle.printing.proofs.Alike.{there-from, Alike, alike-refl, alike-trans, alike-mark}
+use Rattle.printing.proofs.LeftAlone.{there-from, Alike, alike-refl, alike-trans, alike-number}
 use Rattle.printing.proofs.Passes.{proof-alike}
 
--- one variable is cleared
+-- `clear1` clears the number of one variable.
 clear1 : List ℕ → ℕ → List ℕ
 clear1 v n = cond (eqb (tagOf (cellOf v n)) 0) (putCell v n 0) v
 
--- the rest stays
+-- Clearing one variable leaves the memory alike.
 clear1-alike : (v : List ℕ) (n : ℕ) → There n v → Alike 62 v (clear1 v n)
 unfolding clear1 tagOf
 clear1-alike v n h = go (eqb (tagOf (cellOf v n)) 0) refl
   where
     go : (b : Bool) → eqb (tagOf (cellOf v n)) 0 ≡ b → Alike 62 v (cond b (putCell v n 0) v)
-    go true e = alike-mark 62 v n 0 (omega arith) h (eqb-true (tagOf (cellOf v n)) 0 e) refl
+    go true e = alike-number 62 v n 0 (omega arith) h (eqb-true (tagOf (cellOf v n)) 0 e) refl
     go false e = alike-refl 62 v
 
--- so do other variables
+-- Clearing one variable leaves other variables.
 clear1-other : (v : List ℕ) (n x : ℕ) → (x ≡ n → ⊥) → cellOf (clear1 v n) x ≡ cellOf v x
 unfolding clear1
 clear1-other v n x d = go (eqb (tagOf (cellOf v n)) 0)
@@ -40,12 +40,12 @@ clear1-other v n x d = go (eqb (tagOf (cellOf v n)) 0)
     go true = cell-other v n 0 x d
     go false = refl
 
--- and it is 0
+-- An unbound variable that was cleared has 0 in its cell.
 clear1-same : (v : List ℕ) (n : ℕ) → There n v → tagOf (cellOf v n) ≡ 0 → cellOf (clear1 v n) n ≡ 0
 unfolding clear1
 clear1-same v n h e = rw e (cell-same v n 0 h)
 
--- all of them
+-- Clearing the first n variables leaves the memory alike.
 module _ (acts : ℕ) where
   clear-alike : (n : ℕ) (v : List ℕ) → numbersPerUnit * acts ≤ length v → n ≤ 9 * acts → Alike 62 v (clearVariables n v)
   unfolding clearVariables clear1
@@ -54,14 +54,15 @@ module _ (acts : ℕ) where
       let a = clear1-alike v n (there-from acts n v r (omega arith)) in
       alike-trans 62 v (clear1 v n) _ a (clear-alike n (clear1 v n) (let l = a .long in omega arith) (omega arith))
 
-  -- those from n on stay
+  -- Clearing leaves the variables from n on.
   clear-beyond : (n : ℕ) (v : List ℕ) (x : ℕ) → n ≤ x → cellOf (clearVariables n v) x ≡ cellOf v x
   unfolding clearVariables clear1
   clear-beyond zero v x h = refl
   clear-beyond (suc n) v x h = clear-beyond n (clear1 v n) x (omega arith) ∙ clear1-other v n x (λ q. omega arith)
 
-  -- those below are 0
-  clear-zero : (n : ℕ) (v : List ℕ) (x : ℕ) → numbersPerUnit * acts ≤ length v → n ≤ 9 * acts → x < n → tagOf (cellOf v x) ≡ 0 → cellOf (clearVariables n v) x ≡ 0
+  -- Clearing leaves 0 in the cells of unbound variables below n.
+  clear-zero : (n : ℕ) (v : List ℕ) (x : ℕ) → numbersPerUnit * acts ≤ length v → n ≤ 9 * acts → x < n → tagOf (cellOf v x) ≡ 0
+      → cellOf (clearVariables n v) x ≡ 0
   unfolding clearVariables clear1
   clear-zero zero v x r h l e = absurd (omega arith)
   clear-zero (suc n) v x r h l e = go (eqb x n) refl (clear-zero n (clear1 v n) x)
@@ -69,7 +70,8 @@ module _ (acts : ℕ) where
       a : Alike 62 v (clear1 v n)
       a = clear1-alike v n (there-from acts n v r (omega arith))
 
-      go : (b : Bool) → eqb x n ≡ b → (numbersPerUnit * acts ≤ length (clear1 v n) → n ≤ 9 * acts → x < n → tagOf (cellOf (clear1 v n) x) ≡ 0 → cellOf (clearVariables n (clear1 v n)) x ≡ 0)
+      go : (b : Bool) → eqb x n ≡ b → (numbersPerUnit * acts ≤ length (clear1 v n) → n ≤ 9 * acts → x < n
+          → tagOf (cellOf (clear1 v n) x) ≡ 0 → cellOf (clearVariables n (clear1 v n)) x ≡ 0)
           → cellOf (clearVariables n (clear1 v n)) x ≡ 0
       go true q f =
           let p = eqb-true x n q in

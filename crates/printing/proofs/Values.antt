@@ -32,7 +32,8 @@ use Rattle.node_table.proofs.Decoding.{Nodes, term-variable, term-application}
 use Rattle.answer_texts.specs.Numbering.{symbolsIn, symbolsInAll}
 use Rattle.machine.specs.Fields as fields
 use Rattle.machine.specs.Records.{cellOf, levelOf}
-use Rattle.machine.specs.Words.{closureWord, tagOf, nameOf, nodeOf, frameOf, slotOf, wordOf, leafOf, environmentAt, termOf, constantTag, variableTag, deref}
+use Rattle.machine.specs.Words.{closureWord, tagOf, nameOf, nodeOf, frameOf, slotOf, wordOf, leafOf, environmentAt, termOf, constantTag}
+use Rattle.machine.specs.Words.{variableTag, deref}
 use Rattle.machine.specs.Reading.{variableOf}
 use Rattle.machine.proofs.Bindings.{cell, cell-some, hops, hops-le, look-app, look-con, hop, stop}
 use Rattle.printing.specs.Written.{LeafWord, variable, constant, Closure, TermWord, ofLeaf, ofClosure}
@@ -43,16 +44,16 @@ use Rattle.memory.specs.Records.{field}
 use Rattle.machine.proofs.Words.{zero-tag}
 use Rattle.machine.proofs.Deref.{deref-other, deref-free, Turn, stays, follows, deref-look}
 
--- what holds of all leaves holds of all symbols that show
+-- What holds of all leaves holds of all symbols that show.
 mutual
   unfolding Leaves symbolsIn
 
-  -- of a term
+  -- What holds of all leaves of a term holds of all symbols that show in it.
   pub leaves-show : (t : Ground) (P : Symbol → Type 0) → Leaves t P → All P (symbolsIn t)
   leaves-show (leaf s) P h = (h, tt)
   leaves-show (app f ts) P h = leaves-show-all ts P h
 
-  -- of its arguments
+  -- What holds of all leaves of arguments holds of all symbols that show in them.
   leaves-show-all : (ts : Terms Symbol) (P : Symbol → Type 0) → LeavesAll ts P → All P (symbolsInAll ts)
   leaves-show-all nil P h = tt
   leaves-show-all (cons t ts) P h = all-append P (symbolsIn t) (symbolsInAll ts) (leaves-show t P (h .0)) (leaves-show-all ts P (h .1))
@@ -72,7 +73,7 @@ pub value-unbound : (s : Store) (x : ℕ) → Formed s → Unbound (s .bindings)
 unfolding final at solution substitute symbolOf
 value-unbound s x f u = ap (λ (t : Term Leaf). substitute t (symbolOf s)) (boundTo-unbound (s .bindings) x (f .bound) u)
 
--- what a variable is bound to is below the next number
+-- What a variable is bound to has only variables below the next number.
 bound-below : (bs : List Binding) (n x : ℕ) → All (BelowBinding n) bs → x < n → Leaves (boundTo bs x) (Below n)
 unfolding boundTo Leaves Below
 bound-below [] n x h l = l
@@ -82,7 +83,8 @@ bound-below (b ∷ bs) n x h l = go (eqb x (b .name)) (bound-below bs n x (h .1)
     go true k = h .0 .1
     go false k = k
 
-module _ (t : List ℕ) (nodes : ℕ) (table : Nodes t nodes) (size : nodes ≤ maxNodes) (w : List ℕ) (acts : ℕ) (few : acts ≤ maxBudget) (s : Store) where
+module _ (t : List ℕ) (nodes : ℕ) (table : Nodes t nodes) (size : nodes ≤ maxNodes) (w : List ℕ) (acts : ℕ) (few : acts ≤ maxBudget)
+    (s : Store) where
   -- A word that reads as a term.
   abbrev Word : ℕ → Type 0
   Word a = TermWord t w nodes acts a
@@ -96,38 +98,40 @@ module _ (t : List ℕ) (nodes : ℕ) (table : Nodes t nodes) (size : nodes ≤ 
   Known (var x) = Unit {0}
   Known (con c k) = (c < acts) × (k ≡ field w c fields.constantLevel)
 
-  -- words of leaves
+  -- The word of a variable reads as the variable.
   pub variable-term : (a : ℕ) → tagOf a ≡ variableTag → termOf t w a ≡ leaf (var (nameOf a))
   unfolding termOf leafOf
   variable-term a e = rw e
 
-  -- a constant
+  -- The word of a constant reads as the constant, with the level in its record.
   pub constant-term : (a : ℕ) → tagOf a ≡ constantTag → termOf t w a ≡ leaf (con (nameOf a) (field w (nameOf a) fields.constantLevel))
   unfolding termOf leafOf
   constant-term a e = rw e
 
-  -- either
+  -- The word of a leaf reads as its leaf.
   leaf-term : (a : ℕ) → LeafWord acts a → termOf t w a ≡ leaf (leafOf w a)
   unfolding termOf leafOf
   leaf-term a (variable e) = rw e
   leaf-term a (constant e l) = rw e
 
-  -- its constant was made
+  -- The constant of a leaf's word was made.
   leaf-known : (a : ℕ) → LeafWord acts a → Known (leafOf w a)
   unfolding leafOf Known
   leaf-known a (variable e) = rw e tt
   leaf-known a (constant e l) = rw e (l, refl)
 
-  -- an environment's leaves
+  -- A name stands for the leaf in its slot.
   slot-term : (f v : ℕ) → v < variableNames → environmentAt w f v ≡ leaf (leafOf w (slotOf w f v))
   unfolding environmentAt
   slot-term f v h = rw (lt-ltb v 8 h)
 
-  -- words of closures
-  pub closure-term : (a : ℕ) → Closure t w nodes acts a → termOf t w a ≡ app (labelOf t (nodeOf a)) (substitutes (argumentsAt t (nodeOf a)) (environmentAt w (frameOf a)))
+  -- The word of a closure reads as an application.
+  pub closure-term : (a : ℕ) → Closure t w nodes acts a
+      → termOf t w a ≡ app (labelOf t (nodeOf a)) (substitutes (argumentsAt t (nodeOf a)) (environmentAt w (frameOf a)))
   unfolding termOf substitute
   closure-term a c =
-      rw (c .tag) (ap (λ (u : Term ℕ). substitute u (environmentAt w (frameOf a))) (term-application t nodes table (nodeOf a) (c .there) (c .term) (c .application)))
+      rw (c .tag) (ap (λ (u : Term ℕ). substitute u (environmentAt w (frameOf a)))
+      (term-application t nodes table (nodeOf a) (c .there) (c .term) (c .application)))
 
   -- The word of a node of a term.
   node-word : (n f : ℕ) → n < nodes → IsTerm t n → f ≤ acts → ((v : ℕ) → v < variableNames → LeafWord acts (slotOf w f v))
@@ -143,7 +147,8 @@ module _ (t : List ℕ) (nodes : ℕ) (table : Nodes t nodes) (size : nodes ≤ 
           let v = table .term n h i .variable k in (
             ofLeaf (slots (labelOf t n) v),
             leaf-term (slotOf w f (labelOf t n)) (slots (labelOf t n) v)
-                ∙ sym (ap (λ (u : Term ℕ). substitute u (environmentAt w f)) (term-variable t nodes table n h i k) ∙ slot-term f (labelOf t n) v),
+                ∙ sym (ap (λ (u : Term ℕ). substitute u (environmentAt w f)) (term-variable t nodes table n h i k)
+                ∙ slot-term f (labelOf t n) v),
           )
       go false e =
           let k : kindOf t n ≡ applicationKind = let z = eqb-false (kindOf t n) 0 e in let o = table .term n h i .kind in omega arith in
@@ -161,29 +166,35 @@ module _ (t : List ℕ) (nodes : ℕ) (table : Nodes t nodes) (size : nodes ≤ 
             rw (g, p, q),
           )
 
-  -- a child's leaves are among its node's
-  child-leaves : (n : ℕ) (θ : ℕ → Term Leaf) (P : Leaf → Type 0) (c i j : ℕ) → i ≤ j → j < i + c → LeavesAll (substitutes (childrenBy (termAt t) t n c i) θ) P → Leaves (substitute (termAt t (childOf t n j)) θ) P
+  -- A child's leaves are among its node's.
+  child-leaves : (n : ℕ) (θ : ℕ → Term Leaf) (P : Leaf → Type 0) (c i j : ℕ) → i ≤ j → j < i + c
+      → LeavesAll (substitutes (childrenBy (termAt t) t n c i) θ) P → Leaves (substitute (termAt t (childOf t n j)) θ) P
   unfolding childrenBy substitute Leaves
   child-leaves n θ P zero i j h k l = absurd (omega arith)
   child-leaves n θ P (suc c) i j h k l = go (eqb i j) refl (λ p. child-leaves n θ P c (suc i) j p (omega arith) (l .1))
     where
-      go : (b : Bool) → eqb i j ≡ b → (suc i ≤ j → Leaves (substitute (termAt t (childOf t n j)) θ) P) → Leaves (substitute (termAt t (childOf t n j)) θ) P
+      go : (b : Bool) → eqb i j ≡ b → (suc i ≤ j → Leaves (substitute (termAt t (childOf t n j)) θ) P)
+          → Leaves (substitute (termAt t (childOf t n j)) θ) P
       go true e f = subst (λ (x : ℕ). Leaves (substitute (termAt t (childOf t n x)) θ) P) (eqb-true i j e) (l .0)
       go false e f = let d = eqb-false i j e in f (omega arith)
 
   -- The word of an argument of a closure.
-  pub argument-word : (a : ℕ) (c : Closure t w nodes acts a) → Leaves (termOf t w a) (Below (s .next)) → (j : ℕ) → j < childCount t (nodeOf a)
+  pub argument-word : (a : ℕ) (c : Closure t w nodes acts a) → Leaves (termOf t w a) (Below (s .next)) → (j : ℕ)
+      → j < childCount t (nodeOf a)
       → Good (wordOf t w (childOf t (nodeOf a) j) (frameOf a))
-      × (termOf t w (wordOf t w (childOf t (nodeOf a) j) (frameOf a)) ≡ substitute (termAt t (childOf t (nodeOf a) j)) (environmentAt w (frameOf a)))
+      × (termOf t w (wordOf t w (childOf t (nodeOf a) j) (frameOf a)) ≡ substitute (termAt t (childOf t (nodeOf a) j))
+      (environmentAt w (frameOf a)))
   unfolding Leaves argumentsAt
   argument-word a c b j h =
       let r = table .term (nodeOf a) (c .there) (c .term) .application (c .application) .terms j h in
       let k = r .0 in
       let n = c .there in
       let x = node-word (childOf t (nodeOf a) j) (frameOf a) (omega arith) (r .1) (c .frame) (c .slots) in
-      let all : LeavesAll (substitutes (childrenBy (termAt t) t (nodeOf a) (childCount t (nodeOf a)) 0) (environmentAt w (frameOf a))) (Below (s .next)) =
+      let all : LeavesAll (substitutes (childrenBy (termAt t) t (nodeOf a) (childCount t (nodeOf a)) 0) (environmentAt w (frameOf a)))
+      (Below (s .next)) =
       subst (λ (u : Term Leaf). Leaves u (Below (s .next))) (closure-term a c) b in
-      let l = child-leaves (nodeOf a) (environmentAt w (frameOf a)) (Below (s .next)) (childCount t (nodeOf a)) 0 j (omega arith) (omega arith) all in
+      let l = child-leaves (nodeOf a) (environmentAt w (frameOf a)) (Below (s .next)) (childCount t (nodeOf a)) 0 j (omega arith)
+      (omega arith) all in
       ((x .0, subst (λ (u : Term Leaf). Leaves u (Below (s .next))) (sym (x .1)) l), x .1)
 
   -- Its constants were made.
@@ -195,44 +206,52 @@ module _ (t : List ℕ) (nodes : ℕ) (table : Nodes t nodes) (size : nodes ≤ 
       go true e = leaf-known (slotOf w f v) (h v (ltb-true v 8 e))
       go false e = tt
 
-  -- in a word
+  -- The constants in the term of a word were made.
   pub word-known : (a : ℕ) → Word a → Leaves (termOf t w a) Known
   unfolding Leaves termOf
   word-known a (ofLeaf l) = subst (λ (u : Term Leaf). Leaves u Known) (sym (leaf-term a l)) (leaf-known a l)
   word-known a (ofClosure c) =
       rw (c .tag)
-      (leaves-substitute (termAt t (nodeOf a)) (environmentAt w (frameOf a)) (λ v. Unit {0}) Known (λ v u. environment-known (frameOf a) (c .slots) v)
+      (leaves-substitute (termAt t (nodeOf a)) (environmentAt w (frameOf a)) (λ v. Unit {0}) Known
+      (λ v u. environment-known (frameOf a) (c .slots) v)
       (leaves-any (termAt t (nodeOf a)) (λ v. Unit {0}) (λ v. tt)))
 
-  module _ (formed : Formed s) (fits : length (s .bindings) ≤ acts) (holds : (x : ℕ) → x < s .next → variableOf t w x ≡ boundTo (s .bindings) x)
+  module _ (formed : Formed s) (fits : length (s .bindings) ≤ acts) (holds : (x : ℕ) → x < s .next
+      → variableOf t w x ≡ boundTo (s .bindings) x)
       (levels : (x : ℕ) → x < s .next → levelOf w x ≡ s .level x) (free : (x : ℕ) → x < s .next → Unbound (s .bindings) x → cellOf w x ≡ 0)
       (words : (x : ℕ) → x < s .next → (cellOf w x ≡ 0) ⊎ Word (cellOf w x)) where
-    -- a word that reads as a term is not of tag 0
+    -- A word that reads as a term is not of tag 0.
     word-tag : (a : ℕ) → Word a → tagOf a ≡ 0 → ⊥
     word-tag a (ofLeaf (variable e)) z = omega arith
     word-tag a (ofLeaf (constant e l)) z = omega arith
     word-tag a (ofClosure c) z = let e = c .tag in omega arith
 
-    -- a bound variable reads as its cell's word
+    -- A bound variable reads as its cell's word.
     bound-word : (x : ℕ) → Word (cellOf w x) → variableOf t w x ≡ termOf t w (cellOf w x)
     unfolding variableOf tagOf
-    bound-word x g = ap (λ (b : Bool). cond b (leaf (var x)) (termOf t w (cellOf w x))) (ne-eqb (cellOf w x) 0 (λ z. word-tag (cellOf w x) g (ap tagOf z)))
+    bound-word x g =
+        ap (λ (b : Bool). cond b (leaf (var x)) (termOf t w (cellOf w x)))
+        (ne-eqb (cellOf w x) 0 (λ z. word-tag (cellOf w x) g (ap tagOf z)))
 
-    -- an unbound one as itself
+    -- An unbound variable reads as itself.
     free-word : (x : ℕ) → cellOf w x ≡ 0 → variableOf t w x ≡ leaf (var x)
     unfolding variableOf
     free-word x z = rw z
 
-    -- so its word is good
+    -- The word in the cell of a variable that was made is good.
     bound-good : (x : ℕ) → x < s .next → Word (cellOf w x) → Good (cellOf w x)
-    bound-good x l g = (g, subst (λ (u : Term Leaf). Leaves u (Below (s .next))) (sym (holds x l) ∙ bound-word x g) (bound-below (s .bindings) (s .next) x (formed .below) l))
+    bound-good x l g = (
+      g,
+      subst (λ (u : Term Leaf). Leaves u (Below (s .next))) (sym (holds x l) ∙ bound-word x g)
+          (bound-below (s .bindings) (s .next) x (formed .below) l),
+    )
 
-    -- one turn of a variable
+    -- The variable in a word of variables that were made is below the next number.
     variable-below : (a : ℕ) → tagOf a ≡ variableTag → Leaves (termOf t w a) (Below (s .next)) → nameOf a < s .next
     unfolding Leaves Below
     variable-below a e b = subst (λ (u : Term Leaf). Leaves u (Below (s .next))) (variable-term a e) b
 
-    -- a variable with no word, and one with a word
+    -- A variable with no word is looked through already.
     free-look : (x : ℕ) → x < s .next → cellOf w x ≡ 0 → look (s .bindings) (leaf (var x)) ≡ leaf (var x)
     free-look x l z = go (cell (s .bindings) x) refl
       where
@@ -242,35 +261,41 @@ module _ (t : List ℕ) (nodes : ℕ) (table : Nodes t nodes) (size : nodes ≤ 
             let q : u ≡ leaf (var x) = sym (cell-some (s .bindings) x u e) ∙ sym (holds x l) ∙ free-word x z in
             absurd (let h = hop (s .bindings) x u (formed .bound) e .1 in let k = ap (hops (s .bindings)) q in omega arith)
 
-    -- one with a word
+    -- A variable with a word is looked through as that word's term, with one turn more.
     bound-look : (x : ℕ) → x < s .next → Word (cellOf w x)
-        → (look (s .bindings) (leaf (var x)) ≡ look (s .bindings) (termOf t w (cellOf w x))) × (hops (s .bindings) (leaf (var x)) ≡ suc (hops (s .bindings) (termOf t w (cellOf w x))))
+        → (look (s .bindings) (leaf (var x)) ≡ look (s .bindings) (termOf t w (cellOf w x)))
+        × (hops (s .bindings) (leaf (var x)) ≡ suc (hops (s .bindings) (termOf t w (cellOf w x))))
     bound-look x l h = go (cell (s .bindings) x) refl
       where
         go : (o : Option (Term Leaf)) → cell (s .bindings) x ≡ o
-            → (look (s .bindings) (leaf (var x)) ≡ look (s .bindings) (termOf t w (cellOf w x))) × (hops (s .bindings) (leaf (var x)) ≡ suc (hops (s .bindings) (termOf t w (cellOf w x))))
+            → (look (s .bindings) (leaf (var x)) ≡ look (s .bindings) (termOf t w (cellOf w x)))
+            × (hops (s .bindings) (leaf (var x)) ≡ suc (hops (s .bindings) (termOf t w (cellOf w x))))
         go none e = absurd (word-tag (cellOf w x) h (ap tagOf (free x l (stop (s .bindings) x e)) ∙ zero-tag))
         go (some u) e =
             let q : u ≡ termOf t w (cellOf w x) = sym (cell-some (s .bindings) x u e) ∙ sym (holds x l) ∙ bound-word x h in
-            subst (λ (v : Term Leaf). (look (s .bindings) (leaf (var x)) ≡ look (s .bindings) v) × (hops (s .bindings) (leaf (var x)) ≡ suc (hops (s .bindings) v))) q (hop (s .bindings) x u (formed .bound) e)
+            subst (λ (v : Term Leaf). (look (s .bindings) (leaf (var x)) ≡ look (s .bindings) v)
+            × (hops (s .bindings) (leaf (var x)) ≡ suc (hops (s .bindings) v))) q (hop (s .bindings) x u (formed .bound) e)
 
-    -- other words
+    -- A word of no variable is looked through already.
     other-look : (a : ℕ) → Word a → (tagOf a ≡ variableTag → ⊥) → look (s .bindings) (termOf t w a) ≡ termOf t w a
     other-look a (ofLeaf (variable e)) d = absurd (d e)
-    other-look a (ofLeaf (constant e l)) d = rw (constant-term a e) (look-con (s .bindings) (nameOf a) (field w (nameOf a) fields.constantLevel) .0)
+    other-look a (ofLeaf (constant e l)) d =
+        rw (constant-term a e) (look-con (s .bindings) (nameOf a) (field w (nameOf a) fields.constantLevel) .0)
     other-look a (ofClosure c) d = rw (closure-term a c) (look-app (s .bindings) _ _ .0)
 
     -- A good word and its term.
     abbrev Reads : ℕ → Term Leaf → Type 0
     Reads a u = Good a × (termOf t w a ≡ u)
 
-    -- one turn from it
+    -- One turn of `deref` from a variable is one step of `look`.
     turn : (a : ℕ) → Good a → Turn w (s .bindings) Reads a (termOf t w a)
     turn a g = go (g .0)
       where
-        at : tagOf a ≡ variableTag → nameOf a < s .next → (cellOf w (nameOf a) ≡ 0) ⊎ Word (cellOf w (nameOf a)) → Turn w (s .bindings) Reads a (leaf (var (nameOf a)))
+        at : tagOf a ≡ variableTag → nameOf a < s .next → (cellOf w (nameOf a) ≡ 0) ⊎ Word (cellOf w (nameOf a))
+            → Turn w (s .bindings) Reads a (leaf (var (nameOf a)))
         at e l (inl z) =
-            stays (λ n. deref-free n w a (tagOf a) (nameOf a) (cellOf w (nameOf a)) (tagOf (cellOf w (nameOf a))) refl e refl refl refl (ap tagOf z ∙ zero-tag))
+            stays (λ n. deref-free n w a (tagOf a) (nameOf a) (cellOf w (nameOf a)) (tagOf (cellOf w (nameOf a))) refl e refl refl refl
+            (ap tagOf z ∙ zero-tag))
             (free-look (nameOf a) l z)
         at e l (inr k) =
             let q = bound-look (nameOf a) l k in
@@ -278,22 +303,26 @@ module _ (t : List ℕ) (nodes : ℕ) (table : Nodes t nodes) (size : nodes ≤ 
 
         go : Word a → Turn w (s .bindings) Reads a (termOf t w a)
         go (ofLeaf (variable e)) = let l = variable-below a e (g .1) in rw (variable-term a e) (at e l (words (nameOf a) l))
-        go (ofLeaf (constant e l)) = stays (λ n. deref-other n w a (tagOf a) refl (λ q. omega arith)) (other-look a (ofLeaf (constant e l)) (λ q. omega arith))
+        go (ofLeaf (constant e l)) =
+            stays (λ n. deref-other n w a (tagOf a) refl (λ q. omega arith)) (other-look a (ofLeaf (constant e l)) (λ q. omega arith))
         go (ofClosure c) =
-            stays (λ n. deref-other n w a (tagOf a) refl (λ q. let e = c .tag in omega arith)) (other-look a (ofClosure c) (λ q. let e = c .tag in omega arith))
+            stays (λ n. deref-other n w a (tagOf a) refl (λ q. let e = c .tag in omega arith))
+            (other-look a (ofClosure c) (λ q. let e = c .tag in omega arith))
 
-    -- So a word looked through reads as its term looked through,
+    -- A word looked through reads as its term looked through.
     pub sought : (a : ℕ) → Good a → Good (deref acts w a) × (termOf t w (deref acts w a) ≡ look (s .bindings) (termOf t w a))
     sought a g =
-        deref-look w (s .bindings) Reads (λ b u r. subst (Turn w (s .bindings) Reads b) (r .1) (turn b (r .0))) acts a (termOf t w a) (g, refl)
+        deref-look w (s .bindings) Reads (λ b u r. subst (Turn w (s .bindings) Reads b) (r .1) (turn b (r .0))) acts a (termOf t w a)
+        (g, refl)
         (let l = hops-le (s .bindings) (termOf t w a) in omega arith)
 
-    -- with the same final value:
+    -- A word looked through has the same final value.
     sought-value : (a : ℕ) → Good a → value s (termOf t w a) ≡ value s (termOf t w (deref acts w a))
     sought-value a g = sym (ap (value s) (sought a g .1) ∙ value-look s (termOf t w a) formed)
 
-    -- a variable, then, is unbound
-    pub variable-value : (a : ℕ) → Good a → tagOf (deref acts w a) ≡ variableTag → value s (termOf t w a) ≡ leaf (leftover (nameOf (deref acts w a)) (s .level (nameOf (deref acts w a))))
+    -- A word looked through that is a variable is unbound, and its value is a leftover variable.
+    pub variable-value : (a : ℕ) → Good a → tagOf (deref acts w a) ≡ variableTag
+        → value s (termOf t w a) ≡ leaf (leftover (nameOf (deref acts w a)) (s .level (nameOf (deref acts w a))))
     unfolding substitute
     variable-value a g e =
         let x = nameOf (deref acts w a) in
@@ -301,14 +330,16 @@ module _ (t : List ℕ) (nodes : ℕ) (table : Nodes t nodes) (size : nodes ≤ 
         let u : Unbound (s .bindings) x = ap (look (s .bindings)) (sym h) ∙ look-twice (s .bindings) (termOf t w a) (formed .bound) ∙ h in
         sought-value a g ∙ ap (value s) (variable-term (deref acts w a) e) ∙ value-unbound s x formed u
 
-    -- a constant is itself,
-    pub constant-value : (a : ℕ) → Good a → tagOf (deref acts w a) ≡ constantTag → value s (termOf t w a) ≡ leaf (made (nameOf (deref acts w a)) (field w (nameOf (deref acts w a)) fields.constantLevel))
+    -- A word looked through that is a constant has that made constant as its value.
+    pub constant-value : (a : ℕ) → Good a → tagOf (deref acts w a) ≡ constantTag
+        → value s (termOf t w a) ≡ leaf (made (nameOf (deref acts w a)) (field w (nameOf (deref acts w a)) fields.constantLevel))
     unfolding substitute final at symbolOf
     constant-value a g e = sought-value a g ∙ ap (value s) (constant-term (deref acts w a) e)
 
-    -- and a closure is an application.
+    -- A word looked through that is a closure has an application as its value.
     pub closure-value : (a : ℕ) → Good a → (c : Closure t w nodes acts (deref acts w a))
-        → value s (termOf t w a) ≡ app (labelOf t (nodeOf (deref acts w a))) (substitutes (substitutes (argumentsAt t (nodeOf (deref acts w a))) (environmentAt w (frameOf (deref acts w a)))) (final s))
+        → value s (termOf t w a) ≡ app (labelOf t (nodeOf (deref acts w a)))
+        (substitutes (substitutes (argumentsAt t (nodeOf (deref acts w a))) (environmentAt w (frameOf (deref acts w a)))) (final s))
     unfolding substitute
     closure-value a g c = sought-value a g ∙ ap (value s) (closure-term (deref acts w a) c)
 
@@ -318,7 +349,7 @@ module _ (t : List ℕ) (nodes : ℕ) (table : Nodes t nodes) (size : nodes ≤ 
     cell-known x (inl z) = rw z tt
     cell-known x (inr g) = subst (λ (u : Term Leaf). Leaves u Known) (sym (bound-word x g)) (word-known (cellOf w x) g)
 
-    -- of all that is bound
+    -- The constants in all that is bound were made.
     bound-known : (x : ℕ) → Leaves (boundTo (s .bindings) x) Known
     unfolding Leaves Known
     bound-known x = go (ltb x (s .next)) refl
@@ -327,21 +358,24 @@ module _ (t : List ℕ) (nodes : ℕ) (table : Nodes t nodes) (size : nodes ≤ 
         go true e = let l = ltb-true x (s .next) e in subst (λ (u : Term Leaf). Leaves u Known) (holds x l) (cell-known x (words x l))
         go false e =
             subst (λ (u : Term Leaf). Leaves u Known)
-            (sym (unbound-alone (s .bindings) x (formed .bound) (unbound-beyond (s .bindings) (s .next) x (ltb-false x (s .next) e) (formed .below)))) tt
+            (sym (unbound-alone (s .bindings) x (formed .bound)
+            (unbound-beyond (s .bindings) (s .next) x (ltb-false x (s .next) e) (formed .below)))) tt
 
-    -- so of all symbols of a value
+    -- All symbols of a word's value are as the memory has them.
     pub value-right : (a : ℕ) → Good a → Leaves (value s (termOf t w a)) (Right w (s .next) acts)
     unfolding Leaves final at solution symbolOf Right Known substitute Below
     value-right a g =
         leaves-substitute (termOf t w a) (final s) (Appears (termOf t w a)) (Right w (s .next) acts)
-        (λ c i. each c (appears-leaves (termOf t w a) (Below (s .next)) c (g .1) i) (appears-leaves (termOf t w a) Known c (word-known a (g .0)) i))
+        (λ c i. each c (appears-leaves (termOf t w a) (Below (s .next)) c (g .1) i)
+        (appears-leaves (termOf t w a) Known c (word-known a (g .0)) i))
         (leaves-appear (termOf t w a) (Appears (termOf t w a)) (λ c i. i))
       where
         of : (x : ℕ) → x < s .next → (c : Leaf) → Appears (solution s x) c → Leaves (symbolOf s c) (Right w (s .next) acts)
         of x l (var z) i =
             let o = formed .ordered x z l i in
             (o .0, free z (o .0) (appears-unbound (s .bindings) x z (formed .bound) i), sym (levels z (o .0)))
-        of x l (con c k) i = appears-leaves (solution s x) Known (con c k) (final-leaves Known (λ y. tt) (s .bindings) (formed .bound) bound-known x) i
+        of x l (con c k) i =
+            appears-leaves (solution s x) Known (con c k) (final-leaves Known (λ y. tt) (s .bindings) (formed .bound) bound-known x) i
 
         each : (c : Leaf) → Below (s .next) c → Known c → Leaves (final s c) (Right w (s .next) acts)
         each (var x) l k =

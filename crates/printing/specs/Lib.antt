@@ -1,9 +1,9 @@
 -- The writer in flat memory ("level 2"): from the machine's memory after a proved search the answer text (document 01), shaped as
 -- the code is.
 pub mod Output
-pub mod Marks
+pub mod Numbering
 pub mod WriteTerms
 pub mod WriteLines
-pub mod Links
+pub mod PathLinks
 pub mod Writer
 pub mod Written

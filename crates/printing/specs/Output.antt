@@ -6,20 +6,20 @@ use mathlib.Core.Bool.{true, false, cond}
 use mathlib.Core.List.{List, [], _∷_}
 use lib.Dec.{ltb}
 use lib.ListN.{length, getD, set}
-use Rattle.machine.specs.Words.{up}
+use Rattle.machine.specs.Words.{increment}
 
 -- The buffer, and the next position.
 pub record Written : Type 0 where
   pub buffer : List ℕ
   pub at : ℕ
 
--- the two together
+-- A buffer and a position make a record.
 abbrev pub written : List ℕ → ℕ → Written
 written out at = record { buffer = out; at = at }
 
 -- One byte.
 unfoldable pub emit : List ℕ → ℕ → ℕ → ℕ → Written
-emit out limit at b = cond (ltb limit at) (written out at) (written (set out at b) (up at))
+emit out limit at b = cond (ltb limit at) (written out at) (written (set out at b) (increment at))
 
 -- Some bytes.
 unfoldable pub writeBytes : List ℕ → List ℕ → ℕ → ℕ → Written
@@ -28,7 +28,7 @@ writeBytes (b ∷ bs) out limit at =
     let s = emit out limit at b in
     writeBytes bs (s .buffer) limit (s .at)
 
--- n bytes of the sheet from i on, as far as there are so many.
+-- Writes n bytes of the sheet from i on, as far as there are so many.
 unfoldable pub copyBytes : ℕ → List ℕ → ℕ → List ℕ → ℕ → ℕ → Written
 copyBytes zero sheet i out limit at = written out at
 copyBytes (suc n) sheet i out limit at =

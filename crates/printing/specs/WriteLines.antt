@@ -8,21 +8,21 @@ use Rattle.machine.specs.Fields as fields
 use Rattle.machine.specs.Records.{trueLine, andLine, leftLine, rightLine, someLine, allLine}
 use Rattle.machine.specs.Words.{variableWord, constantWord}
 use Rattle.printing.specs.Output.{writeBytes, writeNumber}
-use Rattle.printing.specs.Marks.{Page, wrote}
+use Rattle.printing.specs.Numbering.{Printer, wrote}
 use Rattle.printing.specs.WriteTerms.{emitTo, termTo}
-use Rattle.printing.specs.Links.{nextLineField, lineCodes}
+use Rattle.printing.specs.PathLinks.{nextLineField, lineCodes}
 use Rattle.memory.specs.Records.{field}
 
--- Bytes on a page.
-unfoldable pub bytesTo : ℕ → Page → List ℕ → Page
-bytesTo limit g bs = wrote g (writeBytes bs (g .buffer) limit (g .pen .at))
+-- Bytes on the printer.
+unfoldable pub bytesTo : ℕ → Printer → List ℕ → Printer
+bytesTo limit g bs = wrote g (writeBytes bs (g .buffer) limit (g .cursor .at))
 
--- A number on a page.
-unfoldable pub numberTo : ℕ → Page → ℕ → Page
-numberTo limit g n = wrote g (writeNumber (g .buffer) limit (g .pen .at) n)
+-- A number on the printer.
+unfoldable pub numberTo : ℕ → Printer → ℕ → Printer
+numberTo limit g n = wrote g (writeNumber (g .buffer) limit (g .cursor .at) n)
 
 -- "First `R`, outcome, units": bs are the bytes before the units.
-unfoldable pub resultTo : ℕ → Page → List ℕ → ℕ → Page
+unfoldable pub resultTo : ℕ → Printer → List ℕ → ℕ → Printer
 resultTo limit g bs units = emitTo limit (numberTo limit (bytesTo limit g bs) units) lf
 
 -- The five lines that have no term.
@@ -34,11 +34,11 @@ plainBytes k =
 
 module _ (sheet t : List ℕ) (turns limit : ℕ) where
   -- A line of these bytes and the term of word a.
-  unfoldable pub termLine : Page → List ℕ → ℕ → Page
+  unfoldable pub termLine : Printer → List ℕ → ℕ → Printer
   termLine g bs a = emitTo limit (termTo sheet t turns limit (bytesTo limit g bs) a) lf
 
   -- "`B v term` for each free variable, ascending": the names from v on, n of them; the lowest bit of the mask is that of v.
-  unfoldable pub bindingsTo : ℕ → ℕ → ℕ → Page → Page
+  unfoldable pub bindingsTo : ℕ → ℕ → ℕ → Printer → Printer
   bindingsTo zero mask v g = g
   bindingsTo (suc n) mask v g =
       elim (eqb (mask % 2) 1) [
@@ -47,18 +47,18 @@ module _ (sheet t : List ℕ) (turns limit : ℕ) where
       ]
 
   -- The terms of a prefix: n variables from x on.
-  unfoldable pub prefixTo : ℕ → Page → ℕ → Page
+  unfoldable pub prefixTo : ℕ → Printer → ℕ → Printer
   prefixTo zero g x = g
   prefixTo (suc n) g x = prefixTo n (termTo sheet t turns limit (emitTo limit g tab) (variableWord x)) (suc x)
 
   -- "`D clause place term...`", of record q.
-  unfoldable pub clauseTo : Page → ℕ → Page
+  unfoldable pub clauseTo : Printer → ℕ → Printer
   clauseTo g q =
       let s = numberTo limit (bytesTo limit g (ascii "D\tclause\t")) (field (g .memory) q fields.usePlace) in
       emitTo limit (prefixTo (field (g .memory) q fields.useCount) s (field (g .memory) q fields.variables)) lf
 
   -- The line of kind k in record q.
-  unfoldable pub lineTo : Page → ℕ → ℕ → Page
+  unfoldable pub lineTo : Printer → ℕ → ℕ → Printer
   lineTo g q k = elim (ltb k someLine) [
     | true ↦ bytesTo limit g (plainBytes k)
     | false ↦ elim (eqb k someLine) [
@@ -68,6 +68,11 @@ module _ (sheet t : List ℕ) (turns limit : ℕ) where
   ]
 
   -- The lines from link e on, at most n of them (Links).
-  unfoldable pub linesTo : ℕ → Page → ℕ → Page
+  unfoldable pub linesTo : ℕ → Printer → ℕ → Printer
   linesTo zero g e = g
-  linesTo (suc n) g e = elim (eqb (e / lineCodes) 0) [ true ↦ g | false ↦ linesTo n (lineTo g (e / lineCodes - 1) (e % lineCodes)) (field (g .memory) (e / lineCodes - 1) nextLineField) ]
+  linesTo (suc n) g e =
+      elim (eqb (e / lineCodes) 0) [
+        | true ↦ g
+        | false ↦
+            linesTo n (lineTo g (e / lineCodes - 1) (e % lineCodes)) (field (g .memory) (e / lineCodes - 1) nextLineField)
+      ]

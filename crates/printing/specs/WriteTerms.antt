@@ -7,48 +7,57 @@ use mathlib.Core.Bool.{true, false, cond}
 use mathlib.Core.List.{List}
 use lib.Dec.{eqb, ltb}
 use Rattle.node_table.specs.Layout.{childCount, labelOf, childOf, nameStart, nameLength}
-use Rattle.machine.specs.Words.{up, tagOf, nameOf, nodeOf, frameOf, wordOf, constantTag, variableTag, deref}
+use Rattle.machine.specs.Words.{increment, tagOf, nameOf, nodeOf, frameOf, wordOf, constantTag, variableTag, deref}
 use Rattle.printing.specs.Output.{emit, copyBytes}
-use Rattle.printing.specs.Marks.{Page, wrote, showVariable, showConstant}
+use Rattle.printing.specs.Numbering.{Printer, wrote, writeVariable, writeConstant}
 
--- A byte on a page.
-unfoldable pub emitTo : ℕ → Page → ℕ → Page
-emitTo limit g b = wrote g (emit (g .buffer) limit (g .pen .at) b)
+-- A byte on the printer.
+unfoldable pub emitTo : ℕ → Printer → ℕ → Printer
+emitTo limit g b = wrote g (emit (g .buffer) limit (g .cursor .at) b)
 
 -- The name of symbol f, from the sheet.
-unfoldable pub writeName : List ℕ → List ℕ → ℕ → Page → ℕ → Page
-writeName sheet t limit g f = wrote g (copyBytes (nameLength t f) sheet (nameStart t f) (g .buffer) limit (g .pen .at))
+unfoldable pub writeName : List ℕ → List ℕ → ℕ → Printer → ℕ → Printer
+writeName sheet t limit g f = wrote g (copyBytes (nameLength t f) sheet (nameStart t f) (g .buffer) limit (g .cursor .at))
 
 -- What stands before argument j.
 unfoldable pub separator : ℕ → ℕ
 separator j = cond (eqb j 0) (code "(") (code ",")
 
 -- The arguments from the j-th on, c of them, of node n in frame f, each by `write`; then the closing bracket.
-unfoldable pub argumentsBy : (Page → ℕ → Page) → List ℕ → ℕ → ℕ → ℕ → ℕ → ℕ → Page → Page
+unfoldable pub argumentsBy : (Printer → ℕ → Printer) → List ℕ → ℕ → ℕ → ℕ → ℕ → ℕ → Printer → Printer
 argumentsBy write t limit zero n f j g = emitTo limit g (code ")")
 argumentsBy write t limit (suc c) n f j g =
     let s = emitTo limit g (separator j) in
     argumentsBy write t limit c n f (suc j) (write s (wordOf t (s .memory) (childOf t n j) f))
 
 -- An application: its name, then its arguments, if there are any.
-unfoldable pub applicationBy : (Page → ℕ → Page) → List ℕ → List ℕ → ℕ → Page → ℕ → ℕ → Page
+unfoldable pub applicationBy : (Printer → ℕ → Printer) → List ℕ → List ℕ → ℕ → Printer → ℕ → ℕ → Printer
 applicationBy write sheet t limit g n f =
     let s = writeName sheet t limit g (labelOf t n) in
     elim (eqb (childCount t n) 0) [ true ↦ s | false ↦ argumentsBy write t limit (childCount t n) n f 0 s ]
 
 -- The word a, looked through.
-unfoldable pub wordBy : (Page → ℕ → Page) → List ℕ → List ℕ → ℕ → Page → ℕ → Page
+unfoldable pub wordBy : (Printer → ℕ → Printer) → List ℕ → List ℕ → ℕ → Printer → ℕ → Printer
 wordBy write sheet t limit g a = elim (eqb (tagOf a) variableTag) [
-  | true ↦ showVariable limit g (nameOf a)
-  | false ↦ elim (eqb (tagOf a) constantTag) [ true ↦ showConstant limit g (nameOf a) | false ↦ applicationBy write sheet t limit g (nodeOf a) (frameOf a) ]
+  | true ↦ writeVariable limit g (nameOf a)
+  | false ↦
+      elim (eqb (tagOf a) constantTag) [
+        | true ↦ writeConstant limit g (nameOf a)
+        | false ↦
+            applicationBy write sheet t limit g (nodeOf a) (frameOf a)
+      ]
 ]
 
 -- The term of word a: at most `turns` bindings are looked through at a time.
-unfoldable pub writeTerm : ℕ → List ℕ → List ℕ → ℕ → ℕ → Page → ℕ → Page
+unfoldable pub writeTerm : ℕ → List ℕ → List ℕ → ℕ → ℕ → Printer → ℕ → Printer
 writeTerm zero sheet t turns limit g a = g
 writeTerm (suc rank) sheet t turns limit g a =
-    elim (ltb limit (g .pen .at)) [ true ↦ g | false ↦ wordBy (writeTerm rank sheet t turns limit) sheet t limit g (deref turns (g .memory) a) ]
+    elim (ltb limit (g .cursor .at)) [
+      | true ↦ g
+      | false ↦
+          wordBy (writeTerm rank sheet t turns limit) sheet t limit g (deref turns (g .memory) a)
+    ]
 
 -- A rank that suffices.
-unfoldable pub termTo : List ℕ → List ℕ → ℕ → ℕ → Page → ℕ → Page
-termTo sheet t turns limit g a = writeTerm (up limit) sheet t turns limit g a
+unfoldable pub termTo : List ℕ → List ℕ → ℕ → ℕ → Printer → ℕ → Printer
+termTo sheet t turns limit g a = writeTerm (increment limit) sheet t turns limit g a

@@ -9,11 +9,11 @@ use Rattle.sheet_format.specs.Limits.{maxTextBytes, variableNames}
 use Rattle.sheet_format.specs.Bytes.{ascii, lf}
 use Rattle.node_table.specs.Layout.{maskOf}
 use Rattle.machine.specs.Records.{Made}
-use Rattle.printing.specs.declared.Pen.{Pen}
+use Rattle.printing.specs.declared.Cursor.{Cursor}
 use Rattle.printing.specs.Output.{Written, written, emit, writeBytes, writeNumber}
-use Rattle.printing.specs.Marks.{onAt, Page, page}
+use Rattle.printing.specs.Numbering.{withPosition, Printer, printer}
 use Rattle.printing.specs.WriteLines.{resultTo, bindingsTo, linesTo}
-use Rattle.printing.specs.Links.{linkPath, clearConstants}
+use Rattle.printing.specs.PathLinks.{linkPath, clearConstants}
 
 -- "The answer text is over 65,535 bytes or longer than the answer buffer": the most that fits.
 unfoldable pub textLimit : List ℕ → ℕ
@@ -24,43 +24,45 @@ abbrev pub noRoom : ℕ
 noRoom = 65536
 
 -- Nothing is written or numbered.
-abbrev pub freshPen : Pen
-freshPen = record { at = 0; variables = 0; constants = 0 }
+abbrev pub startCursor : Cursor
+startCursor = record { at = 0; variables = 0; constants = 0 }
 
 -- The text of a proved search: the path begins at link e.
-unfoldable pub proofPass : List ℕ → List ℕ → ℕ → ℕ → ℕ → ℕ → ℕ → Page → Page
+unfoldable pub proofPass : List ℕ → List ℕ → ℕ → ℕ → ℕ → ℕ → ℕ → Printer → Printer
 proofPass sheet t turns limit goal units e g =
-    linesTo sheet t turns limit turns (bindingsTo sheet t turns limit variableNames (maskOf t goal) 0 (resultTo limit g (ascii "R\tproved\t") units)) e
+    linesTo sheet t turns limit turns
+    (bindingsTo sheet t turns limit variableNames (maskOf t goal) 0 (resultTo limit g (ascii "R\tproved\t") units)) e
 
 -- Forward links, and no numbers.
 unfoldable pub prepare : Made → List ℕ
-prepare m = clearConstants (m .registers .acts) (linkPath (m .registers .acts) (m .memory) (m .registers .path) (m .registers .line) 0 .memory)
+prepare m =
+    clearConstants (m .registers .acts) (linkPath (m .registers .acts) (m .memory) (m .registers .path) (m .registers .line) 0 .memory)
 
 -- The link to the first line.
 unfoldable pub firstLink : Made → ℕ
 firstLink m = linkPath (m .registers .acts) (m .memory) (m .registers .path) (m .registers .line) 0 .first
 
--- What the writer leaves: the page of a counting pass that did not fit, the answer buffer as it was; or that of a writing pass.
+-- What the writer leaves: the printer of a counting pass that did not fit, the answer buffer as it was; or that of a writing pass.
 pub record Answered : Type 0 where
   pub memory : List ℕ
   pub buffer : List ℕ
   pub length : ℕ
 
--- the three together
+-- A work buffer, an answer buffer and a length make a record.
 abbrev pub answered : List ℕ → List ℕ → ℕ → Answered
 answered w out n = record { memory = w; buffer = out; length = n }
 
 -- The second pass: the numbers are there, the buffer is the lent one.
-unfoldable pub writePass : List ℕ → List ℕ → ℕ → ℕ → ℕ → ℕ → ℕ → Page → List ℕ → Answered
+unfoldable pub writePass : List ℕ → List ℕ → ℕ → ℕ → ℕ → ℕ → ℕ → Printer → List ℕ → Answered
 writePass sheet t turns limit goal units e g out =
-    let s = proofPass sheet t turns limit goal units e (page (g .memory) out (onAt (g .pen) 0)) in
-    answered (s .memory) (s .buffer) (s .pen .at)
+    let s = proofPass sheet t turns limit goal units e (printer (g .memory) out (withPosition (g .cursor) 0)) in
+    answered (s .memory) (s .buffer) (s .cursor .at)
 
 -- Both passes.
 unfoldable pub writeProof : List ℕ → List ℕ → ℕ → Made → ℕ → List ℕ → Answered
 writeProof sheet t goal m units out =
-    let g = proofPass sheet t (m .registers .acts) (textLimit out) goal units (firstLink m) (page (prepare m) [] freshPen) in
-    elim (ltb (textLimit out) (g .pen .at)) [
+    let g = proofPass sheet t (m .registers .acts) (textLimit out) goal units (firstLink m) (printer (prepare m) [] startCursor) in
+    elim (ltb (textLimit out) (g .cursor .at)) [
       | true ↦ answered (g .memory) out noRoom
       | false ↦ writePass sheet t (m .registers .acts) (textLimit out) goal units (firstLink m) g out
     ]
@@ -75,12 +77,13 @@ shortPass bs units out limit =
 -- Counted, and then written if it fits.
 unfoldable pub writeShort : List ℕ → ℕ → List ℕ → Written
 writeShort bs units out =
-    elim (ltb (textLimit out) (shortPass bs units [] (textLimit out) .at)) [ true ↦ written out noRoom | false ↦ shortPass bs units out (textLimit out) ]
+    elim (ltb (textLimit out) (shortPass bs units [] (textLimit out) .at))
+    [ true ↦ written out noRoom | false ↦ shortPass bs units out (textLimit out) ]
 
--- no
+-- Writes the text of no.
 unfoldable pub writeNo : ℕ → List ℕ → Written
 writeNo units out = writeShort (ascii "R\tno\t") units out
 
--- spent
+-- Writes the text of spent.
 unfoldable pub writeSpent : ℕ → List ℕ → Written
 writeSpent budget out = writeShort (ascii "R\tspent\t") budget out

@@ -22,7 +22,7 @@ use Rattle.machine.specs.Simulation.{StandsAt}
 use Rattle.answer_texts.specs.Spelling.{noText, spentText}
 use Rattle.answer_texts.specs.Promises.{searchText}
 use Rattle.printing.specs.Output.{Written, written}
-use Rattle.printing.specs.Links.{clearVariables, nextLineField}
+use Rattle.printing.specs.PathLinks.{clearVariables, nextLineField}
 use Rattle.printing.specs.Writer.{textLimit, noRoom, writeProof, writeNo, writeSpent}
 use Rattle.memory.specs.Records.{field}
 
@@ -56,16 +56,18 @@ pub record LineMade (w : List ℕ) (next q k : ℕ) : Type 0 where
 -- From pointer p on, at most n lines, each made before the one after it.
 unfoldable pub PathMade : ℕ → List ℕ → ℕ → ℕ → ℕ → Type 0
 PathMade zero w next p k = p ≡ 0
-PathMade (suc n) w next p k = (p ≡ 0) ⊎ ((1 ≤ p) × LineMade w next (p - 1) k × (field w (p - 1) fields.pathBefore < p) × PathMade n w next (field w (p - 1) fields.pathBefore) (field w (p - 1) fields.pathLine))
+PathMade (suc n) w next p k =
+    (p ≡ 0) ⊎ ((1 ≤ p) × LineMade w next (p - 1) k × (field w (p - 1) fields.pathBefore < p)
+    × PathMade n w next (field w (p - 1) fields.pathBefore) (field w (p - 1) fields.pathLine))
 
 -- The memory as a whole.
 pub record Orderly (t : List ℕ) (nodes : ℕ) (m : Made) (s : Store) : Type 0 where
-  -- the demanded part of the work buffer, and in it the variables made
+  -- The demanded part of the work buffer is there, and in it the variables made.
   pub few : m .registers .acts ≤ maxBudget
   pub room : numbersPerUnit * m .registers .acts ≤ length (m .memory)
   pub goals : variableNames ≤ s .next
   pub variables : s .next ≤ fields.cells * m .registers .acts
-  -- each act binds at most once, and an unbound variable has no word
+  -- Each act binds at most once, and an unbound variable has no word.
   pub formed : Formed s
   pub bindings : length (s .bindings) ≤ m .registers .acts
   pub unbound : (x : ℕ) → x < s .next → Unbound (s .bindings) x → cellOf (m .memory) x ≡ 0
@@ -74,31 +76,34 @@ pub record Orderly (t : List ℕ) (nodes : ℕ) (m : Made) (s : Store) : Type 0 
   pub path : PathMade (m .registers .acts) (m .memory) (s .next) (m .registers .path) (m .registers .line)
 
 -- What becomes of the answer buffer, and the text's length: "an answer changes only its own bytes".
-unfoldable pub told : List ℕ → List ℕ → Written
-told text out = cond (leb (length text) (textLimit out)) (written (text ++ drop (length text) out) (length text)) (written out noRoom)
+unfoldable pub reportedLength : List ℕ → List ℕ → Written
+reportedLength text out =
+    cond (leb (length text) (textLimit out)) (written (text ++ drop (length text) out) (length text)) (written out noRoom)
 
 -- The answer text is written if it fits, and otherwise no byte.
 abbrev pub WritesProof : Type 0
 WritesProof = (sheet t : List ℕ) (symbols nodes clauses goal : ℕ) → WellMade t nodes clauses goal → Named t nodes symbols
     → (m : Made) (s : Store) (path : List (Line Leaf)) → StandsAt t m provedMode s path → Orderly t nodes m s → (units : ℕ) (out : List ℕ)
     → written (writeProof sheet t goal m units out .buffer) (writeProof sheet t goal m units out .length)
-    ≡ told (searchText (decodeSheet sheet t symbols clauses goal) s path units) out
+    ≡ reportedLength (searchText (decodeSheet sheet t symbols clauses goal) s path units) out
 
 -- So after every run of the machine that ends with a proof.
 abbrev pub WritesAnswer : Type 0
 WritesAnswer = (sheet t : List ℕ) (symbols nodes clauses goal : ℕ) → WellMade t nodes clauses goal → Named t nodes symbols
     → (budget : ℕ) → budget ≤ maxBudget → (w : List ℕ) → numbersPerUnit * budget ≤ length w
-    → (s : Store) (path : List (Line Leaf)) (n : ℕ) → search budget (clausesFrom t clauses 0) (goalAt t goal) ≡ ends (proved s path) n → (out : List ℕ)
-    → written (writeProof sheet t goal (runMachine budget t clauses goal w) n out .buffer) (writeProof sheet t goal (runMachine budget t clauses goal w) n out .length)
-    ≡ told (searchText (decodeSheet sheet t symbols clauses goal) s path n) out
+    → (s : Store) (path : List (Line Leaf)) (n : ℕ) → search budget (clausesFrom t clauses 0) (goalAt t goal) ≡ ends (proved s path) n
+    → (out : List ℕ)
+    → written (writeProof sheet t goal (runMachine budget t clauses goal w) n out .buffer)
+    (writeProof sheet t goal (runMachine budget t clauses goal w) n out .length)
+    ≡ reportedLength (searchText (decodeSheet sheet t symbols clauses goal) s path n) out
 
--- So are the text of no
+-- The text of no is written if it fits, and otherwise no byte.
 abbrev pub WritesNo : Type 0
-WritesNo = (units : ℕ) (out : List ℕ) → writeNo units out ≡ told (noText units) out
+WritesNo = (units : ℕ) (out : List ℕ) → writeNo units out ≡ reportedLength (noText units) out
 
--- and the text of spent.
+-- The text of spent is written if it fits, and otherwise no byte.
 abbrev pub WritesSpent : Type 0
-WritesSpent = (budget : ℕ) (out : List ℕ) → writeSpent budget out ≡ told (spentText budget) out
+WritesSpent = (budget : ℕ) (out : List ℕ) → writeSpent budget out ≡ reportedLength (spentText budget) out
 
 -- With the numbers cleared, all that the search reads is as it was.
 pub record Restored (w w′ : List ℕ) (next : ℕ) : Type 0 where

@@ -15,16 +15,16 @@ use Rattle.answer_texts.specs.Judging.{valid, judge}
 use Rattle.answer_texts.specs.Promises.{CheckerExact}
 use Rattle.answer_texts.proofs.Promises.{checkerExact}
 use Rattle.engine_spec.proofs.Callers.{proved-number}
-use Rattle.engine_spec.specs.EngineRun.{toldProved, Answer, Result, answered, turnedBack as refusedRun, engineRun, answerAfter}
+use Rattle.engine_spec.specs.EngineRun.{reportedProved, Answer, Result, answered, turnedBack as refusedRun, engineRun, answerAfter}
 use Rattle.engine_spec.specs.Promises.{HandedBack, handedBack, RunContract, RunSound}
 use Rattle.engine_spec.proofs.Answered.{answered-answers}
 use Rattle.engine_spec.proofs.Buffers.{take-front}
 use Rattle.engine_spec.proofs.Promises.{runSound}
-use Rattle.checker_spec.specs.CheckText.{Checked, judged, turnedBack, countLf, checkSheet, turnBackIf, checkText}
+use Rattle.checker_spec.specs.CheckText.{Checked, judged, checkRefused, countLf, checkSheet, turnBackIf, checkText}
 use Rattle.checker_spec.specs.Promises.{HandedBack as CheckedBack, handedBack as checkedBack}
 use Rattle.promises.specs.Accepted.{AcceptsWritten, RunChecks}
 
--- whatever the buffers of the checker
+-- The checker accepts what the engine wrote, or turns back a buffer that is too short.
 accepts-written : CheckerExact → RunSound → AcceptsWritten
 unfolding checkText turnBackIf checkSheet
 accepts-written exact sound bytes budget t w a x e h t′ w′ =
@@ -36,33 +36,38 @@ accepts-written exact sound bytes budget t w a x e h t′ w′ =
   where
     Ends : Checked → Type 0
     Ends c = (c ≡ judged valid)
-        ⊎ ((r : Refusal) × (c ≡ turnedBack r) × (((r .number ≡ 2) × (t′ < tableNumbers)) ⊎ ((r .number ≡ 5) × (w′ < demanded (countLf (x .text))))))
+        ⊎ ((r : Refusal) × (c ≡ checkRefused r)
+        × (((r .number ≡ 2) × (t′ < tableNumbers)) ⊎ ((r .number ≡ 5) × (w′ < demanded (countLf (x .text))))))
 
     work : (b : Bool) → ltb w′ (demanded (countLf (x .text))) ≡ b → Ends (turnBackIf b 5 (judged valid))
     work true q = inr (refusal 5 0, refl, inr (refl, ltb-true _ _ q))
     work false q = inl refl
 
-    table : (b : Bool) → ltb t′ tableNumbers ≡ b → Ends (turnBackIf b 2 (turnBackIf (ltb w′ (demanded (countLf (x .text)))) 5 (judged valid)))
+    table : (b : Bool) → ltb t′ tableNumbers ≡ b
+        → Ends (turnBackIf b 2 (turnBackIf (ltb w′ (demanded (countLf (x .text)))) 5 (judged valid)))
     table true q = inr (refusal 2 0, refl, inl (refl, ltb-true _ _ q))
     table false q = work (ltb w′ (demanded (countLf (x .text)))) refl
 
--- T5
+-- T5 holds.
 pub acceptsWritten : AcceptsWritten
 acceptsWritten = accepts-written checkerExact runSound
 
--- told proved, the text of the answer lies in the buffer
+-- Where proved is handed back, the text of the answer lies in the buffer.
 record Proves (bytes : List ℕ) (budget t w a : ℕ) (answer′ : List ℕ) (r : HandedBack) : Type 0 where
   x : Answer
   is : engineRun bytes budget t w a ≡ answered x
-  outcome : x .outcome ≡ toldProved
+  outcome : x .outcome ≡ reportedProved
   text : take (r .length) answer′ ≡ x .text
 
-proves : (bytes : List ℕ) (budget : ℕ) (table work answer table′ work′ answer′ : List ℕ) (r : HandedBack) → RunContract bytes budget table work answer table′ work′ answer′ r → r .outcome ≡ 0
+proves : (bytes : List ℕ) (budget : ℕ) (table work answer table′ work′ answer′ : List ℕ) (r : HandedBack)
+    → RunContract bytes budget table work answer table′ work′ answer′ r → r .outcome ≡ 0
     → Proves bytes budget (length table) (length work) (length answer) answer′ r
 unfolding handedBack answerAfter
-proves bytes budget table work answer table′ work′ answer′ r c h = go (engineRun bytes budget (length table) (length work) (length answer)) refl
+proves bytes budget table work answer table′ work′ answer′ r c h =
+    go (engineRun bytes budget (length table) (length work) (length answer)) refl
   where
-    go : (q : Result) → engineRun bytes budget (length table) (length work) (length answer) ≡ q → Proves bytes budget (length table) (length work) (length answer) answer′ r
+    go : (q : Result) → engineRun bytes budget (length table) (length work) (length answer) ≡ q
+        → Proves bytes budget (length table) (length work) (length answer) answer′ r
     go (refusedRun f) e = absurd (let z : r .outcome ≡ 3 = ap (λ (b : HandedBack). b .outcome) (c .value ∙ ap handedBack e) in omega arith)
     go (answered x) e =
         let v : r ≡ handedBack (answered x) = c .value ∙ ap handedBack e in
@@ -74,25 +79,28 @@ proves bytes budget table work answer table′ work′ answer′ r c h = go (eng
           text = rw (v, b) (take-front (x .text) _);
         }
 
--- T5 of `run` and `check`
+-- T5 holds of `run` and `check`.
 run-checks : AcceptsWritten → RunChecks
 unfolding checkedBack
 run-checks accepts bytes budget table work answer table′ work′ answer′ r c h table₂ work₂ table₂′ work₂′ v d =
     let p = proves bytes budget table work answer table′ work′ answer′ r c h in
-    go (subst (λ (x : List ℕ). Ends x (checkText bytes x (length table₂) (length work₂))) (sym (p .text)) (accepts bytes budget (length table) (length work) (length answer) (p .x) (p .is) (p .outcome) (length table₂) (length work₂)))
+    go (subst (λ (x : List ℕ). Ends x (checkText bytes x (length table₂) (length work₂))) (sym (p .text))
+    (accepts bytes budget (length table) (length work) (length answer) (p .x) (p .is) (p .outcome) (length table₂) (length work₂)))
   where
     text : List ℕ
     text = take (r .length) answer′
 
     Ends : List ℕ → Checked → Type 0
     Ends x k = (k ≡ judged valid)
-        ⊎ ((f : Refusal) × (k ≡ turnedBack f) × (((f .number ≡ 2) × (length table₂ < tableNumbers)) ⊎ ((f .number ≡ 5) × (length work₂ < demanded (countLf x)))))
+        ⊎ ((f : Refusal) × (k ≡ checkRefused f)
+        × (((f .number ≡ 2) × (length table₂ < tableNumbers)) ⊎ ((f .number ≡ 5) × (length work₂ < demanded (countLf x)))))
 
-    number : (f : Refusal) → checkText bytes text (length table₂) (length work₂) ≡ turnedBack f → v .number ≡ f .number
+    number : (f : Refusal) → checkText bytes text (length table₂) (length work₂) ≡ checkRefused f → v .number ≡ f .number
     number f e = ap (λ (b : CheckedBack). b .number) (d .value ∙ ap checkedBack e)
 
     go : Ends text (checkText bytes text (length table₂) (length work₂))
-        → (v .verdict ≡ 0) ⊎ (((v .number ≡ 2) × (length table₂ < tableNumbers)) ⊎ ((v .number ≡ 5) × (length work₂ < demanded (countLf text))))
+        → (v .verdict ≡ 0) ⊎ (((v .number ≡ 2) × (length table₂ < tableNumbers))
+        ⊎ ((v .number ≡ 5) × (length work₂ < demanded (countLf text))))
     go (inl e) = inl (ap (λ (b : CheckedBack). b .verdict) (d .value ∙ ap checkedBack e))
     go (inr (f, e, inl (n, l))) = inr (inl (number f e ∙ n, l))
     go (inr (f, e, inr (n, l))) = inr (inr (number f e ∙ n, l))

@@ -7,4 +7,28 @@ use Rattle.promises.specs.Marked.{marked, MarkedCases, AcceptsResult, Ac
 
 pub markedCases : MarkedCases
 unfolding computeRun computeJudgement countLf checkSheet turnBackIf checkText marked AcceptsResult AcceptsAnswer
-markedCases = ((refl, refl), ((refl, refl), ((refl, tt), ((refl, refl), ((refl, tt), ((refl, tt), ((refl, refl), ((refl, tt), ((refl, tt), ((refl, refl), ((refl, refl), ((refl, tt), ((refl, refl), ((refl, tt), ((refl, refl), ((refl, tt), tt))))))))))))))))
+markedCases = (
+  (refl, refl),
+  (
+    (refl, refl),
+    (
+      (refl, tt),
+      (
+        (refl, refl),
+        (
+          (refl, tt),
+          (
+            (refl, tt),
+            (
+              (refl, refl),
+              (
+                (refl, tt),
+                ((refl, tt), ((refl, refl), ((refl, refl), ((refl, tt), ((refl, refl), ((refl, tt), ((refl, refl), ((refl, tt), tt)))))))),
+              ),
+            ),
+          ),
+        ),
+      ),
+    ),
+  ),
+)

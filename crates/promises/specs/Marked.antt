@@ -8,7 +8,7 @@ use Rattle.sheet_format.specs.Limits.{tableNumbers}
 use Rattle.sheet_format.specs.Bytes.{ascii}
 use Rattle.sheet_format.specs.Sheets.{refusal}
 use Rattle.answer_texts.specs.Judging.{valid}
-use Rattle.engine_spec.specs.EngineRun.{Told, toldProved, toldNo, toldSpent, Result, answered, turnedBack, engineRun}
+use Rattle.engine_spec.specs.EngineRun.{Reported, reportedProved, reportedNo, reportedSpent, Result, answered, turnedBack, engineRun}
 use Rattle.checker_spec.specs.CheckText.{judged, checkText, countLf}
 
 -- A sheet, a budget and a number of answer bytes, with the result. The table has 8,192 numbers, the work buffer 64 for each unit.
@@ -19,22 +19,22 @@ pub record Case : Type 0 where
   pub result : Result
 
 abbrev pub proves : ℕ → String → Result
-proves n t = answered (record { outcome = toldProved; units = n; text = ascii t })
+proves n t = answered (record { outcome = reportedProved; units = n; text = ascii t })
 
 abbrev pub saysNo : ℕ → String → Result
-saysNo n t = answered (record { outcome = toldNo; units = n; text = ascii t })
+saysNo n t = answered (record { outcome = reportedNo; units = n; text = ascii t })
 
 abbrev pub saysSpent : ℕ → String → Result
-saysSpent n t = answered (record { outcome = toldSpent; units = n; text = ascii t })
+saysSpent n t = answered (record { outcome = reportedSpent; units = n; text = ascii t })
 
 abbrev pub refuses : ℕ → ℕ → Result
 refuses n l = turnedBack (refusal n l)
 
--- a strobe may go: the whole sheet of document 01
+-- The whole sheet of document 01 says that a strobe may go.
 abbrev pub strobe : String
 strobe = "P\tmay\t1\nF\tstrobe\t0\nA\t1\nA\t0\t0\nC\t1\nQ\t1\n"
 
--- clause every z p(z,z), and the goals some a every b p(a,b); every b some a p(a,b); some a p(a,f(a))
+-- These sheets have the clause every z p(z,z); the goals: some a every b p(a,b), every b some a p(a,b), some a p(a,f(a)).
 abbrev pub someEvery : String
 someEvery = "P\tp\t2\nV\t0\nV\t1\nV\t2\nA\t0\t2\t2\nU\t2\t3\nC\t4\nA\t0\t0\t1\nU\t1\t5\nE\t0\t6\nQ\t7\n"
 
@@ -44,19 +44,19 @@ everySome = "P\tp\t2\nV\t0\nV\t1\nV\t2\nA\t0\t2\t2\nU\t2\t3\nC\t4\nA\t0\t0\t1\nE
 abbrev pub occurs : String
 occurs = "P\tp\t2\nF\tf\t1\nV\t0\nV\t2\nA\t0\t1\t1\nU\t2\t2\nC\t3\nA\t1\t0\nA\t0\t0\t4\nE\t0\t5\nQ\t6\n"
 
--- no clause, goal ((every a p(a)) implies q) implies some a (p(a) implies q)
+-- The sheet has no clause, and the goal ((every a p(a)) implies q) implies some a (p(a) implies q).
 abbrev pub drinker : String
 drinker = "P\tp\t1\nP\tq\t0\nV\t0\nA\t0\t0\nA\t1\nU\t0\t1\n>\t3\t2\n>\t1\t2\nE\t0\t5\n>\t4\t6\nQ\t7\n"
 
--- goal some a true
+-- The sheet has the goal some a true.
 abbrev pub someTrue : String
 someTrue = "Y\nE\t0\t0\nQ\t1\n"
 
--- clause every z p(z), free goal p(a)
+-- The sheet has the clause every z p(z), and the free goal p(a).
 abbrev pub freeGoal : String
 freeGoal = "P\tp\t1\nV\t0\nV\t1\nA\t0\t1\nU\t1\t2\nC\t3\nA\t0\t0\nQ\t4\n"
 
--- a clause of 64 members, and of 65: an atom doubled six times, and once more with the atom itself
+-- Two sheets have a clause of 64 members, and of 65: an atom doubled six times, and once more with the atom itself.
 abbrev pub members64 : String
 members64 = "P\tp\t0\nA\t0\n&\t0\t0\n&\t1\t1\n&\t2\t2\n&\t3\t3\n&\t4\t4\n&\t5\t5\nC\t6\nQ\t0\n"
 
@@ -86,15 +86,15 @@ marked =
     case strobe 50001 16384 (refuses 3 0) ∷
     []
 
--- The engine gives the result,
+-- The engine gives the result of the case.
 abbrev pub RunsAs : Case → Type 0
 RunsAs c = engineRun (ascii (c .sheet)) (c .budget) tableNumbers (64 * c .budget) (c .answerBytes) ≡ c .result
 
--- and the checker says valid to every proof.
-unfoldable pub AcceptsAnswer : Case → Told → List ℕ → Type 0
-AcceptsAnswer c toldProved text = checkText (ascii (c .sheet)) text tableNumbers (64 * countLf text) ≡ judged valid
-AcceptsAnswer c toldNo text = Unit {0}
-AcceptsAnswer c toldSpent text = Unit {0}
+-- The checker says valid to every proof.
+unfoldable pub AcceptsAnswer : Case → Reported → List ℕ → Type 0
+AcceptsAnswer c reportedProved text = checkText (ascii (c .sheet)) text tableNumbers (64 * countLf text) ≡ judged valid
+AcceptsAnswer c reportedNo text = Unit {0}
+AcceptsAnswer c reportedSpent text = Unit {0}
 
 unfoldable pub AcceptsResult : Case → Result → Type 0
 AcceptsResult c (answered a) = AcceptsAnswer c (a .outcome) (a .text)
@@ -103,6 +103,6 @@ AcceptsResult c (turnedBack r) = Unit {0}
 abbrev pub RightCase : Case → Type 0
 RightCase c = RunsAs c × AcceptsResult c (c .result)
 
--- T9
+-- T9 says that every marked case comes out right.
 abbrev pub MarkedCases : Type 0
 MarkedCases = All RightCase marked

@@ -18,7 +18,8 @@ next (b ∷ numbers) [] a = refl
 next (b ∷ numbers) (x ∷ l) a = ap {B = List ℕ} (λ r. b ∷ r) (next numbers l a)
 
 -- A write after others.
-pub and-put : (l l₁ l₂ numbers : List ℕ) (a : ℕ) → l₁ ≡ putFront numbers l → l₂ ≡ set l₁ (length numbers) a → l₂ ≡ putFront (numbers ++ a ∷ []) l
+pub and-put : (l l₁ l₂ numbers : List ℕ) (a : ℕ) → l₁ ≡ putFront numbers l → l₂ ≡ set l₁ (length numbers) a
+    → l₂ ≡ putFront (numbers ++ a ∷ []) l
 and-put l l₁ l₂ numbers a p q = q ∙ ap (λ k. set k (length numbers) a) p ∙ next numbers l a
 
 pub first-put : (l l₁ : List ℕ) (a : ℕ) → l₁ ≡ set l 0 a → l₁ ≡ putFront (a ∷ []) l

@@ -15,7 +15,8 @@ checkNumbers h = h .verdict ∷ h .line ∷ h .number ∷ []
 unfoldable pub checkOf : List ℕ → List ℕ → List ℕ → List ℕ → HandedBack
 checkOf bytes text table work = handedBack (checkText bytes text (length table) (length work))
 
--- For every input: the lent buffers as the checker leaves them, the verdict's number returned, the three numbers over the front of `result`.
+-- For every input: the lent buffers as the checker leaves them, the verdict's number returned, the three numbers over the front
+-- of `result`.
 pub record RulesCheck (bytes text table work result table′ work′ result′ : List ℕ) (n : ℕ) : Type 0 where
   pub checks : CheckContract bytes text table work table′ work′ (checkOf bytes text table work)
   pub value : n ≡ checkOf bytes text table work .verdict

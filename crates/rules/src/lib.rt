@@ -14,7 +14,8 @@ ghost use Rattle.rules.specs.RulesCheck.{checkNumbers, RulesCheck};
 
 // The first is returned too.
 fn put_run(result: &mut [u32], outcome: u32, units: u32, length: u32, number: u32, line: u32) -> u32
-    ensures { λ n. ⌜ (n ≡ outcome) × (now (result .exit) ≡ putFront (outcome ∷ units ∷ length ∷ number ∷ line ∷ []) (now (result .entry))) ⌝ }
+    ensures { λ n. ⌜ (n ≡ outcome)
+        × (now (result .exit) ≡ putFront (outcome ∷ units ∷ length ∷ number ∷ line ∷ []) (now (result .entry))) ⌝ }
 {
     put(result, 0, outcome);
     put(result, 1, units);
@@ -38,7 +39,7 @@ fn report_run(r: Run, result: &mut [u32]) -> u32
     }
 }
 
-// engine::run; the outcome's number is returned.
+// Calls engine::run; the outcome's number is returned.
 #[no_mangle]
 pub extern "C" fn rules_run(
     sheet: &[u8],
@@ -48,7 +49,8 @@ pub extern "C" fn rules_run(
     answer: &mut [u8],
     result: &mut [u32],
 ) -> u32
-    ensures { λ n. ⌜ RulesRun (now (sheet .entry)) budget (now (table .entry)) (now (work .entry)) (now (answer .entry)) (now (result .entry)) (now (table .exit)) (now (work .exit)) (now (answer .exit)) (now (result .exit)) n ⌝ }
+    ensures { λ n. ⌜ RulesRun (now (sheet .entry)) budget (now (table .entry)) (now (work .entry)) (now (answer .entry))
+        (now (result .entry)) (now (table .exit)) (now (work .exit)) (now (answer .exit)) (now (result .exit)) n ⌝ }
 {
     let r = engine::run(sheet, budget, table, work, answer);
     report_run(r, result)
@@ -74,7 +76,7 @@ fn report_check(v: Verdict, result: &mut [u32]) -> u32
     }
 }
 
-// checker::check; the verdict's number is returned.
+// Calls checker::check; the verdict's number is returned.
 #[no_mangle]
 pub extern "C" fn rules_check(
     sheet: &[u8],
@@ -83,7 +85,8 @@ pub extern "C" fn rules_check(
     work: &mut [u32],
     result: &mut [u32],
 ) -> u32
-    ensures { λ n. ⌜ RulesCheck (now (sheet .entry)) (now (text .entry)) (now (table .entry)) (now (work .entry)) (now (result .entry)) (now (table .exit)) (now (work .exit)) (now (result .exit)) n ⌝ }
+    ensures { λ n. ⌜ RulesCheck (now (sheet .entry)) (now (text .entry)) (now (table .entry)) (now (work .entry)) (now (result .entry))
+        (now (table .exit)) (now (work .exit)) (now (result .exit)) n ⌝ }
 {
     let v = checker::check(sheet, text, table, work);
     report_check(v, result)

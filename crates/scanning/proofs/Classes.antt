@@ -9,7 +9,7 @@ use lib.Seq.{getD-set-same, getD-set-other, set-out}
 use borrow.Author.Tests.{eqb-true, eqb-false, ltb-true, ltb-false}
 use Rattle.scanning.specs.Classes.{Rooted, rooted, rootFrom, rootOf, separate}
 
--- no element has a parent at first
+-- No element has a parent at first.
 pub separate-none : (i : ℕ) → getD separate i 0 ≡ 0
 unfolding separate
 separate-none i = go (ltb i 4096) refl
@@ -18,13 +18,13 @@ separate-none i = go (ltb i 4096) refl
     go true h = getD-replicate 4096 i 0 0 (ltb-true i 4096 h)
     go false h = List·getD-eq-default separate 0 (subst (λ (n : ℕ). n ≤ i) (sym (length-replicate {A = ℕ} 4096 0)) (ltb-false i 4096 h))
 
--- an element with no parent represents itself
+-- An element with no parent represents itself.
 root-none : (n : ℕ) (c : List ℕ) (i : ℕ) → getD c i 0 ≡ 0 → rootFrom n c i ≡ rooted c i
 unfolding rootFrom
 root-none zero c i h = refl
 root-none (suc n) c i h = rw h
 
--- so does each at first
+-- Each element represents itself at first.
 pub separate-root : (i : ℕ) → rootOf separate i ≡ rooted separate i
 unfolding rootOf
 separate-root i = root-none 1032 separate i (separate-none i)
@@ -34,17 +34,21 @@ module _ (R : ℕ → ℕ → Type 0) (same : (i : ℕ) → R i i) (then : (i j 
   abbrev pub Forest : List ℕ → Type 0
   Forest c = (i : ℕ) → (getD c i 0 ≡ 0 → ⊥) → R i (getD c i 0)
 
-  -- no parents
+  -- Elements without parents make a forest.
   pub separate-forest : Forest separate
   separate-forest i h = absurd (h (separate-none i))
 
-  -- another parent
+  -- A forest with another parent, to which the element is related, is a forest.
   pub forest-set : (c : List ℕ) (i j : ℕ) → Forest c → R i j → Forest (set c i j)
   forest-set c i j f r k = go (eqb k i) refl (ltb i (length c)) refl
     where
       go : (y : Bool) → eqb k i ≡ y → (z : Bool) → ltb i (length c) ≡ z → (getD (set c i j) k 0 ≡ 0 → ⊥) → R k (getD (set c i j) k 0)
-      go true p true q n = subst (λ (m : ℕ). R m (getD (set c i j) m 0)) (sym (eqb-true k i p)) (subst (R i) (sym (getD-set-same c i j 0 (ltb-true i (length c) q))) r)
-      go true p false q n = rw (set-out c i j (ltb-false i (length c) q)) (f k (λ z. n (ap (λ (l : List ℕ). getD l k 0) (set-out c i j (ltb-false i (length c) q)) ∙ z)))
+      go true p true q n =
+          subst (λ (m : ℕ). R m (getD (set c i j) m 0)) (sym (eqb-true k i p))
+          (subst (R i) (sym (getD-set-same c i j 0 (ltb-true i (length c) q))) r)
+      go true p false q n =
+          rw (set-out c i j (ltb-false i (length c) q))
+          (f k (λ z. n (ap (λ (l : List ℕ). getD l k 0) (set-out c i j (ltb-false i (length c) q)) ∙ z)))
       go false p z q n =
           let e = getD-set-other c i k j 0 (eqb-false k i p) in
           subst (R k) (sym e) (f k (λ z. n (e ∙ z)))
@@ -66,7 +70,8 @@ module _ (R : ℕ → ℕ → Type 0) (same : (i : ℕ) → R i i) (then : (i j 
       q : ℕ
       q = getD c p 0
 
-      go : (y : Bool) → eqb p 0 ≡ y → (z : Bool) → eqb q 0 ≡ z → (Forest (set c i q) → Reaches q (rootFrom n (set c i q) q)) → Reaches i (rootFrom (suc n) c i)
+      go : (y : Bool) → eqb p 0 ≡ y → (z : Bool) → eqb q 0 ≡ z → (Forest (set c i q) → Reaches q (rootFrom n (set c i q) q))
+          → Reaches i (rootFrom (suc n) c i)
       go true g z h ih = rw (rootFrom, g) (record { forest = f; related = same i })
       go false g true h ih = rw (rootFrom, g, h) (record { forest = f; related = f i (eqb-false p 0 g) })
       go false g false h ih =
@@ -74,7 +79,7 @@ module _ (R : ℕ → ℕ → Type 0) (same : (i : ℕ) → R i i) (then : (i j 
           let o = ih (forest-set c i q f r) in
           rw (rootFrom, g, h) (record { forest = o .forest; related = then i q (rootFrom n (set c i q) q .root) r (o .related) })
 
-  -- in as many steps as are made
+  -- An element is related to the representative that `rootOf` finds.
   pub root-of : (c : List ℕ) (i : ℕ) → Forest c → Reaches i (rootOf c i)
   unfolding rootOf
   root-of c i f = root-from 1032 c i f

@@ -14,7 +14,7 @@ use Rattle.sheet_format.specs.Nodes.{Declaration}
 use Rattle.node_table.specs.Layout.{childOf}
 use Rattle.node_table.specs.Decoding.{childrenBy, termAt}
 use Rattle.answer_texts.specs.Spelling.{nameOf, spellTerm, spellArguments, spellMore}
-use Rattle.scanning.proofs.Placed.{Placed}
+use Rattle.scanning.proofs.TermsInText.{SpelledAt}
 
 -- How many brackets are open at a time.
 unfoldable mutual
@@ -26,7 +26,7 @@ unfoldable mutual
   depths nil = 0
   depths (cons t ts) = max (suc (depth t)) (depths ts)
 
--- each is a byte of the spelling
+-- A term is nested no deeper than its spelling is long, since each bracket is a byte of it.
 mutual
   unfolding depth spellTerm
 
@@ -53,9 +53,9 @@ mutual
       let e = length-append (spellTerm t ds) (spellMore ts ds) in
       omega arith
 
--- a term of the text is nested less deep than the text is long
-pub placed-depth : (ds : List Declaration) (x : List ℕ) (i e : ℕ) (u : Ground) → Placed ds x i e u → depth u ≤ length x
-placed-depth ds x i e u p =
+-- A term of the text is nested no deeper than the text is long.
+pub spelled-at-depth : (ds : List Declaration) (x : List ℕ) (i e : ℕ) (u : Ground) → SpelledAt ds x i e u → depth u ≤ length x
+spelled-at-depth ds x i e u p =
     let h = spelled-depth u ds in
     let k = ap length (p .spelled) ∙ length-append (spellTerm u ds) (drop e x) in
     let l = length-drop i x in
@@ -66,8 +66,9 @@ module _ (t : List ℕ) (m : ℕ) (e : Environment Symbol) where
   abbrev child : ℕ → Ground
   child j = substitute (termAt t (childOf t m j)) e
 
-  -- children that are nested less deep than n
-  pub children-depth : (n c j : ℕ) → ((k : ℕ) → j ≤ k → k < j + c → depth (child k) < n) → depths (substitutes (childrenBy (termAt t) t m c j) e) ≤ n
+  -- If children are nested less deep than n, the term of them is nested at most n deep.
+  pub children-depth : (n c j : ℕ) → ((k : ℕ) → j ≤ k → k < j + c → depth (child k) < n)
+      → depths (substitutes (childrenBy (termAt t) t m c j) e) ≤ n
   unfolding depths childrenBy substitutes
   children-depth n zero j h = omega arith
   children-depth n (suc c) j h =
@@ -75,7 +76,7 @@ module _ (t : List ℕ) (m : ℕ) (e : Environment Symbol) where
       let b = children-depth n c (suc j) (λ k l u. h k (omega arith) (omega arith)) in
       omega arith
 
-  -- a child of those
+  -- A child is nested less deep than the term of the children.
   pub child-depth : (c j k : ℕ) → j ≤ k → k < j + c → depth (child k) < depths (substitutes (childrenBy (termAt t) t m c j) e)
   unfolding depths childrenBy substitutes
   child-depth zero j k l u = absurd (omega arith)

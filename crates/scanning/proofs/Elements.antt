@@ -17,9 +17,9 @@ use Rattle.node_table.specs.Decoding.{termAt, declarationsFrom}
 use Rattle.node_table.proofs.Decoding.{Nodes}
 use Rattle.answer_texts.specs.Judging.{sameTerm}
 use Rattle.answer_texts.proofs.Infer.{sameTerm-true}
-use Rattle.scanning.specs.Classes.{nameElement, nodeElement, elementOf, isName, elementSide, elementName, elementNode, frameOn}
+use Rattle.scanning.specs.Classes.{nameElement, nodeElement, elementOf, isName, elementSide, elementName, elementNode, sideFrame}
 use Rattle.scanning.specs.Instances.{startOf, endOf, sameName}
-use Rattle.scanning.proofs.Placed.{Placed, placed-once, same-slots}
+use Rattle.scanning.proofs.TermsInText.{SpelledAt, spelled-at-once, same-slots}
 use Rattle.scanning.proofs.Nodes.{TermIn, is-instance, slot-of}
 
 -- numbers
@@ -36,21 +36,21 @@ pub record NodeNumber (i m s : ℕ) : Type 0 where
   pub side : elementSide i ≡ s
   pub node : elementNode i ≡ m
 
--- a name's element
+-- A name's element has the side and the name.
 name-number : (v s : ℕ) → v < variableNames → s < 2 → NameNumber (nameElement s v) v s
 unfolding nameElement isName elementSide elementName
 name-number v s h k =
     let e : v % 8 ≡ v = omega arith in
     rw e (record { kind = lt-ltb (2 * v + (s + 16)) 2048 (omega arith); side = omega arith; name = omega arith })
 
--- an application's
+-- An application's element has the side and the node.
 pub node-number : (m s : ℕ) → m < 1024 → s < 2 → NodeNumber (nodeElement s m) m s
 unfolding nodeElement isName elementSide elementNode
 node-number m s h k =
     let e : m % 1024 ≡ m = omega arith in
     rw e (record { kind = le-ltb (2 * m + (s + 2048)) 2048 (omega arith); side = omega arith; node = omega arith })
 
--- by its kind
+-- A node's element is by its kind that of a name or of an application.
 name-element : (t : List ℕ) (s m : ℕ) → kindOf t m ≡ variableKind → labelOf t m < 8 → s < 2 → NameNumber (elementOf t s m) (labelOf t m) s
 unfolding elementOf
 name-element t s m z h k = rw z (name-number (labelOf t m) s h k)
@@ -59,51 +59,52 @@ node-element : (t : List ℕ) (s m : ℕ) → (kindOf t m ≡ variableKind → �
 unfolding elementOf
 node-element t s m z h k = rw (ne-eqb (kindOf t m) variableKind z) (node-number m s h k)
 
--- a side
+-- A side is 0 or 1.
 pub side-low : (i : ℕ) → elementSide i < 2
 unfolding elementSide
 side-low i = omega arith
 
 -- terms
 
-module _ (b t : List ℕ) (symbols : ℕ) (names : Names (declarationsFrom b t symbols 0)) (x : List ℕ) (nodes : ℕ) (table : Nodes t nodes) (few : nodes ≤ maxNodes) (w : List ℕ)
+module _ (b t : List ℕ) (symbols : ℕ) (names : Names (declarationsFrom b t symbols 0)) (x : List ℕ) (nodes : ℕ) (table : Nodes t nodes)
+    (few : nodes ≤ maxNodes) (w : List ℕ)
     (f g : ℕ) (e d : Environment Symbol) where
-  -- the declared symbols
+  -- The declared symbols are those of the table.
   abbrev ds : List Declaration
   ds = declarationsFrom b t symbols 0
 
-  -- the environment of side s
+  -- `environmentOn s` is the environment of side s.
   abbrev pub environmentOn : ℕ → Environment Symbol
   environmentOn s = cond (eqb s 0) e d
 
-  -- a node of a term on side s
+  -- `NodeOn m s` says that m is a node of a term on side s.
   abbrev pub NodeOn : ℕ → ℕ → Type 0
-  NodeOn m s = TermIn b t symbols names x nodes table few w m (frameOn f g s) (environmentOn s)
+  NodeOn m s = TermIn b t symbols names x nodes table few w m (sideFrame f g s) (environmentOn s)
 
   -- Element i means the term u: the name stands for it in the frame of its side, or the node's instance there is u.
   pub record Means (i : ℕ) (u : Ground) : Type 0 where
-    pub placed : isName i ≡ true → Placed ds x (startOf w f g i) (endOf w f g i) u
+    pub spelledAt : isName i ≡ true → SpelledAt ds x (startOf w f g i) (endOf w f g i) u
     pub node : isName i ≡ false → NodeOn (elementNode i) (elementSide i)
     pub applied : isName i ≡ false → kindOf t (elementNode i) ≡ applicationKind
     pub instance : isName i ≡ false → u ≡ substitute (termAt t (elementNode i)) (environmentOn (elementSide i))
 
-  -- one term only
+  -- An element means one term only.
   pub means-once : (i : ℕ) (u v : Ground) → Means i u → Means i v → u ≡ v
   means-once i u v h k = go (isName i) refl
     where
       go : (z : Bool) → isName i ≡ z → u ≡ v
-      go true q = placed-once ds names x (startOf w f g i) (endOf w f g i) (endOf w f g i) u v (h .placed q) (k .placed q)
+      go true q = spelled-at-once ds names x (startOf w f g i) (endOf w f g i) (endOf w f g i) u v (h .spelledAt q) (k .spelledAt q)
       go false q = h .instance q ∙ sym (k .instance q)
 
   -- Whatever i means, j means.
   abbrev pub Alike : ℕ → ℕ → Type 0
   Alike i j = (u : Ground) → Means i u → Means j u
 
-  -- two that mean the same
+  -- Two elements that mean the same term are alike.
   pub alike : (i j : ℕ) (u v : Ground) → Means i u → Means j v → sameTerm u v ≡ true → Alike i j
   alike i j u v h k q y m = subst (Means j) (sym (sameTerm-true u v q) ∙ means-once i u y h m) k
 
-  -- a node's element means its instance
+  -- A node's element means its instance.
   pub element-means : (s m : ℕ) → s < 2 → NodeOn m s → Means (elementOf t s m) (substitute (termAt t m) (environmentOn s))
   unfolding startOf endOf
   element-means s m l h = go (eqb (kindOf t m) variableKind) refl
@@ -118,9 +119,9 @@ module _ (b t : List ℕ) (symbols : ℕ) (names : Names (declarationsFrom b t s
       go true q =
           let z = eqb-true (kindOf t m) 0 q in
           let n = name-element t s m z (table .term m (h .below) (h .is) .variable z) l in
-          let p = slot-of b t symbols names x nodes table few w m (frameOn f g s) (environmentOn s) h z in
+          let p = slot-of b t symbols names x nodes table few w m (sideFrame f g s) (environmentOn s) h z in
           record {
-            placed = λ y. rw (n .side, n .name, p .1) (p .0);
+            spelledAt = λ y. rw (n .side, n .name, p .1) (p .0);
             node = λ y. absurd (true≢false (sym (n .kind) ∙ y));
             applied = λ y. absurd (true≢false (sym (n .kind) ∙ y));
             instance = λ y. absurd (true≢false (sym (n .kind) ∙ y));
@@ -130,7 +131,7 @@ module _ (b t : List ℕ) (symbols : ℕ) (names : Names (declarationsFrom b t s
           let n = node-element t s m z (let y = h .below in omega arith) l in
           let k : kindOf t m ≡ applicationKind = omega (arith, table .term m (h .below) (h .is) .kind) in
           record {
-            placed = λ y. absurd (true≢false (sym y ∙ n .kind));
+            spelledAt = λ y. absurd (true≢false (sym y ∙ n .kind));
             node = λ y. rw (n .side, n .node) h;
             applied = λ y. rw (n .node) k;
             instance = λ y. rw (n .side, n .node);
@@ -142,8 +143,11 @@ module _ (b t : List ℕ) (symbols : ℕ) (names : Names (declarationsFrom b t s
   same-name i j u v n h k = go (isName j) refl
     where
       go : (z : Bool) → isName j ≡ z → sameName b t x w f g i j ≡ sameTerm u v
-      go true q = rw q (same-slots ds names x (startOf w f g i) (endOf w f g i) (startOf w f g j) (endOf w f g j) u v (h .placed n) (k .placed q))
+      go true q =
+          rw q (same-slots ds names x (startOf w f g i) (endOf w f g i) (startOf w f g j) (endOf w f g j) u v (h .spelledAt n)
+          (k .spelledAt q))
       go false q =
           rw q
-          (is-instance b t symbols names x nodes table few w (startOf w f g i) (endOf w f g i) u (elementNode j) (frameOn f g (elementSide j)) (environmentOn (elementSide j)) (h .placed n) (k .node q)
+          (is-instance b t symbols names x nodes table few w (startOf w f g i) (endOf w f g i) u (elementNode j)
+          (sideFrame f g (elementSide j)) (environmentOn (elementSide j)) (h .spelledAt n) (k .node q)
           ∙ ap (sameTerm u) (sym (k .instance q)))

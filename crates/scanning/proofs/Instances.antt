@@ -22,41 +22,43 @@ use Rattle.node_table.specs.WellMade.{Arguments}
 use Rattle.node_table.proofs.Decoding.{Nodes, term-application}
 use Rattle.answer_texts.specs.Judging.{sameTerm, sameTerms}
 use Rattle.answer_texts.proofs.Infer.{sameTerm-refl}
-use Rattle.scanning.specs.Classes.{isName, elementSide, elementNode, elementChild, frameOn, nodeElement, rootOf, separate}
-use Rattle.scanning.specs.Instances.{Compared, compared, joined, sameName, joinName, sameChildren, sameNodes, sameRoots, sameElements, sameAtoms}
-use Rattle.scanning.proofs.Along.{Frame, frame-fewer, formed-child, free-child}
+use Rattle.scanning.specs.Classes.{isName, elementSide, elementNode, elementChild, sideFrame, nodeElement, rootOf, separate}
+use Rattle.scanning.specs.Instances.{Compared, compared, joined, sameName, joinName, sameChildren, sameNodes, sameRoots, sameElements}
+use Rattle.scanning.specs.Instances.{sameAtoms}
+use Rattle.scanning.proofs.InstanceSpelling.{Frame, frame-fewer, formed-child, free-child}
 use Rattle.scanning.proofs.Depth.{depth, child-depth}
 use Rattle.scanning.proofs.Nodes.{sameTerm-swap, TermIn, child-in, instance-depth}
 use Rattle.scanning.proofs.Classes.{Forest, forest-set, root-of, separate-forest, separate-root}
 use Rattle.scanning.proofs.Elements.{environmentOn, Means, means-once, Alike, alike, element-means, same-name, side-low, node-number}
 
-module _ (b t : List ℕ) (symbols : ℕ) (names : Names (declarationsFrom b t symbols 0)) (x : List ℕ) (nodes : ℕ) (table : Nodes t nodes) (few : nodes ≤ maxNodes) (w : List ℕ) where
-  -- the declared symbols
+module _ (b t : List ℕ) (symbols : ℕ) (names : Names (declarationsFrom b t symbols 0)) (x : List ℕ) (nodes : ℕ) (table : Nodes t nodes)
+    (few : nodes ≤ maxNodes) (w : List ℕ) where
+  -- The declared symbols are those of the table.
   abbrev ds : List Declaration
   ds = declarationsFrom b t symbols 0
 
   module _ (f g : ℕ) (e d : Environment Symbol) where
-    -- the environment of a side
+    -- `E s` is the environment of side s.
     abbrev E : ℕ → Environment Symbol
     E s = environmentOn b t symbols names x nodes table few w f g e d s
 
-    -- what an element means
+    -- `M i u` says that element i means the term u.
     abbrev M : ℕ → Ground → Type 0
     M i u = Means b t symbols names x nodes table few w f g e d i u
 
-    -- elements that mean the same
+    -- `A i j` says that element j means whatever element i means.
     abbrev A : ℕ → ℕ → Type 0
     A i j = Alike b t symbols names x nodes table few w f g e d i j
 
-    -- an element and itself
+    -- An element is alike to itself.
     alike-self : (i : ℕ) → A i i
     alike-self i u m = m
 
-    -- one after the other
+    -- Likeness of elements is transitive.
     alike-then : (i j k : ℕ) → A i j → A j k → A i k
     alike-then i j k p q u m = q u (p u m)
 
-    -- classes of elements that mean the same
+    -- `Classes c` says that the classes have elements that mean the same.
     abbrev Classes : List ℕ → Type 0
     Classes c = Forest A alike-self alike-then c
 
@@ -71,11 +73,16 @@ module _ (b t : List ℕ) (symbols : ℕ) (names : Names (declarationsFrom b t s
     compares-joined o z i j h r = go (o .same) refl
       where
         go : (y : Bool) → o .same ≡ y → Compares (joined o i j) z
-        go true q = rw q (record { classes = forest-set A alike-self alike-then (o .classes) i j (h .classes) (r (sym (h .answer) ∙ q)); answer = sym q ∙ h .answer })
+        go true q =
+            rw q (record {
+              classes = forest-set A alike-self alike-then (o .classes) i j (h .classes) (r (sym (h .answer) ∙ q));
+              answer = sym q ∙ h .answer;
+            })
         go false q = rw q (record { classes = h .classes; answer = sym q ∙ h .answer })
 
     -- One comparison after the other, if the first says that the terms are the same.
-    compares-then : (o : Compared) (y z : Bool) (r : List ℕ → Compared) → Compares o y → (Classes (o .classes) → Compares (r (o .classes)) z) → Compares (cond (o .same) (r (o .classes)) o) (y && z)
+    compares-then : (o : Compared) (y z : Bool) (r : List ℕ → Compared) → Compares o y
+        → (Classes (o .classes) → Compares (r (o .classes)) z) → Compares (cond (o .same) (r (o .classes)) o) (y && z)
     compares-then o y z r h k = go (o .same) refl
       where
         go : (a : Bool) → o .same ≡ a → Compares (cond a (r (o .classes)) o) (y && z)
@@ -88,65 +95,80 @@ module _ (b t : List ℕ) (symbols : ℕ) (names : Names (declarationsFrom b t s
 
     -- applications
 
-    -- what an application means
-    applied : (l : ℕ) (u : Ground) → isName l ≡ false → M l u → u ≡ app (labelOf t (elementNode l)) (substitutes (argumentsAt t (elementNode l)) (E (elementSide l)))
+    -- An application means its symbol with the instances of its arguments.
+    applied : (l : ℕ) (u : Ground) → isName l ≡ false → M l u
+        → u ≡ app (labelOf t (elementNode l)) (substitutes (argumentsAt t (elementNode l)) (E (elementSide l)))
     unfolding substitute
     applied l u p h =
         h .instance p
-        ∙ ap (λ (y : Term ℕ). substitute y (E (elementSide l))) (term-application t nodes table (elementNode l) (h .node p .below) (h .node p .is) (h .applied p))
+        ∙ ap (λ (y : Term ℕ). substitute y (E (elementSide l)))
+        (term-application t nodes table (elementNode l) (h .node p .below) (h .node p .is) (h .applied p))
 
-    -- its children
+    -- The children of an application mean their instances.
     child-means : (l : ℕ) (u : Ground) → isName l ≡ false → M l u → (a : ℕ) → a < childCount t (elementNode l)
         → M (elementChild t l a) (substitute (termAt t (childOf t (elementNode l) a)) (E (elementSide l)))
     unfolding elementChild
     child-means l u p h a o =
         element-means b t symbols names x nodes table few w f g e d (elementSide l) (childOf t (elementNode l) a) (side-low l)
-        (child-in b t symbols names x nodes table few w (elementNode l) (frameOn f g (elementSide l)) (E (elementSide l)) (h .node p) (h .applied p) a o)
+        (child-in b t symbols names x nodes table few w (elementNode l) (sideFrame f g (elementSide l)) (E (elementSide l)) (h .node p)
+        (h .applied p) a o)
 
     module _ (r : List ℕ → ℕ → ℕ → Compared) (n : ℕ) (right : Right r n) (i j : ℕ) where
-      -- the one node
+      -- `one` is the node of element i.
       abbrev one : ℕ
       one = elementNode i
 
-      -- and the other
+      -- `two` is the node of element j.
       abbrev two : ℕ
       two = elementNode j
 
-      -- the l-th children's instances
+      -- `first l` is the instance of the l-th child of `one`.
       abbrev first : ℕ → Ground
       first l = substitute (termAt t (childOf t one l)) (E (elementSide i))
 
-      -- of the other
+      -- `second l` is the instance of the l-th child of `two`.
       abbrev second : ℕ → Ground
       second l = substitute (termAt t (childOf t two l)) (E (elementSide j))
 
-      -- children
-      compares-children : (o l : ℕ) (c : List ℕ) → ((a : ℕ) → l ≤ a → a < l + o → M (elementChild t i a) (first a)) → ((a : ℕ) → l ≤ a → a < l + o → M (elementChild t j a) (second a))
+      -- Comparing children compares their instances.
+      compares-children : (o l : ℕ) (c : List ℕ) → ((a : ℕ) → l ≤ a → a < l + o → M (elementChild t i a) (first a))
+          → ((a : ℕ) → l ≤ a → a < l + o → M (elementChild t j a) (second a))
           → ((a : ℕ) → l ≤ a → a < l + o → depth (first a) < n) → Classes c
-          → Compares (sameChildren r o t i j l c) (sameTerms (substitutes (childrenBy (termAt t) t one o l) (E (elementSide i))) (substitutes (childrenBy (termAt t) t two o l) (E (elementSide j))))
+          → Compares (sameChildren r o t i j l c)
+          (sameTerms (substitutes (childrenBy (termAt t) t one o l) (E (elementSide i)))
+          (substitutes (childrenBy (termAt t) t two o l) (E (elementSide j))))
       unfolding sameChildren childrenBy substitutes sameTerms
       compares-children zero l c p q s h = record { classes = h; answer = refl }
       compares-children (suc o) l c p q s h =
           compares-then (r c (elementChild t i l) (elementChild t j l)) (sameTerm (first l) (second l))
-          (sameTerms (substitutes (childrenBy (termAt t) t one o (suc l)) (E (elementSide i))) (substitutes (childrenBy (termAt t) t two o (suc l)) (E (elementSide j))))
+          (sameTerms (substitutes (childrenBy (termAt t) t one o (suc l)) (E (elementSide i)))
+          (substitutes (childrenBy (termAt t) t two o (suc l)) (E (elementSide j))))
           (sameChildren r o t i j (l + 1))
-          (right c (elementChild t i l) (elementChild t j l) (first l) (second l) (p l (omega arith) (omega arith)) (q l (omega arith) (omega arith)) (s l (omega arith) (omega arith)) h)
-          (λ y. rw (add-one l) (compares-children o (suc l) (r c (elementChild t i l) (elementChild t j l) .classes) (λ a u v. p a (omega arith) (omega arith))
+          (right c (elementChild t i l) (elementChild t j l) (first l) (second l) (p l (omega arith) (omega arith))
+          (q l (omega arith) (omega arith)) (s l (omega arith) (omega arith)) h)
+          (λ y. rw (add-one l) (compares-children o (suc l) (r c (elementChild t i l) (elementChild t j l) .classes)
+          (λ a u v. p a (omega arith) (omega arith))
           (λ a u v. q a (omega arith) (omega arith)) (λ a u v. s a (omega arith) (omega arith)) y))
 
-      -- all children of two nodes with one symbol
-      compares-arguments : (c : List ℕ) → Arguments t one → Arguments t two → labelOf t one ≡ labelOf t two → ((a : ℕ) → a < childCount t one → M (elementChild t i a) (first a))
-          → ((a : ℕ) → a < childCount t two → M (elementChild t j a) (second a)) → ((a : ℕ) → a < childCount t one → depth (first a) < n) → Classes c
-          → Compares (sameChildren r (childCount t one) t i j 0 c) (sameTerms (substitutes (argumentsAt t one) (E (elementSide i))) (substitutes (argumentsAt t two) (E (elementSide j))))
+      -- Comparing all children of two nodes with one symbol compares the instances of the arguments.
+      compares-arguments : (c : List ℕ) → Arguments t one → Arguments t two → labelOf t one ≡ labelOf t two
+          → ((a : ℕ) → a < childCount t one → M (elementChild t i a) (first a))
+          → ((a : ℕ) → a < childCount t two → M (elementChild t j a) (second a)) → ((a : ℕ) → a < childCount t one → depth (first a) < n)
+          → Classes c
+          → Compares (sameChildren r (childCount t one) t i j 0 c)
+          (sameTerms (substitutes (argumentsAt t one) (E (elementSide i))) (substitutes (argumentsAt t two) (E (elementSide j))))
       unfolding argumentsAt
       compares-arguments c y z q u v s h =
           let l : childCount t two ≡ childCount t one = z .many ∙ ap (arityOf t) (sym q) ∙ sym (y .many) in
-          rw l (compares-children (childCount t one) 0 c (λ a p o. u a (omega arith)) (λ a p o. v a (omega arith)) (λ a p o. s a (omega arith)) h)
+          rw l (compares-children (childCount t one) 0 c (λ a p o. u a (omega arith)) (λ a p o. v a (omega arith))
+          (λ a p o. s a (omega arith)) h)
 
       -- Two applications.
-      compares-nodes : (c : List ℕ) (u v : Ground) → isName i ≡ false → isName j ≡ false → M i u → M j v → depth u < suc n → Classes c → Compares (sameNodes r t i j c) (sameTerm u v)
+      compares-nodes : (c : List ℕ) (u v : Ground) → isName i ≡ false → isName j ≡ false → M i u → M j v → depth u < suc n → Classes c
+          → Compares (sameNodes r t i j c) (sameTerm u v)
       unfolding sameNodes depth sameTerm argumentsAt
-      compares-nodes c u v p q hi hj l h = subst (Compares (sameNodes r t i j c)) (sym (ap₂ sameTerm eu ev)) (go (eqb (labelOf t one) (labelOf t two)) refl)
+      compares-nodes c u v p q hi hj l h =
+          subst (Compares (sameNodes r t i j c)) (sym (ap₂ sameTerm eu ev)) (go (eqb (labelOf t one) (labelOf t two)) refl)
         where
           Us : Terms Symbol
           Us = substitutes (argumentsAt t one) (E (elementSide i))
@@ -163,25 +185,30 @@ module _ (b t : List ℕ) (symbols : ℕ) (names : Names (declarationsFrom b t s
           together : (eqb (labelOf t one) (labelOf t two) && sameTerms Us Vs) ≡ true → A i j
           together z = alike b t symbols names x nodes table few w f g e d i j u v hi hj (ap₂ sameTerm eu ev ∙ z)
 
-          go : (z : Bool) → eqb (labelOf t one) (labelOf t two) ≡ z → Compares (sameNodes r t i j c) (eqb (labelOf t one) (labelOf t two) && sameTerms Us Vs)
+          go : (z : Bool) → eqb (labelOf t one) (labelOf t two) ≡ z
+              → Compares (sameNodes r t i j c) (eqb (labelOf t one) (labelOf t two) && sameTerms Us Vs)
           go true o =
               rw o
               (compares-joined (sameChildren r (childCount t one) t i j 0 c) (sameTerms Us Vs) i j
-              (compares-arguments c (table .term one (hi .node p .below) (hi .node p .is) .application (hi .applied p)) (table .term two (hj .node q .below) (hj .node q .is) .application (hj .applied q))
+              (compares-arguments c (table .term one (hi .node p .below) (hi .node p .is) .application (hi .applied p))
+              (table .term two (hj .node q .below) (hj .node q .is) .application (hj .applied q))
               (eqb-true (labelOf t one) (labelOf t two) o) (child-means i u p hi) (child-means j v q hj)
-              (λ a y. let s = child-depth t one (E (elementSide i)) (childCount t one) 0 a (omega arith) (omega arith) in let z = ap depth eu in omega arith) h)
+              (λ a y. let s = child-depth t one (E (elementSide i)) (childCount t one) 0 a (omega arith) (omega arith) in let z =
+              ap depth eu in omega arith) h)
               (λ z. together (rw o z)))
           go false o = rw o (record { classes = h; answer = refl })
 
     -- representatives
 
     -- Two representatives.
-    compares-roots : (r : List ℕ → ℕ → ℕ → Compared) (n : ℕ) → Right r n → (c : List ℕ) (i j : ℕ) (u v : Ground) → M i u → M j v → depth u < suc n → Classes c
+    compares-roots : (r : List ℕ → ℕ → ℕ → Compared) (n : ℕ) → Right r n → (c : List ℕ) (i j : ℕ) (u v : Ground) → M i u → M j v
+        → depth u < suc n → Classes c
         → Compares (sameRoots r b t x w f g i j c) (sameTerm u v)
     unfolding sameRoots joinName
     compares-roots r n right c i j u v hi hj l h = go (eqb i j) refl (isName i) refl (isName j) refl
       where
-        go : (o : Bool) → eqb i j ≡ o → (y : Bool) → isName i ≡ y → (z : Bool) → isName j ≡ z → Compares (sameRoots r b t x w f g i j c) (sameTerm u v)
+        go : (o : Bool) → eqb i j ≡ o → (y : Bool) → isName i ≡ y → (z : Bool) → isName j ≡ z
+            → Compares (sameRoots r b t x w f g i j c) (sameTerm u v)
         go true o y p z q =
             let k = means-once b t symbols names x nodes table few w f g e d j u v (subst (λ (a : ℕ). M a u) (eqb-true i j o) hi) hj in
             rw o (record { classes = h; answer = sym (ap (sameTerm u) (sym k) ∙ sameTerm-refl u) })
@@ -204,7 +231,8 @@ module _ (b t : List ℕ) (symbols : ℕ) (names : Names (declarationsFrom b t s
     compares-elements (suc n) c i j u v hi hj l h =
         let p = root-of A alike-self alike-then c i h in
         let q = root-of A alike-self alike-then (rootOf c i .classes) j (p .forest) in
-        compares-roots (sameElements n b t x w f g) n (compares-elements n) (rootOf (rootOf c i .classes) j .classes) (rootOf c i .root) (rootOf (rootOf c i .classes) j .root) u v
+        compares-roots (sameElements n b t x w f g) n (compares-elements n) (rootOf (rootOf c i .classes) j .classes) (rootOf c i .root)
+        (rootOf (rootOf c i .classes) j .root) u v
         (p .related u hi) (q .related v hj) l (q .forest)
 
   -- atoms
@@ -216,8 +244,9 @@ module _ (b t : List ℕ) (symbols : ℕ) (names : Names (declarationsFrom b t s
     pub formed : FormedTerms (argumentsAt t m) ds
     pub frame : Frame ds x w g e (freeTs (argumentsAt t m))
 
-  -- a child of an atom
-  atom-child : (m g : ℕ) (e : Environment Symbol) → AtomIn m g e → (n : ℕ) → n < childCount t m → TermIn b t symbols names x nodes table few w (childOf t m n) g e
+  -- A child of an atom is a node of a term in its frame.
+  atom-child : (m g : ℕ) (e : Environment Symbol) → AtomIn m g e → (n : ℕ) → n < childCount t m
+      → TermIn b t symbols names x nodes table few w (childOf t m n) g e
   unfolding argumentsAt
   atom-child m g e h n l =
       let q = h .arguments .terms n l in
@@ -230,7 +259,7 @@ module _ (b t : List ℕ) (symbols : ℕ) (names : Names (declarationsFrom b t s
             (λ v f. free-child t m (childCount t m) 0 n v (omega arith) (omega arith) f) (h .frame);
       }
 
-  -- joining does not change the answer
+  -- Joining does not change the answer.
   joined-same : (o : Compared) (i j : ℕ) → joined o i j .same ≡ o .same
   unfolding joined
   joined-same o i j = go (o .same) refl
@@ -239,43 +268,48 @@ module _ (b t : List ℕ) (symbols : ℕ) (names : Names (declarationsFrom b t s
       go true q = rw q
       go false q = rw q
 
-  -- the same predicate, and the same arguments
+  -- `same` tells whether two atoms have the same predicate and the same arguments.
   abbrev same : ℕ → ℕ → Environment Symbol → Environment Symbol → Bool
   same k m e d = eqb (labelOf t k) (labelOf t m) && sameTerms (substitutes (argumentsAt t k) e) (substitutes (argumentsAt t m) d)
 
   module _ (f g : ℕ) (e d : Environment Symbol) where
-    -- the environment of a side
+    -- `D s` is the environment of side s.
     abbrev D : ℕ → Environment Symbol
     D s = environmentOn b t symbols names x nodes table few w f g e d s
 
-    -- an atom on a side
+    -- `AtomOn i` says that the node of element i is an atom on its side.
     abbrev AtomOn : ℕ → Type 0
-    AtomOn i = AtomIn (elementNode i) (frameOn f g (elementSide i)) (D (elementSide i))
+    AtomOn i = AtomIn (elementNode i) (sideFrame f g (elementSide i)) (D (elementSide i))
 
-    -- its children
+    -- The children of an atom mean their instances.
     atom-means : (i : ℕ) → AtomOn i → (a : ℕ) → a < childCount t (elementNode i)
-        → Means b t symbols names x nodes table few w f g e d (elementChild t i a) (substitute (termAt t (childOf t (elementNode i) a)) (D (elementSide i)))
+        → Means b t symbols names x nodes table few w f g e d (elementChild t i a)
+        (substitute (termAt t (childOf t (elementNode i) a)) (D (elementSide i)))
     unfolding elementChild
     atom-means i h a l =
         element-means b t symbols names x nodes table few w f g e d (elementSide i) (childOf t (elementNode i) a) (side-low i)
-        (atom-child (elementNode i) (frameOn f g (elementSide i)) (D (elementSide i)) h a l)
+        (atom-child (elementNode i) (sideFrame f g (elementSide i)) (D (elementSide i)) h a l)
 
-    -- they are not nested too deep
-    atom-depth : (i : ℕ) → AtomOn i → (a : ℕ) → a < childCount t (elementNode i) → depth (substitute (termAt t (childOf t (elementNode i) a)) (D (elementSide i))) < 1023 + length x
+    -- The children of an atom are not nested too deep.
+    atom-depth : (i : ℕ) → AtomOn i → (a : ℕ) → a < childCount t (elementNode i)
+        → depth (substitute (termAt t (childOf t (elementNode i) a)) (D (elementSide i))) < 1023 + length x
     atom-depth i h a l =
         let m = childOf t (elementNode i) a in
         let p = h .arguments .terms a l in
         let q = h .below in
-        let r = instance-depth b t symbols names x nodes table few w (suc m) m (frameOn f g (elementSide i)) (D (elementSide i)) (omega arith)
-        (atom-child (elementNode i) (frameOn f g (elementSide i)) (D (elementSide i)) h a l) in
+        let r = instance-depth b t symbols names x nodes table few w (suc m) m (sideFrame f g (elementSide i)) (D (elementSide i))
+        (omega arith)
+        (atom-child (elementNode i) (sideFrame f g (elementSide i)) (D (elementSide i)) h a l) in
         omega (arith, p .0)
 
-    -- two atoms, whose nodes are on two sides
+    -- Comparing the elements of two atoms, if they differ, compares the atoms.
     atoms-apart : (i j : ℕ) → (i ≡ j → ⊥) → isName i ≡ false → isName j ≡ false → AtomOn i → AtomOn j
-        → sameElements (suc (1023 + length x)) b t x w f g separate i j .same ≡ same (elementNode i) (elementNode j) (D (elementSide i)) (D (elementSide j))
+        → sameElements (suc (1023 + length x)) b t x w f g separate i j .same ≡ same (elementNode i) (elementNode j) (D (elementSide i))
+        (D (elementSide j))
     unfolding sameElements sameRoots sameNodes
     atoms-apart i j z p q h k =
-        rw (sameElements, separate-root i, separate-root j, ne-eqb i j z, p, q) (go (eqb (labelOf t (elementNode i)) (labelOf t (elementNode j))) refl)
+        rw (sameElements, separate-root i, separate-root j, ne-eqb i j z, p, q)
+        (go (eqb (labelOf t (elementNode i)) (labelOf t (elementNode j))) refl)
       where
         r : List ℕ → ℕ → ℕ → Compared
         r = sameElements (1023 + length x) b t x w f g
@@ -285,18 +319,22 @@ module _ (b t : List ℕ) (symbols : ℕ) (names : Names (declarationsFrom b t s
 
         go : (y : Bool) → eqb (labelOf t (elementNode i)) (labelOf t (elementNode j)) ≡ y
             → cond y (joined o i j) (compared separate false) .same
-            ≡ (y && sameTerms (substitutes (argumentsAt t (elementNode i)) (D (elementSide i))) (substitutes (argumentsAt t (elementNode j)) (D (elementSide j))))
+            ≡ (y && sameTerms (substitutes (argumentsAt t (elementNode i)) (D (elementSide i)))
+            (substitutes (argumentsAt t (elementNode j)) (D (elementSide j))))
         go true l =
             joined-same o i j
-            ∙ compares-arguments f g e d r (1023 + length x) (compares-elements f g e d (1023 + length x)) i j separate (h .arguments) (k .arguments)
+            ∙ compares-arguments f g e d r (1023 + length x) (compares-elements f g e d (1023 + length x)) i j separate (h .arguments)
+            (k .arguments)
             (eqb-true (labelOf t (elementNode i)) (labelOf t (elementNode j)) l) (atom-means i h) (atom-means j k) (atom-depth i h)
-            (separate-forest (λ a c. Alike b t symbols names x nodes table few w f g e d a c) (alike-self f g e d) (alike-then f g e d)) .answer
+            (separate-forest (λ a c. Alike b t symbols names x nodes table few w f g e d a c) (alike-self f g e d)
+            (alike-then f g e d)) .answer
         go false l = refl
 
   -- Two atoms: the same predicate, and the same arguments.
   pub same-atoms : (k m f g : ℕ) (e d : Environment Symbol) → AtomIn k f e → AtomIn m g d
-      → sameAtoms b t x w f g k m ≡ (eqb (labelOf t k) (labelOf t m) && sameTerms (substitutes (argumentsAt t k) e) (substitutes (argumentsAt t m) d))
-  unfolding sameAtoms frameOn
+      → sameAtoms b t x w f g k m ≡ (eqb (labelOf t k) (labelOf t m) && sameTerms (substitutes (argumentsAt t k) e)
+      (substitutes (argumentsAt t m) d))
+  unfolding sameAtoms sideFrame
   same-atoms k m f g e d h i =
       let y = h .below in
       let z = i .below in
@@ -305,5 +343,6 @@ module _ (b t : List ℕ) (symbols : ℕ) (names : Names (declarationsFrom b t s
       let n : 1024 + length x ≡ suc (1023 + length x) = omega arith in
       let apart : nodeElement 0 k ≡ nodeElement 1 m → ⊥ = λ o. let r = sym (p .side) ∙ ap elementSide o ∙ q .side in omega arith in
       ap (λ (o : ℕ). sameElements o b t x w f g separate (nodeElement 0 k) (nodeElement 1 m) .same) n
-      ∙ atoms-apart f g e d (nodeElement 0 k) (nodeElement 1 m) apart (p .kind) (q .kind) (rw (p .node, p .side) h) (rw (q .node, q .side) i)
+      ∙ atoms-apart f g e d (nodeElement 0 k) (nodeElement 1 m) apart (p .kind) (q .kind) (rw (p .node, p .side) h)
+      (rw (q .node, q .side) i)
       ∙ rw (p .node, p .side, q .node, q .side) refl

@@ -1,10 +1,10 @@
--- Laws of terms as places in a text.
-pub mod Places
+-- Laws of terms as positions in a text.
+pub mod Positions
 pub mod Ranges
 pub mod Names
 pub mod Scanning
-pub mod Placed
-pub mod Along
+pub mod TermsInText
+pub mod InstanceSpelling
 pub mod Depth
 pub mod Nodes
 pub mod Classes
@@ -12,5 +12,5 @@ pub mod Elements
 pub mod Instances
 pub mod Records
 pub mod Frames
-pub mod Marks
-pub mod Showing
+pub mod SymbolsInText
+pub mod Numbering

@@ -17,12 +17,12 @@ use Rattle.node_table.specs.Decoding.{declarationAt, declarationsFrom}
 use Rattle.answer_texts.specs.Reading.{Span, span, Found, findName}
 use Rattle.scanning.specs.Ranges.{sameRange}
 use Rattle.scanning.specs.Scanning.{nameFrom, nameEnd, nameSize, isNamed, symbolFrom}
-use Rattle.scanning.proofs.Places.{byte-is, drop-next, drop-length}
+use Rattle.scanning.proofs.Positions.{byte-is, drop-next, drop-length}
 use Rattle.scanning.proofs.Ranges.{begins-same, unequal-lengths, Solid, range-begins, span-yes, span-no}
 
 -- the end of a name
 
--- of at most n bytes
+-- With n bytes left, a name ends after its name bytes.
 name-from : (l x : List ℕ) (n i : ℕ) → drop i x ≡ l → n ≡ length l → nameFrom n x i ≡ i + length (span isNameByte l .taken)
 unfolding nameFrom span
 name-from [] x zero i h k = omega arith
@@ -35,21 +35,22 @@ name-from (c ∷ cs) x (suc n) i h k =
     R : Span → ℕ
     R s = i + length (s .taken)
 
-    go : (b : Bool) → isNameByte c ≡ b → nameFrom n x (i + 1) ≡ i + 1 + length (span isNameByte cs .taken) → cond b (nameFrom n x (i + 1)) i ≡ R (span isNameByte (c ∷ cs))
+    go : (b : Bool) → isNameByte c ≡ b → nameFrom n x (i + 1) ≡ i + 1 + length (span isNameByte cs .taken)
+        → cond b (nameFrom n x (i + 1)) i ≡ R (span isNameByte (c ∷ cs))
     go true e ih =
         let d = span isNameByte cs .taken in
         let q : i + 1 + length d ≡ i + suc (length d) = omega arith in
         ih ∙ q ∙ ap R (sym (span-yes isNameByte c cs e))
     go false e ih = let q : i ≡ i + 0 = omega arith in q ∙ ap R (sym (span-no isNameByte c cs e))
 
--- of all that are left
+-- Of all bytes that are left, a name ends after its name bytes.
 pub name-end : (x : List ℕ) (i : ℕ) → nameEnd x i ≡ i + length (span isNameByte (drop i x) .taken)
 unfolding nameEnd
 name-end x i = name-from (drop i x) x (length x - i) i refl (drop-length x i (drop i x) refl)
 
 -- the symbol of a name
 
--- what the sheet has of a name is as long as it is
+-- What the sheet has of a name is as long as `nameSize` says.
 pub size-length : (b t : List ℕ) (k : ℕ) → length (take (nameLength t k) (drop (nameStart t k) b)) ≡ nameSize b t k
 unfolding nameSize
 size-length b t k = length-take (nameLength t k) (drop (nameStart t k) b) ∙ ap (min (nameLength t k)) (length-drop (nameStart t k) b)
@@ -59,7 +60,7 @@ abbrev pub foundAt : List ℕ → ℕ → ℕ → Option Found
 foundAt t limit j = cond (ltb j limit) (cond (eqb (isFunctionBit t j) 1) (some (record { symbol = j; arity = arityOf t j })) none) none
 
 module _ (b t x n r : List ℕ) (i e : ℕ) (at : drop i x ≡ n ++ r) (solid : Solid n) (end : e ≡ i + length n) where
-  -- the test that symbol k has the name n, which stands at place i
+  -- The test tells whether symbol k has the name n, which stands at position i.
   pub named-same : (k : ℕ) → isNamed b t k x i e ≡ sameBytes n (declarationAt b t k .name)
   unfolding isNamed declarationAt
   named-same k =
@@ -75,28 +76,31 @@ module _ (b t x n r : List ℕ) (i e : ℕ) (at : drop i x ≡ n ++ r) (solid : 
           ∙ sym (begins-same n (drop (nameStart t k) b) (nameLength t k) (eqb-true (length n) (nameSize b t k) q ∙ sym (size-length b t k)))
       go false q = sym (unequal-lengths n m (λ p. eqb-false (length n) (nameSize b t k) q (p ∙ size-length b t k)))
 
-  -- of c symbols from k on
+  -- Searching c symbols from k on finds the symbol with the name n.
   symbol-from : (c k : ℕ) → findName k (declarationsFrom b t c k) n ≡ foundAt t (k + c) (symbolFrom c b t k x i e)
   unfolding findName declarationsFrom symbolFrom declarationAt
   symbol-from zero k = let q : k + 0 ≡ k = omega arith in rw (q, le-ltb k k (omega arith))
   symbol-from (suc c) k = go (sameBytes n (declarationAt b t k .name)) refl (symbol-from c (suc k))
     where
-      go : (z : Bool) → sameBytes n (declarationAt b t k .name) ≡ z → findName (suc k) (declarationsFrom b t c (suc k)) n ≡ foundAt t (suc k + c) (symbolFrom c b t (suc k) x i e)
-          → findName k (declarationAt b t k ∷ declarationsFrom b t c (suc k)) n ≡ foundAt t (k + suc c) (cond (isNamed b t k x i e) k (symbolFrom c b t (k + 1) x i e))
+      go : (z : Bool) → sameBytes n (declarationAt b t k .name) ≡ z
+          → findName (suc k) (declarationsFrom b t c (suc k)) n ≡ foundAt t (suc k + c) (symbolFrom c b t (suc k) x i e)
+          → findName k (declarationAt b t k ∷ declarationsFrom b t c (suc k)) n ≡ foundAt t (k + suc c)
+          (cond (isNamed b t k x i e) k (symbolFrom c b t (k + 1) x i e))
       go true q ih = rw (findName, q, named-same k, q) (rw (lt-ltb k (k + suc c) (omega arith)))
       go false q ih =
           let l : suc k + c ≡ k + suc c = omega arith in
           rw (findName, q, named-same k, q, add-one k) (ih ∙ ap (λ (j : ℕ). foundAt t j (symbolFrom c b t (suc k) x i e)) l)
 
-  -- from the first symbol on
+  -- Searching from the first symbol on finds the symbol with the name n.
   pub find-symbol : (symbols : ℕ) → findName 0 (declarationsFrom b t symbols 0) n ≡ foundAt t symbols (symbolFrom symbols b t 0 x i e)
-  find-symbol symbols = let l : 0 + symbols ≡ symbols = omega arith in symbol-from symbols 0 ∙ ap (λ (j : ℕ). foundAt t j (symbolFrom symbols b t 0 x i e)) l
+  find-symbol symbols =
+      let l : 0 + symbols ≡ symbols = omega arith in symbol-from symbols 0 ∙ ap (λ (j : ℕ). foundAt t j (symbolFrom symbols b t 0 x i e)) l
 
--- a name has no byte 0
+-- A name has no byte 0.
 pub name-solid : (n : List ℕ) → Every isNameByte n → Solid n
 name-solid n h = all-weaken (λ c. isNameByte c ≡ true) (λ c. 0 < c) (λ c k. let g = name-graphic c k in omega arith) n h
 
--- what a span takes is of its kind
+-- What a span takes is of its kind.
 pub span-every : (k : ℕ → Bool) (l : List ℕ) → Every k (span k l .taken)
 unfolding span
 span-every k [] = tt

@@ -31,42 +31,47 @@ use Rattle.scanning.specs.declared.Reach.the-variants.{To, Differs}
 use Rattle.scanning.specs.Frames.{slotStart, slotEnd}
 use Rattle.scanning.specs.Instances.{endsAt, isInstance}
 use Rattle.scanning.proofs.Ranges.{begins, begins-rest, rest-begins}
-use Rattle.scanning.proofs.Placed.{both-ways, same-spelled, Placed}
-use Rattle.scanning.proofs.Along.{reach, Frame, frame-fewer, instance-writable, formed-child, free-child, along-instance}
-use Rattle.scanning.proofs.Depth.{depth, placed-depth, children-depth}
+use Rattle.scanning.proofs.TermsInText.{both-ways, same-spelled, SpelledAt}
+use Rattle.scanning.proofs.InstanceSpelling.{reach, Frame, frame-fewer, instance-writable, formed-child, free-child, match-instance}
+use Rattle.scanning.proofs.Depth.{depth, spelled-at-depth, children-depth}
 
 -- a term of the text and an instance
 
--- the bytes a end where the term does exactly if they are its spelling
-ends-same : (ds : List Declaration) (x : List ℕ) (s e : ℕ) (u : Ground) (a : List ℕ) → Placed ds x s e u → endsAt (reach a x s) e ≡ sameBytes (spellTerm u ds) a
+-- The bytes a end where the term does exactly if they are its spelling.
+ends-same : (ds : List Declaration) (x : List ℕ) (s e : ℕ) (u : Ground) (a : List ℕ) → SpelledAt ds x s e u
+    → endsAt (reach a x s) e ≡ sameBytes (spellTerm u ds) a
 unfolding reach endsAt
 ends-same ds x s e u a p = both-ways (endsAt (reach a x s) e) (sameBytes (spellTerm u ds) a) forth back
   where
     forth : endsAt (reach a x s) e ≡ true → sameBytes (spellTerm u ds) a ≡ true
     forth h = go (begins a (drop s x)) refl h
       where
-        go : (z : Bool) → begins a (drop s x) ≡ z → endsAt (cond z (To (s + length a)) Differs) e ≡ true → sameBytes (spellTerm u ds) a ≡ true
+        go : (z : Bool) → begins a (drop s x) ≡ z → endsAt (cond z (To (s + length a)) Differs) e ≡ true
+            → sameBytes (spellTerm u ds) a ≡ true
         go false q k = absurd (true≢false (sym k))
         go true q k =
             let r = begins-rest a (drop s x) q in
             let l : length (spellTerm u ds) ≡ length a = (let d = eqb-true (s + length a) e k in let c = p .end in omega arith) in
-            equal-same (spellTerm u ds) a (sym (take-append-seam (spellTerm u ds) (drop e x)) ∙ ap₂ take l (sym (p .spelled) ∙ r .1) ∙ take-append-seam a (r .0))
+            equal-same (spellTerm u ds) a (sym (take-append-seam (spellTerm u ds) (drop e x)) ∙ ap₂ take l (sym (p .spelled) ∙ r .1)
+            ∙ take-append-seam a (r .0))
 
     back : sameBytes (spellTerm u ds) a ≡ true → endsAt (reach a x s) e ≡ true
     back h =
         let q = same-equal (spellTerm u ds) a h in
         let l : s + length a ≡ e = (let c = p .end in let d = ap length q in omega arith) in
-        rw (p .spelled, ← q, rest-begins (spellTerm u ds) (drop e x)) (eq-eqb (s + length (spellTerm u ds)) e (let c = p .end in omega arith))
+        rw (p .spelled, ← q, rest-begins (spellTerm u ds) (drop e x))
+        (eq-eqb (s + length (spellTerm u ds)) e (let c = p .end in omega arith))
 
--- either way round
+-- Comparing two terms is the same either way round.
 pub sameTerm-swap : (t u : Ground) → sameTerm t u ≡ sameTerm u t
 sameTerm-swap t u =
     both-ways (sameTerm t u) (sameTerm u t)
     (λ h. subst (λ (z : Ground). sameTerm z t ≡ true) (sameTerm-true t u h) (sameTerm-refl t))
     (λ h. subst (λ (z : Ground). sameTerm z u ≡ true) (sameTerm-true u t h) (sameTerm-refl u))
 
-module _ (b t : List ℕ) (symbols : ℕ) (names : Names (declarationsFrom b t symbols 0)) (x : List ℕ) (nodes : ℕ) (table : Nodes t nodes) (few : nodes ≤ maxNodes) (w : List ℕ) where
-  -- the declared symbols
+module _ (b t : List ℕ) (symbols : ℕ) (names : Names (declarationsFrom b t symbols 0)) (x : List ℕ) (nodes : ℕ) (table : Nodes t nodes)
+    (few : nodes ≤ maxNodes) (w : List ℕ) where
+  -- The declared symbols are those of the table.
   abbrev ds : List Declaration
   ds = declarationsFrom b t symbols 0
 
@@ -77,30 +82,36 @@ module _ (b t : List ℕ) (symbols : ℕ) (names : Names (declarationsFrom b t s
     pub formed : FormedTerm (termAt t m) ds
     pub frame : Frame ds x w g e (freeT (termAt t m))
 
-  -- its instance can be written
+  -- The instance of a node of a term can be written.
   term-writable : (m g : ℕ) (e : Environment Symbol) → TermIn m g e → WritableTerm (substitute (termAt t m) e) ds
   term-writable m g e h = instance-writable (termAt t m) ds e (h .formed) (λ v l f. h .frame v l f .writable)
 
   -- The term of the text from s to j is an instance.
-  pub is-instance : (s j : ℕ) (u : Ground) (m g : ℕ) (e : Environment Symbol) → Placed ds x s j u → TermIn m g e → isInstance b t x w s j g m ≡ sameTerm u (substitute (termAt t m) e)
+  pub is-instance : (s j : ℕ) (u : Ground) (m g : ℕ) (e : Environment Symbol) → SpelledAt ds x s j u → TermIn m g e
+      → isInstance b t x w s j g m ≡ sameTerm u (substitute (termAt t m) e)
   unfolding isInstance
   is-instance s j u m g e p h =
-      ap (λ (o : Reach). endsAt o j) (along-instance b t symbols names x nodes table w g e 1024 m (let q = h .below in omega arith) (h .below) (h .is) (h .formed) (h .frame) s)
-      ∙ ends-same ds x s j u (spellTerm (substitute (termAt t m) e) ds) p ∙ same-spelled u (substitute (termAt t m) e) ds names (p .writable) (term-writable m g e h)
+      ap (λ (o : Reach). endsAt o j) (match-instance b t symbols names x nodes table w g e 1024 m (let q = h .below in omega arith)
+      (h .below) (h .is) (h .formed) (h .frame) s)
+      ∙ ends-same ds x s j u (spellTerm (substitute (termAt t m) e) ds) p
+      ∙ same-spelled u (substitute (termAt t m) e) ds names (p .writable) (term-writable m g e h)
 
-  -- a variable's place, and what it stands for
+  -- A variable's slot holds the position of the term that it stands for, which is its instance.
   pub slot-of : (m g : ℕ) (e : Environment Symbol) → TermIn m g e → kindOf t m ≡ variableKind
-      → Placed ds x (slotStart w g (labelOf t m)) (slotEnd w g (labelOf t m)) (e (labelOf t m)) × (substitute (termAt t m) e ≡ e (labelOf t m))
+      → SpelledAt ds x (slotStart w g (labelOf t m)) (slotEnd w g (labelOf t m)) (e (labelOf t m))
+      × (substitute (termAt t m) e ≡ e (labelOf t m))
   unfolding FormedTerm freeT substitute
   slot-of m g e h z =
       let tree = term-variable t nodes table m (h .below) (h .is) z in
       let v = labelOf t m in (
-        h .frame v (subst (λ (y : Term ℕ). FormedTerm y ds) tree (h .formed)) (subst (λ (y : Term ℕ). freeT y v ≡ true) (sym tree) (eq-eqb v v refl)),
+        h .frame v (subst (λ (y : Term ℕ). FormedTerm y ds) tree (h .formed))
+            (subst (λ (y : Term ℕ). freeT y v ≡ true) (sym tree) (eq-eqb v v refl)),
         ap (λ (y : Term ℕ). substitute y e) tree,
       )
 
-  -- a child of an application
-  pub child-in : (m g : ℕ) (e : Environment Symbol) → TermIn m g e → kindOf t m ≡ applicationKind → (n : ℕ) → n < childCount t m → TermIn (childOf t m n) g e
+  -- A child of an application is a node of a term in the same frame.
+  pub child-in : (m g : ℕ) (e : Environment Symbol) → TermIn m g e → kindOf t m ≡ applicationKind → (n : ℕ) → n < childCount t m
+      → TermIn (childOf t m n) g e
   unfolding FormedTerm freeT argumentsAt
   child-in m g e h z n l =
       let tree = term-application t nodes table m (h .below) (h .is) z in
@@ -112,7 +123,8 @@ module _ (b t : List ℕ) (symbols : ℕ) (names : Names (declarationsFrom b t s
         is = q .1;
         formed = formed-child t ds m (childCount t m) 0 n (p .1) (omega arith) (omega arith);
         frame = frame-fewer ds x w g e (freeT (termAt t m)) (freeT (termAt t (childOf t m n)))
-            (λ v f. subst (λ (y : Term ℕ). freeT y v ≡ true) (sym tree) (free-child t m (childCount t m) 0 n v (omega arith) (omega arith) f)) (h .frame);
+            (λ v f. subst (λ (y : Term ℕ). freeT y v ≡ true) (sym tree)
+            (free-child t m (childCount t m) 0 n v (omega arith) (omega arith) f)) (h .frame);
       }
 
   -- An instance is nested less deep than the text is long and the node's number is high.
@@ -121,10 +133,12 @@ module _ (b t : List ℕ) (symbols : ℕ) (names : Names (declarationsFrom b t s
   instance-depth zero m g e l h = absurd (omega arith)
   instance-depth (suc n) m g e l h = go (eqb (kindOf t m) variableKind) refl (λ k u i. instance-depth n k g e u i)
     where
-      go : (z : Bool) → eqb (kindOf t m) variableKind ≡ z → ((k : ℕ) → k < n → TermIn k g e → depth (substitute (termAt t k) e) ≤ k + length x) → depth (substitute (termAt t m) e) ≤ m + length x
+      go : (z : Bool) → eqb (kindOf t m) variableKind ≡ z
+          → ((k : ℕ) → k < n → TermIn k g e → depth (substitute (termAt t k) e) ≤ k + length x)
+          → depth (substitute (termAt t m) e) ≤ m + length x
       go true q ih =
           let s = slot-of m g e h (eqb-true (kindOf t m) 0 q) in
-          let a = placed-depth ds x _ _ (e (labelOf t m)) (s .0) in
+          let a = spelled-at-depth ds x _ _ (e (labelOf t m)) (s .0) in
           let b = ap depth (s .1) in
           omega arith
       go false q ih =

@@ -17,18 +17,18 @@ use Rattle.sheet_format.proofs.Options.{OnSome, some-weaken}
 use Rattle.answer_texts.specs.Reading.{Span, span}
 use Rattle.scanning.specs.declared.Number.{Number}
 use Rattle.scanning.specs.declared.Number.the-variants.{Value, Missing}
-use Rattle.scanning.specs.Ranges.{sameRange, findByte, lineEnd, numberFrom, numberZero, readNumber}
-use Rattle.scanning.proofs.Places.{byte-is, byte-none, drop-next, drop-length}
+use Rattle.scanning.specs.Ranges.{sameRange, findByte, textLineEnd, numberFrom, numberZero, scanNumber}
+use Rattle.scanning.proofs.Positions.{byte-is, byte-none, drop-next, drop-length}
 
 -- beginnings
 
--- a is a beginning of b.
+-- The list a is a beginning of b.
 unfoldable pub begins : List ℕ → List ℕ → Bool
 begins [] b = true
 begins (c ∷ cs) [] = false
 begins (c ∷ cs) (d ∷ ds) = eqb c d && begins cs ds
 
--- then something follows it in b
+-- A beginning of b is followed by some rest in b.
 pub begins-rest : (a b : List ℕ) → begins a b ≡ true → (r : List ℕ) × (b ≡ a ++ r)
 unfolding begins
 begins-rest [] b h = (b, refl)
@@ -38,13 +38,13 @@ begins-rest (c ∷ cs) (d ∷ ds) h =
     let r = begins-rest cs ds (p .1) in
     (r .0, ap₂ _∷_ (sym (eqb-true c d (p .0))) (r .1))
 
--- and what is followed by something is a beginning
+-- A list is a beginning of itself followed by anything.
 pub rest-begins : (a r : List ℕ) → begins a (a ++ r) ≡ true
 unfolding begins
 rest-begins [] r = refl
 rest-begins (c ∷ cs) r = rw (eq-eqb c c refl) (rest-begins cs r)
 
--- a beginning of as many bytes is the whole
+-- A list has the same bytes as the first bytes of b, of equal number, exactly if it is a beginning of b.
 pub begins-same : (a b : List ℕ) (n : ℕ) → length a ≡ length (take n b) → sameBytes a (take n b) ≡ begins a b
 unfolding begins sameBytes
 begins-same [] b zero h = refl
@@ -54,7 +54,7 @@ begins-same (c ∷ cs) b zero h = absurd (omega arith)
 begins-same (c ∷ cs) [] (suc n) h = absurd (omega arith)
 begins-same (c ∷ cs) (d ∷ ds) (suc n) h = ap (λ (z : Bool). eqb c d && z) (begins-same cs ds n (omega arith))
 
--- lists of different lengths are not the same
+-- Lists of different lengths do not have the same bytes.
 pub unequal-lengths : (a b : List ℕ) → (length a ≡ length b → ⊥) → sameBytes a b ≡ false
 unequal-lengths a b h = go (sameBytes a b) refl
   where
@@ -68,8 +68,9 @@ unequal-lengths a b h = go (sameBytes a b) refl
 abbrev pub Solid : List ℕ → Type 0
 Solid a = All (λ c. 0 < c) a
 
--- bytes that stand at place i of a are the same as those at place j of x if they are a beginning of what stands there
-pub range-begins : (l r a : List ℕ) (i : ℕ) (x : List ℕ) (j : ℕ) → drop i a ≡ l ++ r → Solid l → sameRange (length l) a i x j ≡ begins l (drop j x)
+-- Comparing the bytes l of a in place with those at position j of x tests whether l begins what stands there.
+pub range-begins : (l r a : List ℕ) (i : ℕ) (x : List ℕ) (j : ℕ) → drop i a ≡ l ++ r → Solid l
+    → sameRange (length l) a i x j ≡ begins l (drop j x)
 unfolding sameRange begins
 range-begins [] r a i x j h s = refl
 range-begins (c ∷ cs) r a i x j h s = go (drop j x) refl (range-begins cs r a (i + 1) x (j + 1) (drop-next a i c (cs ++ r) h) (s .1))
@@ -93,7 +94,7 @@ byte-least (suc n) x c i = go (eqb (getD x i 0) c) (byte-least n x c (i + 1))
     go true h = omega arith
     go false h = omega arith
 
--- the first LF is found
+-- The first LF is found.
 find-lf : (l r x : List ℕ) (n i : ℕ) → drop i x ≡ l ++ (lf ∷ r) → Without lf l → length l < n → findByte n x 10 i ≡ i + length l
 unfolding findByte
 find-lf l r x zero i h s k = absurd (omega arith)
@@ -102,25 +103,28 @@ find-lf [] r x (suc n) i h s k =
     rw (byte-is x i lf r h) e
 find-lf (c ∷ cs) r x (suc n) i h s k =
     rw (byte-is x i c (cs ++ (lf ∷ r)) h, s .0)
-    (find-lf cs r x n (i + 1) (drop-next x i c (cs ++ (lf ∷ r)) h) (s .1) (omega arith) ∙ let e : i + 1 + length cs ≡ i + suc (length cs) = omega arith in e)
+    (find-lf cs r x n (i + 1) (drop-next x i c (cs ++ (lf ∷ r)) h) (s .1) (omega arith)
+    ∙ let e : i + 1 + length cs ≡ i + suc (length cs) = omega arith in e)
 
--- without an LF it ends where the text does
+-- Without an LF, `findByte` ends where the text does.
 find-none : (l x : List ℕ) (n i : ℕ) → drop i x ≡ l → Without lf l → n ≡ length l → findByte n x 10 i ≡ i + length l
 unfolding findByte
 find-none [] x zero i h s k = omega arith
 find-none [] x (suc n) i h s k = absurd (omega arith)
 find-none (c ∷ cs) x zero i h s k = absurd (omega arith)
 find-none (c ∷ cs) x (suc n) i h s k =
-    rw (byte-is x i c cs h, s .0) (find-none cs x n (i + 1) (drop-next x i c cs h) (s .1) (omega arith) ∙ let e : i + 1 + length cs ≡ i + suc (length cs) = omega arith in e)
+    rw (byte-is x i c cs h, s .0) (find-none cs x n (i + 1) (drop-next x i c cs h) (s .1) (omega arith)
+    ∙ let e : i + 1 + length cs ≡ i + suc (length cs) = omega arith in e)
 
--- a line ends at its LF
-pub line-end : (l r x : List ℕ) (i : ℕ) → drop i x ≡ l ++ (lf ∷ r) → Without lf l → lineEnd x i ≡ i + length l
-unfolding lineEnd
-line-end l r x i h s = find-lf l r x (length x - i) i h s (let e = drop-length x i (l ++ (lf ∷ r)) h in let q = length-append l (lf ∷ r) in omega arith)
+-- A line ends at its LF.
+pub line-end : (l r x : List ℕ) (i : ℕ) → drop i x ≡ l ++ (lf ∷ r) → Without lf l → textLineEnd x i ≡ i + length l
+unfolding textLineEnd
+line-end l r x i h s =
+    find-lf l r x (length x - i) i h s (let e = drop-length x i (l ++ (lf ∷ r)) h in let q = length-append l (lf ∷ r) in omega arith)
 
--- bytes after the last LF end with the text
-pub line-open : (l x : List ℕ) (i : ℕ) → drop i x ≡ l → Without lf l → lineEnd x i ≡ i + length l
-unfolding lineEnd
+-- A line without an LF ends with the text.
+pub line-open : (l x : List ℕ) (i : ℕ) → drop i x ≡ l → Without lf l → textLineEnd x i ≡ i + length l
+unfolding textLineEnd
 line-open l x i h s = find-none l x (length x - i) i h s (drop-length x i l h)
 
 -- numbers
@@ -130,38 +134,42 @@ abbrev pub numberTo : ℕ → Option ℕ → Number
 numberTo e none = Missing
 numberTo e (some n) = Value n e
 
--- a number does not get smaller by more digits
+-- More digits do not make a number smaller.
 digits-grow : (l : List ℕ) (v : ℕ) → OnSome (λ n. v ≤ n) (digitsFrom v l)
 unfolding digitsFrom
 digits-grow [] v = omega arith
 digits-grow (c ∷ cs) v = go (isDigit c) refl (digits-grow cs (10 * v + (c - 48)))
   where
-    go : (b : Bool) → isDigit c ≡ b → OnSome (λ n. 10 * v + (c - 48) ≤ n) (digitsFrom (10 * v + (c - 48)) cs) → OnSome (λ n. v ≤ n) (digitsFrom v (c ∷ cs))
-    go true e ih = rw (digitsFrom, e) (some-weaken (λ n. 10 * v + (c - 48) ≤ n) (λ n. v ≤ n) (λ n k. omega arith) (digitsFrom (10 * v + (c - 48)) cs) ih)
+    go : (b : Bool) → isDigit c ≡ b → OnSome (λ n. 10 * v + (c - 48) ≤ n) (digitsFrom (10 * v + (c - 48)) cs)
+        → OnSome (λ n. v ≤ n) (digitsFrom v (c ∷ cs))
+    go true e ih =
+        rw (digitsFrom, e) (some-weaken (λ n. 10 * v + (c - 48) ≤ n) (λ n. v ≤ n) (λ n k. omega arith)
+        (digitsFrom (10 * v + (c - 48)) cs) ih)
     go false e ih = rw (digitsFrom, e) tt
 
--- above the bound it is none
+-- A number above the bound gives none.
 too-high : (m : ℕ) (o : Option ℕ) → OnSome (λ n. m < n) o → atMost m o ≡ none
 unfolding atMost
 too-high m none h = refl
 too-high m (some n) h = rw (lt-leb n m h)
 
--- within the bound it is itself
+-- A number within the bound passes unchanged.
 not-high : (m n : ℕ) → n ≤ m → atMost m (some n) ≡ some n
 unfolding atMost
 not-high m n h = rw (le-leb n m h)
 
--- a span that begins with a byte of the kind, and one that does not
-pub span-yes : (k : ℕ → Bool) (c : ℕ) (cs : List ℕ) → k c ≡ true → span k (c ∷ cs) ≡ record { taken = c ∷ span k cs .taken; rest = span k cs .rest }
+-- A span takes a first byte that is of the kind.
+pub span-yes : (k : ℕ → Bool) (c : ℕ) (cs : List ℕ) → k c ≡ true
+    → span k (c ∷ cs) ≡ record { taken = c ∷ span k cs .taken; rest = span k cs .rest }
 unfolding span
 span-yes k c cs e = rw (span, e)
 
--- one that does not
+-- A span that begins with a byte not of the kind takes nothing.
 pub span-no : (k : ℕ → Bool) (c : ℕ) (cs : List ℕ) → k c ≡ false → span k (c ∷ cs) ≡ record { taken = []; rest = c ∷ cs }
 unfolding span
 span-no k c cs e = rw (span, e)
 
--- digits from place i on, after the value v
+-- Digits from position i on, after the value v, are read as the number that they continue, up to 65,535.
 number-from : (l x : List ℕ) (n i v : ℕ) → drop i x ≡ l → n ≡ length l → v ≤ 65535
     → numberFrom n x i v ≡ numberTo (i + length (span isDigit l .taken)) (atMost 65535 (digitsFrom v (span isDigit l .taken)))
 unfolding numberFrom span digitsFrom
@@ -169,8 +177,10 @@ number-from [] x zero i v h k m = let e : i ≡ i + 0 = omega arith in rw (not-h
 number-from [] x (suc n) i v h k m = absurd (omega arith)
 number-from (c ∷ cs) x zero i v h k m = absurd (omega arith)
 number-from (c ∷ cs) x (suc n) i v h k m =
-    ap (λ (b : ℕ). cond (isDigit b) (cond (leb (10 * v + (b - 48)) 65535) (numberFrom n x (i + 1) (10 * v + (b - 48))) Missing) (Value v i)) (byte-is x i c cs h)
-    ∙ go (isDigit c) refl (leb (10 * v + (c - 48)) 65535) refl (λ q. number-from cs x n (i + 1) (10 * v + (c - 48)) (drop-next x i c cs h) (omega arith) q)
+    ap (λ (b : ℕ). cond (isDigit b) (cond (leb (10 * v + (b - 48)) 65535) (numberFrom n x (i + 1) (10 * v + (b - 48))) Missing)
+    (Value v i)) (byte-is x i c cs h)
+    ∙ go (isDigit c) refl (leb (10 * v + (c - 48)) 65535) refl
+    (λ q. number-from cs x n (i + 1) (10 * v + (c - 48)) (drop-next x i c cs h) (omega arith) q)
   where
     R : List ℕ → Number
     R s = numberTo (i + length s) (atMost 65535 (digitsFrom v s))
@@ -188,16 +198,18 @@ number-from (c ∷ cs) x (suc n) i v h k m =
         let f : digitsFrom v (c ∷ d) ≡ digitsFrom (10 * v + (c - 48)) d = rw (digitsFrom, p) in
         let z = leb-false (10 * v + (c - 48)) 65535 q in
         ap (numberTo (i + suc (length d))) (sym (ap (atMost 65535) f ∙ too-high 65535 (digitsFrom (10 * v + (c - 48)) d)
-        (some-weaken (λ n. 10 * v + (c - 48) ≤ n) (λ n. 65535 < n) (λ n k. omega arith) (digitsFrom (10 * v + (c - 48)) d) (digits-grow d (10 * v + (c - 48))))))
+        (some-weaken (λ n. 10 * v + (c - 48) ≤ n) (λ n. 65535 < n) (λ n k. omega arith) (digitsFrom (10 * v + (c - 48)) d)
+        (digits-grow d (10 * v + (c - 48))))))
         ∙ ap (λ (s : Span). R (s .taken)) (sym (span-yes isDigit c cs p))
     go true p true q ih =
         let d = span isDigit cs .taken in
         let f : digitsFrom v (c ∷ d) ≡ digitsFrom (10 * v + (c - 48)) d = rw (digitsFrom, p) in
         let e : i + 1 + length d ≡ i + suc (length d) = omega arith in
         ih (leb-true (10 * v + (c - 48)) 65535 q)
-        ∙ ap₂ (λ (j : ℕ) (o : Option ℕ). numberTo j (atMost 65535 o)) e (sym f) ∙ ap (λ (s : Span). R (s .taken)) (sym (span-yes isDigit c cs p))
+        ∙ ap₂ (λ (j : ℕ) (o : Option ℕ). numberTo j (atMost 65535 o)) e (sym f)
+        ∙ ap (λ (s : Span). R (s .taken)) (sym (span-yes isDigit c cs p))
 
--- a number with no zero first
+-- A number whose first digit is not 0 is read on from the value of that digit, up to 65,535.
 number-nonzero : (c : ℕ) (d : List ℕ) → isDigit c ≡ true → eqb c 48 ≡ false → number (c ∷ d) ≡ atMost 65535 (digitsFrom (c - 48) d)
 unfolding number digitsFrom
 number-nonzero c [] p q =
@@ -209,8 +221,9 @@ number-nonzero c (d ∷ ds) p q =
     let f : digitsFrom 0 (c ∷ d ∷ ds) ≡ digitsFrom (10 * 0 + (c - 48)) (d ∷ ds) = rw (digitsFrom, p) in
     rw (number, q) (ap (atMost 65535) (f ∙ ap (λ (v : ℕ). digitsFrom v (d ∷ ds)) e))
 
--- a zero, and what follows it
-number-zero : (cs x : List ℕ) (i : ℕ) → drop i x ≡ cs → numberZero x i ≡ numberTo (i + length (span isDigit cs .taken)) (number (48 ∷ span isDigit cs .taken))
+-- After a first digit 0, `numberZero` reads what `number` reads of the 0 and the digits after it.
+number-zero : (cs x : List ℕ) (i : ℕ) → drop i x ≡ cs
+    → numberZero x i ≡ numberTo (i + length (span isDigit cs .taken)) (number (48 ∷ span isDigit cs .taken))
 unfolding numberZero number digitsFrom span isDigit
 number-zero [] x i h = let e : i ≡ i + 0 = omega arith in rw (byte-none x i h) (ap (Value 0) e)
 number-zero (c ∷ cs) x i h = ap (λ (b : ℕ). cond (isDigit b) Missing (Value 0 i)) (byte-is x i c cs h) ∙ go (isDigit c) refl
@@ -224,9 +237,10 @@ number-zero (c ∷ cs) x i h = ap (λ (b : ℕ). cond (isDigit b) Missing (Value
         let e : i ≡ i + 0 = omega arith in
         ap (Value 0) e ∙ ap (λ (s : Span). R (s .taken)) (sym (span-no isDigit c cs p))
 
--- The number at place i is that of the digits that stand there.
-pub read-number : (x : List ℕ) (i : ℕ) → readNumber x i ≡ numberTo (i + length (span isDigit (drop i x) .taken)) (number (span isDigit (drop i x) .taken))
-unfolding readNumber number span isDigit
+-- The number at position i is that of the digits that stand there.
+pub read-number : (x : List ℕ) (i : ℕ)
+    → scanNumber x i ≡ numberTo (i + length (span isDigit (drop i x) .taken)) (number (span isDigit (drop i x) .taken))
+unfolding scanNumber number span isDigit
 read-number x i = go (drop i x) refl
   where
     R : List ℕ → Number
@@ -243,16 +257,19 @@ read-number x i = go (drop i x) refl
         let d = span isDigit cs .taken in
         let r = digit-bounds c p in
         let e : i + 1 + length d ≡ i + suc (length d) = omega arith in
-        number-from cs x (length x - (i + 1)) (i + 1) (c - 48) (drop-next x i c cs h) (drop-length x (i + 1) cs (drop-next x i c cs h)) (omega arith)
+        number-from cs x (length x - (i + 1)) (i + 1) (c - 48) (drop-next x i c cs h) (drop-length x (i + 1) cs (drop-next x i c cs h))
+        (omega arith)
         ∙ ap₂ numberTo e (sym (number-nonzero c d p q))
 
     cases : (c : ℕ) (cs : List ℕ) → drop i x ≡ c ∷ cs → (b : Bool) → isDigit c ≡ b
-        → cond b (cond (eqb c 48) (numberZero x (i + 1)) (numberFrom (length x - (i + 1)) x (i + 1) (c - 48))) Missing ≡ R (span isDigit (c ∷ cs) .taken)
+        → cond b (cond (eqb c 48) (numberZero x (i + 1)) (numberFrom (length x - (i + 1)) x (i + 1) (c - 48))) Missing ≡ R
+        (span isDigit (c ∷ cs) .taken)
     cases c cs h true p = digit c cs h p (eqb c 48) refl ∙ ap (λ (s : Span). R (s .taken)) (sym (span-yes isDigit c cs p))
     cases c cs h false p = ap (λ (s : Span). R (s .taken)) (sym (span-no isDigit c cs p))
 
-    go : (l : List ℕ) → drop i x ≡ l → readNumber x i ≡ R (span isDigit (drop i x) .taken)
+    go : (l : List ℕ) → drop i x ≡ l → scanNumber x i ≡ R (span isDigit (drop i x) .taken)
     go [] h = rw (byte-none x i h, h)
     go (c ∷ cs) h =
-        ap (λ (b : ℕ). cond (isDigit b) (cond (eqb b 48) (numberZero x (i + 1)) (numberFrom (length x - (i + 1)) x (i + 1) (b - 48))) Missing) (byte-is x i c cs h)
+        ap (λ (b : ℕ). cond (isDigit b) (cond (eqb b 48) (numberZero x (i + 1)) (numberFrom (length x - (i + 1)) x (i + 1) (b - 48)))
+        Missing) (byte-is x i c cs h)
         ∙ cases c cs h (isDigit c) refl ∙ ap (λ (l : List ℕ). R (span isDigit l .taken)) (sym h)

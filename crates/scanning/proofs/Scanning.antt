@@ -14,7 +14,8 @@ use Rattle.sheet_format.specs.Bytes.{isDigit, isNameByte, isName, number}
 use Rattle.sheet_format.specs.Nodes.{Declaration}
 use Rattle.node_table.specs.Layout.{isFunctionBit, arityOf}
 use Rattle.node_table.specs.Decoding.{declarationsFrom}
-use Rattle.answer_texts.specs.Reading.{Span, span, Parsed, parsed, withLevel, readLevel, readSymbol, after, consParsed, readMore, readArguments, Found, findName, applyTo, readApplication, readTerm}
+use Rattle.answer_texts.specs.Reading.{Span, span, Parsed, parsed, withLevel, readLevel, readSymbol, after, consParsed, readMore}
+use Rattle.answer_texts.specs.Reading.{readArguments, Found, findName, applyTo, readApplication, readTerm}
 use Rattle.sheet_format.proofs.Bytes.{name-nonempty}
 use Rattle.sheet_format.proofs.Names.{Names}
 use Rattle.sheet_format.proofs.Formed.{Declares}
@@ -25,8 +26,9 @@ use Rattle.answer_texts.proofs.Symbols.{name-of, findName-some}
 use Rattle.scanning.specs.declared.Number.the-variants.{Value, Missing}
 use Rattle.scanning.specs.declared.Scan.{Scan}
 use Rattle.scanning.specs.declared.Scan.the-variants.{Term as Scanned, Malformed}
-use Rattle.scanning.specs.Scanning.{nameEnd, symbolFrom, scanLevel, scanMark, scanSymbol, higher, scanMore, scanArguments, scanApplication, scanTerm}
-use Rattle.scanning.proofs.Places.{byte-is, byte-none, drop-next, drop-past}
+use Rattle.scanning.specs.Scanning.{nameEnd, symbolFrom, scanLevel, scanAt, scanSymbol, higher, scanMore, scanArguments}
+use Rattle.scanning.specs.Scanning.{scanApplication, scanTerm}
+use Rattle.scanning.proofs.Positions.{byte-is, byte-none, drop-next, drop-past}
 use Rattle.scanning.proofs.Ranges.{numberTo, read-number}
 use Rattle.scanning.proofs.Names.{name-end, foundAt, find-symbol, name-solid, span-every}
 
@@ -40,34 +42,39 @@ Scans x (Scanned e k) (some p) = (drop e x ≡ p .rest) × (k ≡ level (p .valu
 -- symbols
 
 module _ (x : List ℕ) (s : ℕ → ℕ → Symbol) (levels : (n k : ℕ) → symbolLevel (s n k) ≡ k) where
-  -- the level
-  scan-level : (i n : ℕ) → Scans x (scanLevel x i) (withLevel s (some n) (number (span isDigit (drop i x) .taken)) (span isDigit (drop i x) .rest))
+  -- Scanning the level of a symbol agrees with reading it.
+  scan-level : (i n : ℕ)
+      → Scans x (scanLevel x i) (withLevel s (some n) (number (span isDigit (drop i x) .taken)) (span isDigit (drop i x) .rest))
   unfolding scanLevel withLevel level levelBy
   scan-level i n = rw (scanLevel, read-number x i) (go (number (span isDigit (drop i x) .taken)))
     where
       d : Span
       d = span isDigit (drop i x)
 
-      go : (o : Option ℕ) → Scans x (elim (numberTo (i + length (d .taken)) o) as (λ z. Scan) [ Value k e ↦ Scanned e k | Missing ↦ Malformed ]) (withLevel s (some n) o (d .rest))
+      go : (o : Option ℕ)
+          → Scans x (elim (numberTo (i + length (d .taken)) o) as (λ z. Scan) [ Value k e ↦ Scanned e k | Missing ↦ Malformed ])
+          (withLevel s (some n) o (d .rest))
       go none = tt
       go (some k) = (drop-past x i (d .taken) (d .rest) (span-split isDigit (drop i x)), sym (levels n k))
 
-  -- the mark before it
-  scan-mark : (i n : ℕ) → Scans x (scanMark x i) (readLevel s (some n) (drop i x))
-  unfolding scanMark readLevel
-  scan-mark i n = go (drop i x) refl
+  -- Scanning `@` and the level agrees with reading them.
+  scan-at : (i n : ℕ) → Scans x (scanAt x i) (readLevel s (some n) (drop i x))
+  unfolding scanAt readLevel
+  scan-at i n = go (drop i x) refl
     where
       go : (l : List ℕ) → drop i x ≡ l → Scans x (cond (eqb (getD x i 0) 64) (scanLevel x (i + 1)) Malformed) (readLevel s (some n) l)
       go [] h = rw (byte-none x i h) tt
       go (c ∷ cs) h = rw (byte-is x i c cs h) (mark (eqb c 64))
         where
-          mark : (b : Bool) → Scans x (cond b (scanLevel x (i + 1)) Malformed) (cond b (withLevel s (some n) (number (span isDigit cs .taken)) (span isDigit cs .rest)) none)
+          mark : (b : Bool) → Scans x (cond b (scanLevel x (i + 1)) Malformed)
+              (cond b (withLevel s (some n) (number (span isDigit cs .taken)) (span isDigit cs .rest)) none)
           mark true =
-              subst (λ (l : List ℕ). Scans x (scanLevel x (i + 1)) (withLevel s (some n) (number (span isDigit l .taken)) (span isDigit l .rest)))
+              subst (λ (l : List ℕ). Scans x (scanLevel x (i + 1))
+              (withLevel s (some n) (number (span isDigit l .taken)) (span isDigit l .rest)))
               (drop-next x i c cs h) (scan-level (i + 1) n)
           mark false = tt
 
-  -- where there is no number there is no symbol
+  -- Where there is no number there is no symbol.
   no-number : (l : List ℕ) → readLevel s none l ≡ none
   unfolding readLevel withLevel
   no-number [] = refl
@@ -85,11 +92,13 @@ module _ (x : List ℕ) (s : ℕ → ℕ → Symbol) (levels : (n k : ℕ) → s
       d : Span
       d = span isDigit (drop i x)
 
-      go : (o : Option ℕ) → Scans x (elim (numberTo (i + length (d .taken)) o) as (λ z. Scan) [ Value n e ↦ scanMark x e | Missing ↦ Malformed ]) (readLevel s o (d .rest))
+      go : (o : Option ℕ)
+          → Scans x (elim (numberTo (i + length (d .taken)) o) as (λ z. Scan) [ Value n e ↦ scanAt x e | Missing ↦ Malformed ])
+          (readLevel s o (d .rest))
       go none = subst (Scans x Malformed) (sym (no-number (d .rest))) tt
       go (some n) =
-          subst (λ (l : List ℕ). Scans x (scanMark x (i + length (d .taken))) (readLevel s (some n) l))
-          (drop-past x i (d .taken) (d .rest) (span-split isDigit (drop i x))) (scan-mark (i + length (d .taken)) n)
+          subst (λ (l : List ℕ). Scans x (scanAt x (i + length (d .taken))) (readLevel s (some n) l))
+          (drop-past x i (d .taken) (d .rest) (span-split isDigit (drop i x))) (scan-at (i + length (d .taken)) n)
 
 -- arguments
 
@@ -100,18 +109,18 @@ ScansAll x k Malformed (some p) = ⊥
 ScansAll x k (Scanned e j) none = ⊥
 ScansAll x k (Scanned e j) (some p) = (drop e x ≡ p .rest) × (j ≡ max k (levelsBy (p .value) symbolLevel))
 
--- n arguments, the first after the byte c, and the closing bracket.
+-- Reads n arguments, the first after the byte c, and the closing bracket.
 unfoldable argumentsAfter : (List ℕ → Option (Parsed Ground)) → ℕ → ℕ → List ℕ → Option (Parsed (Terms Symbol))
 argumentsAfter R zero c l = after 41 (λ ds. parsed nil ds) l
 argumentsAfter R (suc n) c l = after c (λ ds. elim (R ds) [ none ↦ none | some p ↦ consParsed (p .value) (readMore R n (p .rest)) ]) l
 
--- more arguments come after commas
+-- More arguments are arguments of which the first comes after a comma.
 more-after : (R : List ℕ → Option (Parsed Ground)) (n : ℕ) (l : List ℕ) → readMore R n l ≡ argumentsAfter R n 44 l
 unfolding readMore argumentsAfter
 more-after R zero l = refl
 more-after R (suc n) l = refl
 
--- the higher of two levels is their maximum
+-- The higher of two levels is their maximum.
 higher-max : (k j : ℕ) → higher k j ≡ max k j
 unfolding higher
 higher-max k j = go (ltb k j) refl
@@ -120,8 +129,9 @@ higher-max k j = go (ltb k j) refl
     go true e = let l = ltb-true k j e in omega arith
     go false e = let l = ltb-false k j e in omega arith
 
--- one argument and those after it
-scan-cons : (x : List ℕ) (k j : ℕ) (p : Parsed Ground) (s : Scan) (o : Option (Parsed (Terms Symbol))) → j ≡ level (p .value) → ScansAll x (higher k j) s o
+-- If scanning the later arguments agrees with reading them, it does with one argument in front.
+scan-cons : (x : List ℕ) (k j : ℕ) (p : Parsed Ground) (s : Scan) (o : Option (Parsed (Terms Symbol))) → j ≡ level (p .value)
+    → ScansAll x (higher k j) s o
     → ScansAll x k s (consParsed (p .value) o)
 unfolding consParsed levelBy level
 scan-cons x k j p Malformed none h q = tt
@@ -133,16 +143,18 @@ scan-cons x k j p (Scanned e i) (some a) h q =
     (q .0, omega arith)
 
 module _ (x : List ℕ) (r : ℕ → Scan) (R : List ℕ → Option (Parsed Ground)) (reads : (i : ℕ) → Scans x (r i) (R (drop i x))) where
-  -- by the number of arguments
+  -- Scanning n arguments, the first after the byte c, agrees with reading them.
   scan-after : (n c i k : ℕ) → 0 < c → ScansAll x k (scanMore r n x c i k) (argumentsAfter R n c (drop i x))
   unfolding scanMore argumentsAfter after levelBy
   scan-after zero c i k z = go (drop i x) refl
     where
-      go : (l : List ℕ) → drop i x ≡ l → ScansAll x k (cond (eqb (getD x i 0) 41) (Scanned (i + 1) k) Malformed) (after 41 (λ ds. parsed nil ds) l)
+      go : (l : List ℕ) → drop i x ≡ l
+          → ScansAll x k (cond (eqb (getD x i 0) 41) (Scanned (i + 1) k) Malformed) (after 41 (λ ds. parsed nil ds) l)
       go [] h = rw (byte-none x i h) tt
       go (d ∷ ds) h = rw (byte-is x i d ds h) (closing (eqb d 41) refl)
         where
-          closing : (b : Bool) → eqb d 41 ≡ b → ScansAll x k (cond b (Scanned (i + 1) k) Malformed) (after 41 (λ ds. parsed nil ds) (d ∷ ds))
+          closing : (b : Bool) → eqb d 41 ≡ b
+              → ScansAll x k (cond b (Scanned (i + 1) k) Malformed) (after 41 (λ ds. parsed nil ds) (d ∷ ds))
           closing true e = rw (after, e) (drop-next x i d ds h, omega arith)
           closing false e = rw (after, e) tt
   scan-after (suc n) c i k z = go (drop i x) refl (scan-after n)
@@ -158,27 +170,34 @@ module _ (x : List ℕ) (r : ℕ → Scan) (R : List ℕ → Option (Parsed Grou
       term (Scanned e j) none h ih = absurd h
       term (Scanned e j) (some p) h ih =
           scan-cons x k j p (scanMore r n x 44 e (higher k j)) (readMore R n (p .rest)) (h .1)
-          (subst (ScansAll x (higher k j) (scanMore r n x 44 e (higher k j))) (ap (argumentsAfter R n 44) (h .0) ∙ sym (more-after R n (p .rest))) (ih 44 e (higher k j) (omega arith)))
+          (subst (ScansAll x (higher k j) (scanMore r n x 44 e (higher k j))) (ap (argumentsAfter R n 44) (h .0)
+          ∙ sym (more-after R n (p .rest))) (ih 44 e (higher k j) (omega arith)))
 
       go : (l : List ℕ) → drop i x ≡ l → Rest
-          → ScansAll x k (cond (eqb (getD x i 0) c) (elim (r (i + 1)) as (λ z. Scan) [ Scanned e j ↦ scanMore r n x 44 e (higher k j) | Malformed ↦ Malformed ]) Malformed)
+          → ScansAll x k
+          (cond (eqb (getD x i 0) c)
+          (elim (r (i + 1)) as (λ z. Scan) [ Scanned e j ↦ scanMore r n x 44 e (higher k j) | Malformed ↦ Malformed ]) Malformed)
           (argumentsAfter R (suc n) c l)
       go [] h ih = rw (byte-none x i h, ne-eqb 0 c (λ q. omega arith)) tt
       go (d ∷ ds) h ih = rw (byte-is x i d ds h) (first (eqb d c) refl ih)
         where
           first : (b : Bool) → eqb d c ≡ b → Rest
-              → ScansAll x k (cond b (elim (r (i + 1)) as (λ z. Scan) [ Scanned e j ↦ scanMore r n x 44 e (higher k j) | Malformed ↦ Malformed ]) Malformed)
+              → ScansAll x k
+              (cond b (elim (r (i + 1)) as (λ z. Scan) [ Scanned e j ↦ scanMore r n x 44 e (higher k j) | Malformed ↦ Malformed ])
+              Malformed)
               (argumentsAfter R (suc n) c (d ∷ ds))
-          first true e ih = rw (argumentsAfter, after, e) (term (r (i + 1)) (R ds) (subst (λ (l : List ℕ). Scans x (r (i + 1)) (R l)) (drop-next x i d ds h) (reads (i + 1))) ih)
+          first true e ih =
+              rw (argumentsAfter, after, e)
+              (term (r (i + 1)) (R ds) (subst (λ (l : List ℕ). Scans x (r (i + 1)) (R l)) (drop-next x i d ds h) (reads (i + 1))) ih)
           first false e ih = rw (argumentsAfter, after, e) tt
 
-  -- n arguments in brackets
+  -- Scanning n arguments in brackets agrees with reading them.
   pub scan-arguments : (n i : ℕ) → ScansAll x 0 (scanArguments r n x i) (readArguments R n (drop i x))
   unfolding scanArguments readArguments argumentsAfter levelBy
   scan-arguments zero i = (refl, omega arith)
   scan-arguments (suc n) i = rw (ne-eqb (suc n) 0 (λ q. omega arith)) (scan-after (suc n) 40 i 0 (omega arith))
 
-  -- a symbol that was looked up, and its arguments
+  -- If scanning the arguments of a symbol agrees with reading them, so does scanning its application.
   scan-applied : (f : ℕ) (s : Scan) (o : Option (Parsed (Terms Symbol))) → ScansAll x 0 s o → Scans x s (applyTo f o)
   unfolding applyTo level levelBy
   scan-applied f Malformed none h = tt
@@ -186,21 +205,23 @@ module _ (x : List ℕ) (r : ℕ → Scan) (R : List ℕ → Option (Parsed Grou
   scan-applied f (Scanned e k) none h = absurd h
   scan-applied f (Scanned e k) (some p) h = (h .0, let q = h .1 in omega arith)
 
-  -- if it is a function symbol
-  pub scan-application : (t : List ℕ) (symbols k i : ℕ) → Scans x (scanApplication r t symbols k x i) (readApplication R (foundAt t symbols k) (drop i x))
+  -- Scanning the application of symbol k agrees with reading it, also where k is no function symbol.
+  pub scan-application : (t : List ℕ) (symbols k i : ℕ)
+      → Scans x (scanApplication r t symbols k x i) (readApplication R (foundAt t symbols k) (drop i x))
   unfolding scanApplication readApplication
   scan-application t symbols k i = go (ltb k symbols) (eqb (isFunctionBit t k) 1)
     where
       go : (a b : Bool)
           → Scans x (cond a (cond b (scanArguments r (arityOf t k) x i) Malformed) Malformed)
           (readApplication R (cond a (cond b (some (record { symbol = k; arity = arityOf t k })) none) none) (drop i x))
-      go true true = scan-applied k (scanArguments r (arityOf t k) x i) (readArguments R (arityOf t k) (drop i x)) (scan-arguments (arityOf t k) i)
+      go true true =
+          scan-applied k (scanArguments r (arityOf t k) x i) (readArguments R (arityOf t k) (drop i x)) (scan-arguments (arityOf t k) i)
       go true false = tt
       go false b = tt
 
 -- terms
 
--- no symbol has the empty name
+-- No symbol has the empty name.
 no-name : (ds : List Declaration) → Names ds → findName 0 ds [] ≡ none
 no-name ds ns = go (findName 0 ds []) (findName-some ds [])
   where
@@ -209,10 +230,11 @@ no-name ds ns = go (findName 0 ds []) (findName-some ds [])
     go (some f) h = absurd (name-nonempty (subst (λ (n : List ℕ). isName n ≡ true) (h .0) (name-of ds (f .symbol) (f .arity) ns (h .1))))
 
 module _ (b t : List ℕ) (symbols : ℕ) (names : Names (declarationsFrom b t symbols 0)) (x : List ℕ) where
-  -- a name and its arguments
+  -- Scanning a name and its arguments agrees with reading them, if scanning the arguments' terms does.
   scan-named : (f i : ℕ) → ((j : ℕ) → Scans x (scanTerm f b t symbols x j) (readTerm f (declarationsFrom b t symbols 0) (drop j x)))
       → Scans x (scanApplication (scanTerm f b t symbols x) t symbols (symbolFrom symbols b t 0 x i (nameEnd x i)) x (nameEnd x i))
-      (readApplication (readTerm f (declarationsFrom b t symbols 0)) (findName 0 (declarationsFrom b t symbols 0) (span isNameByte (drop i x) .taken))
+      (readApplication (readTerm f (declarationsFrom b t symbols 0))
+      (findName 0 (declarationsFrom b t symbols 0) (span isNameByte (drop i x) .taken))
       (span isNameByte (drop i x) .rest))
   scan-named f i reads =
       let n = span isNameByte (drop i x) in
@@ -220,7 +242,8 @@ module _ (b t : List ℕ) (symbols : ℕ) (names : Names (declarationsFrom b t s
       let j = symbolFrom symbols b t 0 x i (nameEnd x i) in
       subst (Scans x (scanApplication (scanTerm f b t symbols x) t symbols j x (nameEnd x i)))
       (ap₂ (readApplication (readTerm f (declarationsFrom b t symbols 0)))
-      (sym (find-symbol b t x (n .taken) (n .rest) i (nameEnd x i) e (name-solid (n .taken) (span-every isNameByte (drop i x))) (name-end x i) symbols))
+      (sym (find-symbol b t x (n .taken) (n .rest) i (nameEnd x i) e (name-solid (n .taken) (span-every isNameByte (drop i x)))
+      (name-end x i) symbols))
       (ap (λ (k : ℕ). drop k x) (name-end x i) ∙ drop-past x i (n .taken) (n .rest) e))
       (scan-application x (scanTerm f b t symbols x) (readTerm f (declarationsFrom b t symbols 0)) reads t symbols j (nameEnd x i))
 
@@ -241,12 +264,16 @@ module _ (b t : List ℕ) (symbols : ℕ) (names : Names (declarationsFrom b t s
 
       mark : (c : ℕ) (cs : List ℕ) → drop i x ≡ c ∷ cs → Applies (c ∷ cs) → (m n : Bool) → eqb c 33 ≡ m → eqb c 95 ≡ n
           → Scans x (cond m (scanSymbol x (i + 1)) (cond n (scanSymbol x (i + 1)) A)) (readTerm (suc f) ds (c ∷ cs))
-      mark c cs h q true n e d = rw (readTerm, e) (subst (λ (l : List ℕ). Scans x (scanSymbol x (i + 1)) (readSymbol made l)) (drop-next x i c cs h) (scan-symbol x made (λ n k. refl) (i + 1)))
+      mark c cs h q true n e d =
+          rw (readTerm, e) (subst (λ (l : List ℕ). Scans x (scanSymbol x (i + 1)) (readSymbol made l)) (drop-next x i c cs h)
+          (scan-symbol x made (λ n k. refl) (i + 1)))
       mark c cs h q false true e d =
-          rw (readTerm, e, d) (subst (λ (l : List ℕ). Scans x (scanSymbol x (i + 1)) (readSymbol leftover l)) (drop-next x i c cs h) (scan-symbol x leftover (λ n k. refl) (i + 1)))
+          rw (readTerm, e, d) (subst (λ (l : List ℕ). Scans x (scanSymbol x (i + 1)) (readSymbol leftover l)) (drop-next x i c cs h)
+          (scan-symbol x leftover (λ n k. refl) (i + 1)))
       mark c cs h q false false e d = rw (readTerm, e, d) q
 
       go : (l : List ℕ) → drop i x ≡ l → Applies l
-          → Scans x (cond (eqb (getD x i 0) 33) (scanSymbol x (i + 1)) (cond (eqb (getD x i 0) 95) (scanSymbol x (i + 1)) A)) (readTerm (suc f) ds l)
+          → Scans x (cond (eqb (getD x i 0) 33) (scanSymbol x (i + 1)) (cond (eqb (getD x i 0) 95) (scanSymbol x (i + 1)) A))
+          (readTerm (suc f) ds l)
       go [] h q = rw (byte-none x i h) (subst (λ (o : Option Found). Scans x A (readApplication (readTerm f ds) o [])) (no-name ds names) q)
       go (c ∷ cs) h q = rw (byte-is x i c cs h) (mark c cs h q (eqb c 33) (eqb c 95) refl refl)

@@ -1,4 +1,4 @@
--- Classes of terms that are known to be the same, as a forest: the number at an element's place is its parent, 0 for none (union-find).
+-- Classes of terms that are known to be the same, as a forest: the number at an element's position is its parent, 0 for none (union-find).
 -- The elements are names and applications of the table on two sides, each with a frame of its own.
 --
 --   16 .. 31      name v on side s: 2 * v + s + 16
@@ -27,7 +27,7 @@ elementCount = 4096
 unfoldable pub nameElement : ℕ → ℕ → ℕ
 nameElement s v = 2 * (v % variableNames) + (s + firstName)
 
--- the application at node m
+-- The application at node m on side s is element 2 * m + s + 2048.
 unfoldable pub nodeElement : ℕ → ℕ → ℕ
 nodeElement s m = 2 * (m % maxNodes) + (s + firstApplication)
 
@@ -39,15 +39,15 @@ elementOf t s m = cond (eqb (kindOf t m) variableKind) (nameElement s (labelOf t
 unfoldable pub isName : ℕ → Bool
 isName i = ltb i firstApplication
 
--- its side
+-- The side of an element is its remainder by 2.
 unfoldable pub elementSide : ℕ → ℕ
 elementSide i = i % 2
 
--- which name
+-- Gives the name that an element stands for.
 unfoldable pub elementName : ℕ → ℕ
 elementName i = i / 2 % variableNames
 
--- which node
+-- Gives the node that an element stands for.
 unfoldable pub elementNode : ℕ → ℕ
 elementNode i = i / 2 % maxNodes
 
@@ -56,8 +56,8 @@ unfoldable pub elementChild : List ℕ → ℕ → ℕ → ℕ
 elementChild t i j = elementOf t (elementSide i) (childOf t (elementNode i) j)
 
 -- The frame of side s, of f and g.
-unfoldable pub frameOn : ℕ → ℕ → ℕ → ℕ
-frameOn f g s = cond (eqb s 0) f g
+unfoldable pub sideFrame : ℕ → ℕ → ℕ → ℕ
+sideFrame f g s = cond (eqb s 0) f g
 
 -- classes
 
@@ -70,7 +70,7 @@ pub record Rooted : Type 0 where
   pub classes : List ℕ
   pub root : ℕ
 
--- the two together
+-- Classes and a representative make a record.
 abbrev pub rooted : List ℕ → ℕ → Rooted
 rooted c i = record { classes = c; root = i }
 
@@ -81,10 +81,10 @@ rootFrom (suc n) c i =
     cond (eqb (getD c i 0) 0) (rooted c i)
     (cond (eqb (getD c (getD c i 0) 0) 0) (rooted c (getD c i 0)) (rootFrom n (set c i (getD c (getD c i 0) 0)) (getD c (getD c i 0) 0)))
 
--- the most steps of a way through all 2,064 elements
+-- A way through the elements has at most as many steps as there are elements.
 abbrev pub rootSteps : ℕ
 rootSteps = 1032
 
--- within them
+-- An element is kept within them.
 unfoldable pub rootOf : List ℕ → ℕ → Rooted
 rootOf c i = rootFrom rootSteps c i

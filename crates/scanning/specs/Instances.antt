@@ -1,4 +1,4 @@
--- Comparing instances of sheet terms without unfolding them: a node of the table with a frame, whose names are places in the text. Terms
+-- Comparing instances of sheet terms without unfolding them: a node of the table with a frame, whose names are positions in the text. Terms
 -- found to be the same are put into one class, so the work grows with the nodes of two atoms and with the texts of their names, however
 -- often these stand in the atoms.
 use Prim.Native.Nat.{ℕ, zero, suc, _+_, _-_}
@@ -14,56 +14,58 @@ use Rattle.scanning.specs.declared.Reach.the-variants.{To, Differs}
 use Rattle.scanning.specs.Ranges.{sameRange}
 use Rattle.scanning.specs.Scanning.{nameSize}
 use Rattle.scanning.specs.Frames.{slotStart, slotEnd}
-use Rattle.scanning.specs.Classes.{nodeElement, isName, elementSide, elementName, elementNode, elementChild, frameOn, separate, rootOf}
+use Rattle.scanning.specs.Classes.{nodeElement, isName, elementSide, elementName, elementNode, elementChild, sideFrame, separate}
+use Rattle.scanning.specs.Classes.{rootOf}
 
--- Two terms of the text, from s to e and from i to j. Where they start at one place they are one term.
+-- Two terms of the text, from s to e and from i to j. Where they start at one position they are one term.
 unfoldable pub sameSlots : List ℕ → ℕ → ℕ → ℕ → ℕ → Bool
 sameSlots x s e i j = cond (eqb s i) true (cond (eqb (e - s) (j - i)) (sameRange (e - s) x s x i) false)
 
 -- going along with a spelling
 
--- The n bytes of a from s on stand at place i, within the text.
-unfoldable pub alongRange : ℕ → List ℕ → ℕ → List ℕ → ℕ → Reach
-alongRange n a s x i = cond (leb n (length x - i)) (cond (sameRange n a s x i) (To (i + n)) Differs) Differs
+-- The n bytes of a from s on stand at position i, within the text.
+unfoldable pub matchRange : ℕ → List ℕ → ℕ → List ℕ → ℕ → Reach
+matchRange n a s x i = cond (leb n (length x - i)) (cond (sameRange n a s x i) (To (i + n)) Differs) Differs
 
 -- So does the name of symbol k.
-unfoldable pub alongName : List ℕ → List ℕ → ℕ → List ℕ → ℕ → Reach
-alongName b t k x i = alongRange (nameSize b t k) b (nameStart t k) x i
+unfoldable pub matchName : List ℕ → List ℕ → ℕ → List ℕ → ℕ → Reach
+matchName b t k x i = matchRange (nameSize b t k) b (nameStart t k) x i
 
 -- So does the term of name v in frame g.
-unfoldable pub alongSlot : List ℕ → List ℕ → ℕ → ℕ → ℕ → Reach
-alongSlot x w g v i = alongRange (slotEnd w g v - slotStart w g v) x (slotStart w g v) x i
+unfoldable pub matchSlot : List ℕ → List ℕ → ℕ → ℕ → ℕ → Reach
+matchSlot x w g v i = matchRange (slotEnd w g v - slotStart w g v) x (slotStart w g v) x i
 
 -- So do n children of node m from the j-th on, the first after the byte c, each other one after a comma, and the closing bracket.
-unfoldable pub alongMore : (ℕ → ℕ → Reach) → ℕ → List ℕ → ℕ → ℕ → List ℕ → ℕ → ℕ → Reach
-alongMore r zero t m j x c i = cond (eqb (getD x i 0) (code ")")) (To (i + 1)) Differs
-alongMore r (suc n) t m j x c i =
-    cond (eqb (getD x i 0) c) (elim (r (childOf t m j) (i + 1)) [ To e ↦ alongMore r n t m (j + 1) x (code ",") e | Differs ↦ Differs ]) Differs
+unfoldable pub matchMore : (ℕ → ℕ → Reach) → ℕ → List ℕ → ℕ → ℕ → List ℕ → ℕ → ℕ → Reach
+matchMore r zero t m j x c i = cond (eqb (getD x i 0) (code ")")) (To (i + 1)) Differs
+matchMore r (suc n) t m j x c i =
+    cond (eqb (getD x i 0) c) (elim (r (childOf t m j) (i + 1)) [ To e ↦ matchMore r n t m (j + 1) x (code ",") e | Differs ↦ Differs ])
+    Differs
 
--- all children, in brackets
-unfoldable pub alongArguments : (ℕ → ℕ → Reach) → List ℕ → ℕ → List ℕ → ℕ → Reach
-alongArguments r t m x i = cond (eqb (childCount t m) 0) (To i) (alongMore r (childCount t m) t m 0 x (code "(") i)
+-- All children of node m stand at position i, in brackets if there are any.
+unfoldable pub matchArguments : (ℕ → ℕ → Reach) → List ℕ → ℕ → List ℕ → ℕ → Reach
+matchArguments r t m x i = cond (eqb (childCount t m) 0) (To i) (matchMore r (childCount t m) t m 0 x (code "(") i)
 
--- the symbol of node m, then its children
-unfoldable pub alongApplication : (ℕ → ℕ → Reach) → List ℕ → List ℕ → ℕ → List ℕ → ℕ → Reach
-alongApplication r b t m x i = elim (alongName b t (labelOf t m) x i) [ To e ↦ alongArguments r t m x e | Differs ↦ Differs ]
+-- The symbol of node m stands at position i, and after it the node's children.
+unfoldable pub matchApplication : (ℕ → ℕ → Reach) → List ℕ → List ℕ → ℕ → List ℕ → ℕ → Reach
+matchApplication r b t m x i = elim (matchName b t (labelOf t m) x i) [ To e ↦ matchArguments r t m x e | Differs ↦ Differs ]
 
--- The instance of node m in frame g stands at place i. Children have smaller numbers: the first argument is above the node's.
-unfoldable pub along : ℕ → List ℕ → List ℕ → List ℕ → List ℕ → ℕ → ℕ → ℕ → Reach
-along zero b t x w g m i = Differs
-along (suc f) b t x w g m i =
+-- The instance of node m in frame g stands at position i. Children have smaller numbers: the first argument is above the node's.
+unfoldable pub matchInstance : ℕ → List ℕ → List ℕ → List ℕ → List ℕ → ℕ → ℕ → ℕ → Reach
+matchInstance zero b t x w g m i = Differs
+matchInstance (suc f) b t x w g m i =
     cond (eqb (kindOf t m) variableKind)
-    (alongSlot x w g (labelOf t m) i)
-    (alongApplication (along f b t x w g) b t m x i)
+    (matchSlot x w g (labelOf t m) i)
+    (matchApplication (matchInstance f b t x w g) b t m x i)
 
 -- The term of the text from s to e is the instance of node m in frame g.
 unfoldable pub endsAt : Reach → ℕ → Bool
 endsAt (To i) e = eqb i e
 endsAt Differs e = false
 
--- it ends there
+-- The instance of node m in frame g stands at position s and ends at e.
 unfoldable pub isInstance : List ℕ → List ℕ → List ℕ → List ℕ → ℕ → ℕ → ℕ → ℕ → Bool
-isInstance b t x w s e g m = endsAt (along maxNodes b t x w g m s) e
+isInstance b t x w s e g m = endsAt (matchInstance maxNodes b t x w g m s) e
 
 -- two instances
 
@@ -72,7 +74,7 @@ pub record Compared : Type 0 where
   pub classes : List ℕ
   pub same : Bool
 
--- the two together
+-- Classes and the result of a comparison make a record.
 abbrev pub compared : List ℕ → Bool → Compared
 compared c z = record { classes = c; same = z }
 
@@ -82,23 +84,23 @@ joined o i j = cond (o .same) (compared (set (o .classes) i j) true) (compared (
 
 -- Where the term of name i starts, in its side's frame.
 unfoldable pub startOf : List ℕ → ℕ → ℕ → ℕ → ℕ
-startOf w f g i = slotStart w (frameOn f g (elementSide i)) (elementName i)
+startOf w f g i = slotStart w (sideFrame f g (elementSide i)) (elementName i)
 
--- where it ends
+-- Gives the position where the term of name i ends, in its side's frame.
 unfoldable pub endOf : List ℕ → ℕ → ℕ → ℕ → ℕ
-endOf w f g i = slotEnd w (frameOn f g (elementSide i)) (elementName i)
+endOf w f g i = slotEnd w (sideFrame f g (elementSide i)) (elementName i)
 
 -- The term of name i is that of element j, a name or an application.
 unfoldable pub sameName : List ℕ → List ℕ → List ℕ → List ℕ → ℕ → ℕ → ℕ → ℕ → Bool
 sameName b t x w f g i j =
     cond (isName j) (sameSlots x (startOf w f g i) (endOf w f g i) (startOf w f g j) (endOf w f g j))
-    (isInstance b t x w (startOf w f g i) (endOf w f g i) (frameOn f g (elementSide j)) (elementNode j))
+    (isInstance b t x w (startOf w f g i) (endOf w f g i) (sideFrame f g (elementSide j)) (elementNode j))
 
 -- A name joins the class of an element with the same term.
 unfoldable pub joinName : List ℕ → List ℕ → List ℕ → List ℕ → ℕ → ℕ → List ℕ → ℕ → ℕ → Compared
 joinName b t x w f g c i j = joined (compared c (sameName b t x w f g i j)) i j
 
--- n children of the applications i and j from the k-th on, by the comparison r.
+-- Compares n children of the applications i and j from the k-th on, by the comparison r.
 unfoldable pub sameChildren : (List ℕ → ℕ → ℕ → Compared) → ℕ → List ℕ → ℕ → ℕ → ℕ → List ℕ → Compared
 sameChildren r zero t i j k c = compared c true
 sameChildren r (suc n) t i j k c =
@@ -107,7 +109,9 @@ sameChildren r (suc n) t i j k c =
 
 -- Two applications: the same symbol, and the same children.
 unfoldable pub sameNodes : (List ℕ → ℕ → ℕ → Compared) → List ℕ → ℕ → ℕ → List ℕ → Compared
-sameNodes r t i j c = cond (eqb (labelOf t (elementNode i)) (labelOf t (elementNode j))) (joined (sameChildren r (childCount t (elementNode i)) t i j 0 c) i j) (compared c false)
+sameNodes r t i j c =
+    cond (eqb (labelOf t (elementNode i)) (labelOf t (elementNode j)))
+    (joined (sameChildren r (childCount t (elementNode i)) t i j 0 c) i j) (compared c false)
 
 -- Two representatives. Of an application the children are at hand, so a name joins it.
 unfoldable pub sameRoots : (List ℕ → ℕ → ℕ → Compared) → List ℕ → List ℕ → List ℕ → List ℕ → ℕ → ℕ → ℕ → ℕ → List ℕ → Compared

@@ -15,16 +15,16 @@ unfoldable pub sameRange : ℕ → List ℕ → ℕ → List ℕ → ℕ → Boo
 sameRange zero a i b j = true
 sameRange (suc n) a i b j = cond (eqb (getD a i 0) (getD b j 0)) (sameRange n a (i + 1) b (j + 1)) false
 
--- The first place from i on, of n places, that has the byte c; the place after them if none has.
+-- The first position from i on, of n positions, that has the byte c; the position after them if none has.
 unfoldable pub findByte : ℕ → List ℕ → ℕ → ℕ → ℕ
 findByte zero x c i = i
 findByte (suc n) x c i = cond (eqb (getD x i 0) c) i (findByte n x c (i + 1))
 
 -- Where the line from i on ends: at its LF, or at the end of the text.
-unfoldable pub lineEnd : List ℕ → ℕ → ℕ
-lineEnd x i = findByte (length x - i) x lf i
+unfoldable pub textLineEnd : List ℕ → ℕ → ℕ
+textLineEnd x i = findByte (length x - i) x lf i
 
--- A number, with the value v before place i; at most n digits more.
+-- A number, with the value v before position i; at most n digits more.
 unfoldable pub numberFrom : ℕ → List ℕ → ℕ → ℕ → Number
 numberFrom zero x i v = Value v i
 numberFrom (suc n) x i v =
@@ -36,9 +36,9 @@ numberFrom (suc n) x i v =
 unfoldable pub numberZero : List ℕ → ℕ → Number
 numberZero x i = cond (isDigit (getD x i 0)) Missing (Value 0 i)
 
--- The number at place i.
-unfoldable pub readNumber : List ℕ → ℕ → Number
-readNumber x i =
+-- The number at position i.
+unfoldable pub scanNumber : List ℕ → ℕ → Number
+scanNumber x i =
     cond (isDigit (getD x i 0))
     (cond (eqb (getD x i 0) (code "0")) (numberZero x (i + 1)) (numberFrom (length x - (i + 1)) x (i + 1) (getD x i 0 - code "0")))
     Missing

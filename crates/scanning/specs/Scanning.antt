@@ -10,16 +10,16 @@ use Rattle.node_table.specs.Layout.{nameStart, nameLength, isFunctionBit, arity
 use Rattle.scanning.specs.declared.Number.the-variants.{Value, Missing}
 use Rattle.scanning.specs.declared.Scan.{Scan}
 use Rattle.scanning.specs.declared.Scan.the-variants.{Term, Malformed}
-use Rattle.scanning.specs.Ranges.{sameRange, readNumber}
+use Rattle.scanning.specs.Ranges.{sameRange, scanNumber}
 
 -- names
 
--- Where the name at place i ends.
+-- Where the name at position i ends.
 unfoldable pub nameFrom : ℕ → List ℕ → ℕ → ℕ
 nameFrom zero x i = i
 nameFrom (suc n) x i = cond (isNameByte (getD x i 0)) (nameFrom n x (i + 1)) i
 
--- of all bytes that are left
+-- Gives the position where the name at position i ends, among all bytes that are left.
 unfoldable pub nameEnd : List ℕ → ℕ → ℕ
 nameEnd x i = nameFrom (length x - i) x i
 
@@ -38,17 +38,17 @@ symbolFrom (suc n) b t k x i e = cond (isNamed b t k x i e) k (symbolFrom n b t 
 
 -- made constants and leftover variables, after their first byte
 
--- the level
+-- Scans the level of a symbol.
 unfoldable pub scanLevel : List ℕ → ℕ → Scan
-scanLevel x i = elim (readNumber x i) [ Value k e ↦ Term e k | Missing ↦ Malformed ]
+scanLevel x i = elim (scanNumber x i) [ Value k e ↦ Term e k | Missing ↦ Malformed ]
 
--- `@`, then the level
-unfoldable pub scanMark : List ℕ → ℕ → Scan
-scanMark x i = cond (eqb (getD x i 0) (code "@")) (scanLevel x (i + 1)) Malformed
+-- Scans `@`, then the level.
+unfoldable pub scanAt : List ℕ → ℕ → Scan
+scanAt x i = cond (eqb (getD x i 0) (code "@")) (scanLevel x (i + 1)) Malformed
 
--- the number, `@`, the level
+-- Scans the number, `@` and the level of a symbol.
 unfoldable pub scanSymbol : List ℕ → ℕ → Scan
-scanSymbol x i = elim (readNumber x i) [ Value n e ↦ scanMark x e | Missing ↦ Malformed ]
+scanSymbol x i = elim (scanNumber x i) [ Value n e ↦ scanAt x e | Missing ↦ Malformed ]
 
 -- applications
 
@@ -56,14 +56,14 @@ scanSymbol x i = elim (readNumber x i) [ Value n e ↦ scanMark x e | Missing �
 unfoldable pub higher : ℕ → ℕ → ℕ
 higher k j = cond (ltb k j) j k
 
--- n more arguments, the first after the byte c, each other one after a comma, and the closing bracket; r scans a term, k is the
--- highest level so far.
+-- Scans n more arguments, the first after the byte c, each other one after a comma, and the closing bracket. A term is scanned
+-- by r, and k is the highest level so far.
 unfoldable pub scanMore : (ℕ → Scan) → ℕ → List ℕ → ℕ → ℕ → ℕ → Scan
 scanMore r zero x c i k = cond (eqb (getD x i 0) (code ")")) (Term (i + 1) k) Malformed
 scanMore r (suc n) x c i k =
     cond (eqb (getD x i 0) c) (elim (r (i + 1)) [ Term e j ↦ scanMore r n x (code ",") e (higher k j) | Malformed ↦ Malformed ]) Malformed
 
--- n arguments in brackets
+-- Scans n arguments in brackets, or nothing if n is 0.
 unfoldable pub scanArguments : (ℕ → Scan) → ℕ → List ℕ → ℕ → Scan
 scanArguments r n x i = cond (eqb n 0) (Term i 0) (scanMore r n x (code "(") i 0)
 

@@ -1,17 +1,17 @@
-// Terms as places in an answer text: see specs/ for the definitions, proofs/ for their laws.
+// Terms as positions in an answer text: see specs/ for the definitions, proofs/ for their laws.
 pub mod class_elements;
 pub mod fields;
 
 // Above every number of a text: there is none (specs/Showing.antt).
 pub const NO_NUMBER: u32 = 65536;
 
-// A number at a place: its value and where it ends.
+// A number at a position: its value and where it ends.
 pub enum Number {
     Value(u32, usize),
     Missing,
 }
 
-// A term at a place: where it ends, and the highest level in it.
+// A term at a position: where it ends, and the highest level in it.
 pub enum Scan {
     Term(usize, u32),
     Malformed,
@@ -24,7 +24,7 @@ pub enum Reach {
 }
 
 // How many made constants and leftover variables have shown.
-pub enum Shown {
+pub enum SymbolCounts {
     Counts(u32, u32),
     Misnumbered,
 }

@@ -21,7 +21,8 @@ after-state cs g S first acts zero = first
 after-state cs g S first acts (suc n) = acts n (after cs g n) (after-state cs g S first acts n)
 
 -- So is, of every configuration, a property that a step carries on to what it gives, and that stays while it waits.
-pub after-all : (cs : List Clause) (g : Goal) (P : ℕ → Configuration → Type 0) → All (P 0) (start cs g) → ((u : ℕ) (c : Configuration) → P u c → All (P (suc u)) (step u c))
+pub after-all : (cs : List Clause) (g : Goal) (P : ℕ → Configuration → Type 0) → All (P 0) (start cs g)
+    → ((u : ℕ) (c : Configuration) → P u c → All (P (suc u)) (step u c))
     → ((u : ℕ) (c : Configuration) → P u c → P (suc u) c) → (n : ℕ) → All (P n) (after cs g n)
 unfolding advance
 after-all cs g P first acts waits n = after-state cs g (λ u. All (P u)) first act n
@@ -35,7 +36,7 @@ abbrev pub Stands : Verdict → List Configuration → Type 0
 Stands (proved s ls) ds = (alternatives : List Configuration) × (ds ≡ done s ls ∷ alternatives)
 Stands noProof ds = ds ≡ []
 
--- no act is needed: the verdict is given here
+-- A search that comes to a verdict after no act stands at it.
 stands-now : (u : ℕ) (ds : List Configuration) (v : Verdict) → ComesToFrom zero u (status u ds) v → Stands v ds
 unfolding status ComesToFrom
 stands-now u [] v h = subst (λ (w : Verdict). Stands w []) (sym h) refl
@@ -44,8 +45,9 @@ stands-now u (try s a m ms k b ∷ ds) v h = absurd h
 stands-now u (match m b ∷ ds) v h = absurd h
 stands-now u (done s ls ∷ ds) v h = subst (λ (w : Verdict). Stands w (done s ls ∷ ds)) (sym h) (ds, refl)
 
--- an act is needed: what it comes to is what the next state comes to
-stands-later : (n u : ℕ) (ds : List Configuration) (v : Verdict) → ComesToFrom (suc n) u (status u ds) v → ComesToFrom n (suc u) (status (suc u) (advance u ds)) v
+-- A search that comes to a verdict after some acts comes to it from the next state, with one act less.
+stands-later : (n u : ℕ) (ds : List Configuration) (v : Verdict) → ComesToFrom (suc n) u (status u ds) v
+    → ComesToFrom n (suc u) (status (suc u) (advance u ds)) v
 unfolding status ComesToFrom advance
 stands-later n u [] v h = absurd h
 stands-later n u (take s g b ∷ ds) v h = h
@@ -53,8 +55,9 @@ stands-later n u (try s a m ms k b ∷ ds) v h = h
 stands-later n u (match m b ∷ ds) v h = h
 stands-later n u (done s ls ∷ ds) v h = absurd h
 
--- so a search that comes to a verdict n acts after the first u stands there after u + n
-stands-from : (cs : List Clause) (g : Goal) (n u : ℕ) (v : Verdict) → ComesToFrom n u (status u (after cs g u)) v → Stands v (after cs g (u + n))
+-- A search that comes to a verdict n acts after the first u stands there after u + n acts.
+stands-from : (cs : List Clause) (g : Goal) (n u : ℕ) (v : Verdict) → ComesToFrom n u (status u (after cs g u)) v
+    → Stands v (after cs g (u + n))
 unfolding after
 stands-from cs g zero u v h =
     let q : u ≡ u + 0 = omega arith in
@@ -70,17 +73,21 @@ comes-stands cs g n v h =
     let q : 0 + n ≡ n = omega arith in
     subst (λ (m : ℕ). Stands v (after cs g m)) q (stands-from cs g n 0 v h)
 
--- So a proved search has its end in front,
-pub proved-stands : (cs : List Clause) (g : Goal) (budget n : ℕ) (s : Store) (path : List (Line Leaf)) → search budget cs g ≡ ends (proved s path) n → Stands (proved s path) (after cs g n)
+-- After its units, a proved search has its final configuration in front.
+pub proved-stands : (cs : List Clause) (g : Goal) (budget n : ℕ) (s : Store) (path : List (Line Leaf))
+    → search budget cs g ≡ ends (proved s path) n → Stands (proved s path) (after cs g n)
 proved-stands cs g budget n s path e = comes-stands cs g n (proved s path) (allUnits cs g .tells budget n (proved s path) .0 e .0)
 
--- of which everything holds that a step carries on;
-pub proved-all : (cs : List Clause) (g : Goal) (P : Configuration → Type 0) → All P (start cs g) → ((u : ℕ) (c : Configuration) → P c → All P (step u c))
+-- What holds at the start and is kept by every step holds of the final configuration of a proved search.
+pub proved-all : (cs : List Clause) (g : Goal) (P : Configuration → Type 0) → All P (start cs g)
+    → ((u : ℕ) (c : Configuration) → P c → All P (step u c))
     → (budget n : ℕ) (s : Store) (path : List (Line Leaf)) → search budget cs g ≡ ends (proved s path) n → P (done s path)
-proved-all cs g P first acts budget n s path e = subst (All P) (proved-stands cs g budget n s path e .1) (after-all cs g (λ u. P) first acts (λ u c h. h) n) .0
+proved-all cs g P first acts budget n s path e =
+    subst (All P) (proved-stands cs g budget n s path e .1) (after-all cs g (λ u. P) first acts (λ u c h. h) n) .0
 
--- and a search does not come to no, if what an act keeps is false of the empty state.
-pub never-no : (cs : List Clause) (g : Goal) (S : List Configuration → Type 0) → S (start cs g) → ((u : ℕ) (ds : List Configuration) → S ds → S (advance u ds)) → (S [] → ⊥)
+-- A search does not come to no if a property that every act keeps is false of the empty state.
+pub never-no : (cs : List Clause) (g : Goal) (S : List Configuration → Type 0) → S (start cs g)
+    → ((u : ℕ) (ds : List Configuration) → S ds → S (advance u ds)) → (S [] → ⊥)
     → (budget n : ℕ) → search budget cs g ≡ ends noProof n → ⊥
 never-no cs g S first acts empty budget n e =
     empty (subst S (comes-stands cs g n noProof (allUnits cs g .tells budget n noProof .0 e .0)) (after-state cs g (λ u. S) first acts n))

@@ -19,11 +19,11 @@ use Rattle.search.proofs.Values.{symbols, Valuation, valued, Solution}
 unfoldable pub leftovers : Store → Valuation
 leftovers s x = leaf (leftover x (s .level x))
 
--- The general solution with leftover variables for the unbound ones
+-- The final values are the general solution with leftover variables for the unbound ones.
 abbrev pub finalValues : Store → Valuation
 finalValues s = general symbols (s .bindings) (leftovers s)
 
--- gives the final values,
+-- The valuation `finalValues` gives each leaf its final value.
 pub final-valued : (s : Store) → valued (finalValues s) ≡ final s
 unfolding value final general symbols symbolOf leftovers at solution substitute
 final-valued s = fun-ext go
@@ -36,7 +36,7 @@ final-valued s = fun-ext go
     go (var x) = ap (substitute (solution s x)) (fun-ext symbol)
     go (con c k) = refl
 
--- and solves the store.
+-- The valuation `finalValues` solves the store.
 pub final-solves : (s : Store) → Formed s → Solution (finalValues s) s
 unfolding leftovers symbols levelBy symbolLevel
 final-solves s f = general-solves symbols s (leftovers s) f (λ z l u. omega arith)

@@ -7,7 +7,7 @@ use Rattle.formulas.specs.Formulas.{Goal, atom, truth, and, or, implies, exists
 use Rattle.search.specs.Search.{Outcome, ends, spent, proved, noProof}
 use Rattle.search.proofs.Computing.{computeSearch}
 
--- what is told
+-- An outcome is told as 1 (proved), 2 (no) or 3 (spent), with the units, which are 0 for spent.
 abbrev told : Outcome → ℕ × ℕ
 told (ends (proved s ls) u) = (1, u)
 told (ends noProof u) = (2, u)
@@ -23,11 +23,11 @@ pair a b = cons a (cons b nil)
 abbrev one : Term ℕ → Terms ℕ
 one a = cons a nil
 
--- every z p(z,z)
+-- The clause is every z p(z,z).
 abbrev diagonal : Clause
 diagonal = each 7 (fact 0 (pair (leaf 7) (leaf 7)))
 
--- some a every b p(a,b); every b some a p(a,b); some a p(a,f(a))
+-- With `diagonal`, every b some a p(a,b) is proved; some a every b p(a,b) and some a p(a,f(a)) are not.
 some-every : outcome 256 (diagonal ∷ []) (exists 0 (forall 1 (atom 0 (pair (leaf 0) (leaf 1))))) ≡ (2, 8)
 unfolding outcome
 some-every = refl
@@ -40,8 +40,9 @@ occurs : outcome 256 (diagonal ∷ []) (exists 0 (atom 0 (pair (leaf 0) (app 1 (
 unfolding outcome
 occurs = refl
 
--- ((every a p(a)) implies q) implies some a (p(a) implies q)
-drinker : outcome 256 [] (implies (rule (forall 0 (atom 0 (one (leaf 0)))) 1 nil) (exists 0 (implies (fact 0 (one (leaf 0))) (atom 1 nil)))) ≡ (2, 12)
+-- The goal ((every a p(a)) implies q) implies some a (p(a) implies q) has no proof.
+drinker : outcome 256 [] (implies (rule (forall 0 (atom 0 (one (leaf 0)))) 1 nil)
+    (exists 0 (implies (fact 0 (one (leaf 0))) (atom 1 nil)))) ≡ (2, 12)
 unfolding outcome
 drinker = refl
 
@@ -53,7 +54,7 @@ free-goal : outcome 256 (each 7 (fact 0 (one (leaf 7))) ∷ []) (atom 0 (one (le
 unfolding outcome
 free-goal = refl
 
--- a budget of exactly the units, and one less
+-- A budget of exactly the units suffices, and one less does not.
 enough : outcome 8 (diagonal ∷ []) (forall 1 (exists 0 (atom 0 (pair (leaf 0) (leaf 1))))) ≡ (1, 8)
 unfolding outcome
 enough = refl
@@ -62,17 +63,18 @@ short : outcome 7 (diagonal ∷ []) (forall 1 (exists 0 (atom 0 (pair (leaf 0) (
 unfolding outcome
 short = refl
 
--- (p implies p) and p: the assumption is not kept for the goal beside it
+-- In (p implies p) and p, the assumption is not kept for the second goal.
 beside : outcome 256 [] (and (implies (fact 0 nil) (atom 0 nil)) (atom 0 nil)) ≡ (2, 5)
 unfolding outcome
 beside = refl
 
--- the second member carries the goal; a predicate that differs costs its try
+-- The second member resolves the goal; the first, whose predicate differs, costs its try.
 second : outcome 256 (fact 1 nil ∷ fact 0 nil ∷ []) (atom 0 nil) ≡ (1, 3)
 unfolding outcome
 second = refl
 
--- q(x) and r(x) with q(a), q(b), r(b): the binding of the first try is taken back
-again : outcome 256 (fact 0 (one (app 5 nil)) ∷ fact 0 (one (app 6 nil)) ∷ fact 1 (one (app 6 nil)) ∷ []) (exists 0 (and (atom 0 (one (leaf 0))) (atom 1 (one (leaf 0))))) ≡ (1, 19)
+-- For q(x) and r(x) with q(a), q(b), r(b), the binding of the first try is taken back.
+again : outcome 256 (fact 0 (one (app 5 nil)) ∷ fact 0 (one (app 6 nil)) ∷ fact 1 (one (app 6 nil)) ∷ [])
+    (exists 0 (and (atom 0 (one (leaf 0))) (atom 1 (one (leaf 0))))) ≡ (1, 19)
 unfolding outcome
 again = refl

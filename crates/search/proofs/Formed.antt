@@ -48,7 +48,7 @@ unfoldable mutual
   FormedClause (both a b) ok = FormedClause a ok × FormedClause b ok
   FormedClause (each v c) ok = FormedClause c ok
 
--- of a body, if there is one
+-- A body is well-formed if its goal is, or if there is none.
 unfoldable pub FormedBody : Arities → Option Goal → Type 0
 FormedBody ok none = Unit {0}
 FormedBody ok (some g) = FormedGoal g ok
@@ -70,28 +70,31 @@ FormedLine ok P Q (Dclause k ts) = Q k × All (λ t. FormedTerm t ok P) ts
 
 -- substitution
 
--- it keeps the number of arguments
+-- Substitution keeps the number of arguments.
 pub count-substitutes : {A B : Type 0} (ts : Terms A) (θ : A → Term B) → count (substitutes ts θ) ≡ count ts
 unfolding count substitute
 count-substitutes nil θ = refl
 count-substitutes (cons t ts) θ = ap suc (count-substitutes ts θ)
 
--- a formed term for each leaf
+-- Substituting a well-formed term for each leaf keeps terms well-formed.
 mutual
   unfolding FormedTerm substitute
 
-  pub formed-substitute : {A B : Type 0} (t : Term A) (θ : A → Term B) (ok : Arities) (P : A → Type 0) (Q : B → Type 0) → ((a : A) → P a → FormedTerm (θ a) ok Q)
+  pub formed-substitute : {A B : Type 0} (t : Term A) (θ : A → Term B) (ok : Arities) (P : A → Type 0) (Q : B → Type 0)
+      → ((a : A) → P a → FormedTerm (θ a) ok Q)
       → FormedTerm t ok P → FormedTerm (substitute t θ) ok Q
   formed-substitute (leaf a) θ ok P Q k h = k a h
   formed-substitute (app f ts) θ ok P Q k h = (subst (ok f) (sym (count-substitutes ts θ)) (h .0), formed-substitutes ts θ ok P Q k (h .1))
 
-  pub formed-substitutes : {A B : Type 0} (ts : Terms A) (θ : A → Term B) (ok : Arities) (P : A → Type 0) (Q : B → Type 0) → ((a : A) → P a → FormedTerm (θ a) ok Q)
+  pub formed-substitutes : {A B : Type 0} (ts : Terms A) (θ : A → Term B) (ok : Arities) (P : A → Type 0) (Q : B → Type 0)
+      → ((a : A) → P a → FormedTerm (θ a) ok Q)
       → FormedTerms ts ok P → FormedTerms (substitutes ts θ) ok Q
   formed-substitutes nil θ ok P Q k h = tt
   formed-substitutes (cons t ts) θ ok P Q k h = (formed-substitute t θ ok P Q k (h .0), formed-substitutes ts θ ok P Q k (h .1))
 
--- in a line
-pub formed-putLine : {A B : Type 0} (x : Line A) (θ : A → Term B) (ok : Arities) (P : A → Type 0) (Q : B → Type 0) (R : ℕ → Type 0) → ((a : A) → P a → FormedTerm (θ a) ok Q)
+-- Substituting a well-formed term for each leaf keeps a line well-formed.
+pub formed-putLine : {A B : Type 0} (x : Line A) (θ : A → Term B) (ok : Arities) (P : A → Type 0) (Q : B → Type 0) (R : ℕ → Type 0)
+    → ((a : A) → P a → FormedTerm (θ a) ok Q)
     → FormedLine ok P R x → FormedLine ok Q R (putLine θ x)
 unfolding FormedLine putLine
 formed-putLine (plain w) θ ok P Q R k h = tt
@@ -102,8 +105,9 @@ formed-putLine (Dclause j ts) θ ok P Q R k h =
 
 -- environments
 
--- a quantifier's name
-pub formed-update : {A : Type 0} (ok : Arities) (P : A → Type 0) (e : Environment A) (v : ℕ) (t : Term A) → FormedEnvironment ok P e → FormedTerm t ok P
+-- A well-formed term for a quantifier's name keeps an environment well-formed.
+pub formed-update : {A : Type 0} (ok : Arities) (P : A → Type 0) (e : Environment A) (v : ℕ) (t : Term A) → FormedEnvironment ok P e
+    → FormedTerm t ok P
     → FormedEnvironment ok P (update e v t)
 unfolding update
 formed-update ok P e v t h k w l = go (eqb w v)
@@ -112,8 +116,9 @@ formed-update ok P e v t h k w l = go (eqb w v)
     go true = k
     go false = h w l
 
--- the names of a prefix
-pub formed-assign : {A : Type 0} (ok : Arities) (P : A → Type 0) (vs : List ℕ) (ts : List (Term A)) (e : Environment A) → FormedEnvironment ok P e
+-- Well-formed terms for the names of a prefix keep an environment well-formed.
+pub formed-assign : {A : Type 0} (ok : Arities) (P : A → Type 0) (vs : List ℕ) (ts : List (Term A)) (e : Environment A)
+    → FormedEnvironment ok P e
     → All (λ t. FormedTerm t ok P) ts → FormedEnvironment ok P (assign vs ts e)
 unfolding assign
 formed-assign ok P [] ts e h k = h
@@ -122,19 +127,22 @@ formed-assign ok P (v ∷ vs) (t ∷ ts) e h k = formed-assign ok P vs ts (updat
 
 -- members
 
--- a name more in the prefix changes no term
+-- One more name in the prefix changes no term, so the member stays well-formed.
 quantify-formed : (ok : Arities) (v : ℕ) (m : Member) → FormedMember ok m → FormedMember ok (quantify v m)
 unfolding quantify
 quantify-formed ok v m h = go (standsFree v m)
   where
-    go : (b : Bool) → FormedMember ok (cond b (record { prefix = v ∷ m .prefix; predicate = m .predicate; arguments = m .arguments; body = m .body }) m)
+    go : (b : Bool)
+        → FormedMember ok (cond b (record { prefix = v ∷ m .prefix; predicate = m .predicate; arguments = m .arguments; body = m .body }) m)
     go true = h
     go false = h
 
--- the members of a formed clause are formed
+-- The members of a well-formed clause are well-formed.
 pub members-formed : (ok : Arities) (c : Clause) → FormedClause c ok → All (FormedMember ok) (members c)
 unfolding FormedClause FormedBody members
 members-formed ok (fact p ts) h = ((h, tt), tt)
 members-formed ok (rule g p ts) h = ((h .1, h .0), tt)
-members-formed ok (both a b) h = all-append (FormedMember ok) (members a) (members b) (members-formed ok a (h .0)) (members-formed ok b (h .1))
-members-formed ok (each v c) h = all-map (quantify v) (FormedMember ok) (FormedMember ok) (quantify-formed ok v) (members c) (members-formed ok c h)
+members-formed ok (both a b) h =
+    all-append (FormedMember ok) (members a) (members b) (members-formed ok a (h .0)) (members-formed ok b (h .1))
+members-formed ok (each v c) h =
+    all-map (quantify v) (FormedMember ok) (FormedMember ok) (quantify-formed ok v) (members c) (members-formed ok c h)

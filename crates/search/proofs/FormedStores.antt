@@ -9,8 +9,10 @@ use Rattle.terms.specs.Lists.{All, update}
 use Rattle.terms.specs.Terms.{Term, leaf, app, Terms, nil, cons, substitute}
 use Rattle.terms.proofs.Lists.{all-append, all-map, update-all}
 use Rattle.sequents.specs.Symbols.{Symbol, symbolLevel}
-use Rattle.unification.specs.Store.{Leaf, var, con, Binding, Store, look1, look, lower, bind, freshLevels, fresh, freshVariables, boundTo, at, onlyAt, solve1, solved, solution}
-use Rattle.unification.specs.Matching.{Pair, Matching, pairs, check, fail, pushTerms, pushPairs, comparing, onNode, visit, compareTerms, matchStep}
+use Rattle.unification.specs.Store.{Leaf, var, con, Binding, Store, look1, look, lower, bind, freshLevels, fresh, freshVariables, boundTo}
+use Rattle.unification.specs.Store.{at, onlyAt, solve1, solved, solution}
+use Rattle.unification.specs.Matching.{Pair, Matching, pairs, check, fail, pushTerms, pushPairs, comparing, afterNode, visit, compareTerms}
+use Rattle.unification.specs.Matching.{matchStep}
 use Rattle.unification.proofs.Stores.{lower-le}
 use Rattle.search.specs.Answers.{symbolOf, final}
 use Rattle.search.proofs.Formed.{Arities, FormedTerm, FormedTerms, formed-substitute}
@@ -44,7 +46,7 @@ module _ (ok : Arities) (n : ℕ) where
   MatchingUpTo (check s y t u us ps) = StoreUpTo s × TermUpTo t × All TermUpTo (u ∷ us) × All PairUpTo ps
   MatchingUpTo fail = Unit {0}
 
-  -- looking through bindings
+  -- Looking through well-formed bindings gives a well-formed term.
   look-formed : (bs : List Binding) (t : Term Leaf) → All (λ b. TermUpTo (b .value)) bs → TermUpTo t → TermUpTo (look bs t)
   unfolding look look1
   look-formed [] t h k = k
@@ -59,12 +61,12 @@ module _ (ok : Arities) (n : ℕ) where
       once (leaf (con c k)) i = i
       once (app f ts) i = i
 
-  -- a level lowered
+  -- Lowering a level keeps a store well-formed.
   lower-formed : (s : Store) (z k : ℕ) → StoreUpTo s → StoreUpTo (lower s z k)
   unfolding lower
   lower-formed s z k h = record { levels = λ x. (let p = lower-le s z k x in let q = h .levels x in omega arith); values = h .values }
 
-  -- fresh variables
+  -- Fresh variables of a level at most n keep a store well-formed.
   pub fresh-formed : (vs : List ℕ) (i : ℕ) (s : Store) → i ≤ n → StoreUpTo s → StoreUpTo (fresh vs i s)
   unfolding fresh freshLevels
   fresh-formed vs i s l h = record { levels = levels vs (s .next) (s .level) (h .levels); values = h .values }
@@ -73,7 +75,7 @@ module _ (ok : Arities) (n : ℕ) where
       levels [] m f k = k
       levels (v ∷ vs) m f k = levels vs (suc m) (update f m i) (update-all (λ j. j ≤ n) f m i k l)
 
-  -- they are terms
+  -- Fresh variables are well-formed terms.
   pub freshVariables-formed : (vs : List ℕ) (m : ℕ) → All TermUpTo (freshVariables vs m)
   unfolding freshVariables FormedTerm UpTo
   freshVariables-formed [] m = tt
@@ -81,39 +83,44 @@ module _ (ok : Arities) (n : ℕ) where
 
   -- matching
 
-  -- after a node
-  onNode-formed : (s : Store) (y : ℕ) (t : Term Leaf) (us : List (Term Leaf)) (ps : List Pair) → StoreUpTo s → TermUpTo t → All TermUpTo us → All PairUpTo ps
-      → MatchingUpTo (onNode s y t us ps)
-  unfolding onNode MatchingUpTo bind
+  -- What follows a node in a range check is a well-formed matching.
+  onNode-formed : (s : Store) (y : ℕ) (t : Term Leaf) (us : List (Term Leaf)) (ps : List Pair) → StoreUpTo s → TermUpTo t
+      → All TermUpTo us → All PairUpTo ps
+      → MatchingUpTo (afterNode s y t us ps)
+  unfolding afterNode MatchingUpTo bind
   onNode-formed s y t [] ps h k i j = (record { levels = h .levels; values = (k, h .values) }, j)
   onNode-formed s y t (u ∷ us) ps h k i j = (h, k, i, j)
 
-  -- arguments as nodes
-  pushTerms-formed : (ts : Terms Leaf) (us : List (Term Leaf)) → FormedTerms ts ok (UpTo n) → All TermUpTo us → All TermUpTo (pushTerms ts us)
+  -- Well-formed arguments in front of well-formed nodes are well-formed nodes.
+  pushTerms-formed : (ts : Terms Leaf) (us : List (Term Leaf)) → FormedTerms ts ok (UpTo n) → All TermUpTo us
+      → All TermUpTo (pushTerms ts us)
   unfolding pushTerms FormedTerm
   pushTerms-formed nil us h k = k
   pushTerms-formed (cons t ts) us h k = (h .0, pushTerms-formed ts us (h .1) k)
 
-  -- a test that fails the matching
+  -- A test that may fail the matching keeps it well-formed.
   if-formed : (b : Bool) (m : Matching) → MatchingUpTo m → MatchingUpTo (cond b m fail)
   unfolding MatchingUpTo
   if-formed true m h = h
   if-formed false m h = tt
 
-  -- a node that is looked at
-  visit-formed : (s : Store) (y : ℕ) (t u : Term Leaf) (us : List (Term Leaf)) (ps : List Pair) → StoreUpTo s → TermUpTo t → TermUpTo u → All TermUpTo us → All PairUpTo ps
+  -- Looking at a node keeps the matching well-formed.
+  visit-formed : (s : Store) (y : ℕ) (t u : Term Leaf) (us : List (Term Leaf)) (ps : List Pair) → StoreUpTo s → TermUpTo t → TermUpTo u
+      → All TermUpTo us → All PairUpTo ps
       → MatchingUpTo (visit s y t u us ps)
   unfolding visit MatchingUpTo FormedTerm
   visit-formed s y t (leaf (var z)) us ps h k i j p = go (eqb z y)
     where
-      go : (b : Bool) → MatchingUpTo (cond b fail (onNode (lower s z (s .level y)) y t us ps))
+      go : (b : Bool) → MatchingUpTo (cond b fail (afterNode (lower s z (s .level y)) y t us ps))
       go true = tt
       go false = onNode-formed (lower s z (s .level y)) y t us ps (lower-formed s z (s .level y) h) k j p
-  visit-formed s y t (leaf (con c l)) us ps h k i j p = if-formed (leb l (s .level y)) (onNode s y t us ps) (onNode-formed s y t us ps h k j p)
+  visit-formed s y t (leaf (con c l)) us ps h k i j p =
+      if-formed (leb l (s .level y)) (afterNode s y t us ps) (onNode-formed s y t us ps h k j p)
   visit-formed s y t (app f ts) us ps h k i j p = onNode-formed s y t (pushTerms ts us) ps h k (pushTerms-formed ts us (i .1) j) p
 
-  -- the argument pairs of two lists of terms
-  pub comparing-formed : (s : Store) (ts us : Terms Leaf) (ps : List Pair) → StoreUpTo s → FormedTerms ts ok (UpTo n) → FormedTerms us ok (UpTo n) → All PairUpTo ps
+  -- The argument pairs of two lists of well-formed terms make a well-formed matching.
+  pub comparing-formed : (s : Store) (ts us : Terms Leaf) (ps : List Pair) → StoreUpTo s → FormedTerms ts ok (UpTo n)
+      → FormedTerms us ok (UpTo n) → All PairUpTo ps
       → MatchingUpTo (comparing s (pushPairs ts us ps))
   unfolding pushPairs comparing MatchingUpTo FormedTerm
   comparing-formed s nil nil ps h k i p = (h, p)
@@ -121,12 +128,14 @@ module _ (ok : Arities) (n : ℕ) where
   comparing-formed s (cons t ts) nil ps h k i p = tt
   comparing-formed s (cons t ts) (cons u us) ps h k i p = go (pushPairs ts us ps) (comparing-formed s ts us ps h (k .1) (i .1) p)
     where
-      go : (q : Option (List Pair)) → MatchingUpTo (comparing s q) → MatchingUpTo (comparing s (Option·map (λ qs. record { goal = t; clause = u } ∷ qs) q))
+      go : (q : Option (List Pair)) → MatchingUpTo (comparing s q)
+          → MatchingUpTo (comparing s (Option·map (λ qs. record { goal = t; clause = u } ∷ qs) q))
       go none j = tt
       go (some qs) j = (h, ((k .0, i .0), j .1))
 
-  -- a pair that is compared
-  compareTerms-formed : (s : Store) (t u : Term Leaf) (ps : List Pair) → StoreUpTo s → TermUpTo t → TermUpTo u → All PairUpTo ps → MatchingUpTo (compareTerms s t u ps)
+  -- Comparing a pair keeps the matching well-formed.
+  compareTerms-formed : (s : Store) (t u : Term Leaf) (ps : List Pair) → StoreUpTo s → TermUpTo t → TermUpTo u → All PairUpTo ps
+      → MatchingUpTo (compareTerms s t u ps)
   unfolding compareTerms MatchingUpTo FormedTerm
   compareTerms-formed s (leaf (var x)) (leaf (var y)) ps h k i p = go (eqb x y)
     where
@@ -140,9 +149,10 @@ module _ (ok : Arities) (n : ℕ) where
   compareTerms-formed s (leaf (con c l)) (app g us) ps h k i p = tt
   compareTerms-formed s (app f ts) (leaf (var y)) ps h k i p = (h, k, (k, tt), p)
   compareTerms-formed s (app f ts) (leaf (con d j)) ps h k i p = tt
-  compareTerms-formed s (app f ts) (app g us) ps h k i p = if-formed (eqb f g) (comparing s (pushPairs ts us ps)) (comparing-formed s ts us ps h (k .1) (i .1) p)
+  compareTerms-formed s (app f ts) (app g us) ps h k i p =
+      if-formed (eqb f g) (comparing s (pushPairs ts us ps)) (comparing-formed s ts us ps h (k .1) (i .1) p)
 
-  -- one act
+  -- One act keeps a matching well-formed.
   pub matchStep-formed : (m : Matching) → MatchingUpTo m → MatchingUpTo (matchStep m)
   unfolding matchStep MatchingUpTo
   matchStep-formed (pairs s []) h = h
@@ -156,7 +166,7 @@ module _ (ok : Arities) (n : ℕ) where
 
   -- final values
 
-  -- what is bound to a variable, or the variable
+  -- What is bound to a variable, or the variable itself, is well-formed.
   boundTo-formed : (bs : List Binding) (x : ℕ) → All (λ b. TermUpTo (b .value)) bs → TermUpTo (boundTo bs x)
   unfolding boundTo FormedTerm UpTo
   boundTo-formed [] x h = tt
@@ -166,7 +176,7 @@ module _ (ok : Arities) (n : ℕ) where
       go true i = h .0
       go false i = i
 
-  -- formed terms for the variables of a formed term
+  -- Well-formed terms for the variables of a well-formed term give a well-formed term.
   apply-formed : (t : Term Leaf) (θ : ℕ → Term Leaf) → ((x : ℕ) → TermUpTo (θ x)) → TermUpTo t → TermUpTo (substitute t (at θ))
   unfolding at FormedTerm UpTo
   apply-formed t θ h k = formed-substitute t (at θ) ok (UpTo n) (UpTo n) leaves k
@@ -175,20 +185,22 @@ module _ (ok : Arities) (n : ℕ) where
       leaves (var x) i = h x
       leaves (con c l) i = i
 
-  -- the bindings put to use in one another
+  -- Bindings stay well-formed when they are applied to one another.
   solved-formed : (bs : List Binding) → All (λ b. TermUpTo (b .value)) bs → All (λ b. TermUpTo (b .value)) (solved bs)
   unfolding solved solve1 onlyAt FormedTerm UpTo
   solved-formed [] h = tt
   solved-formed (b ∷ bs) h =
       let earlier = solved-formed bs (h .1) in
-      let value : TermUpTo (substitute (b .value) (at (boundTo (solved bs)))) = apply-formed (b .value) (boundTo (solved bs)) (λ x. boundTo-formed (solved bs) x earlier) (h .0) in
+      let value : TermUpTo (substitute (b .value) (at (boundTo (solved bs)))) =
+      apply-formed (b .value) (boundTo (solved bs)) (λ x. boundTo-formed (solved bs) x earlier) (h .0) in
       let new : Binding = record { name = b .name; value = substitute (b .value) (at (boundTo (solved bs))) } in
       all-append (λ c. TermUpTo (c .value)) (map (solve1 new) (solved bs)) (new ∷ [])
       (all-map (solve1 new) (λ c. TermUpTo (c .value)) (λ c. TermUpTo (c .value))
-      (λ c k. apply-formed (c .value) (onlyAt (new .name) (new .value)) (update-all TermUpTo (λ x. leaf (var x)) (new .name) (new .value) (λ x. tt) value) k) (solved bs) earlier)
+      (λ c k. apply-formed (c .value) (onlyAt (new .name) (new .value))
+      (update-all TermUpTo (λ x. leaf (var x)) (new .name) (new .value) (λ x. tt) value) k) (solved bs) earlier)
       (value, tt)
 
-  -- the final value of a leaf
+  -- The final value of a leaf is well-formed.
   pub final-formed : (s : Store) (a : Leaf) → StoreUpTo s → UpTo n a → FormedTerm (final s a) ok (SymbolUpTo n)
   unfolding final solution at symbolOf symbolLevel FormedTerm UpTo
   final-formed s a h k = formed-substitute (at (solution s) a) (symbolOf s) ok (UpTo n) (SymbolUpTo n) symbol (value a k)

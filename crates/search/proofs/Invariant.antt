@@ -26,27 +26,27 @@ use Rattle.search.specs.Search.{startEnvironment, startStore, startGoal,
 use Rattle.search.specs.Promises.{MatchUnderWay, WellFormed}
 use Rattle.search.proofs.After.{after-all}
 
--- Variables are numbered below n: in an environment,
+-- All variables in an environment are numbered below n.
 abbrev pub EnvironmentBelow : ℕ → Environment Leaf → Type 0
 EnvironmentBelow n e = (v : ℕ) → Leaves (e v) (Below n)
 
--- in a program,
+-- All variables in a program are numbered below n.
 abbrev pub ProgramBelow : ℕ → Program Leaf → Type 0
 ProgramBelow n P = All (λ h. EnvironmentBelow n (h .environment)) P
 
--- in members of one,
+-- All variables in members of a program are numbered below n.
 abbrev pub EntriesBelow : ℕ → List (Entry Leaf) → Type 0
 EntriesBelow n ms = All (λ m. EnvironmentBelow n (m .environment)) ms
 
--- in a sequent,
+-- All variables in a sequent are numbered below n.
 abbrev pub SequentBelow : ℕ → Sequent Leaf → Type 0
 SequentBelow n g = EnvironmentBelow n (g .environment) × ProgramBelow n (g .program)
 
--- in goals,
+-- All variables in goals are numbered below n.
 abbrev pub GoalsBelow : List (Sequent Leaf) → ℕ → Type 0
 GoalsBelow gs n = All (SequentBelow n) gs
 
--- in an atom that is tried with the members ms, the goals gs waiting.
+-- All variables of an atom that is tried with the members ms, the goals gs waiting, are numbered below n.
 pub record TryBelow (a : Atom) (ms : List (Entry Leaf)) (gs : List (Sequent Leaf)) (n : ℕ) : Type 0 where
   pub arguments : LeavesAll (a .arguments) (Below n)
   pub program : ProgramBelow n (a .program)
@@ -60,20 +60,23 @@ Invariant (try s a m ms k b) = Good (TryBelow a (m ∷ ms) (b .goals)) s
 Invariant (match m b) = MatchUnderWay m × Running (GoalsBelow (b .goals)) m
 Invariant (done s ls) = Formed s
 
--- What is below n is below a larger number: an environment,
+-- An environment below n is below any larger number.
 environment-more : (n m : ℕ) (e : Environment Leaf) → n ≤ m → EnvironmentBelow n e → EnvironmentBelow m e
 environment-more n m e l h v = below-more (e v) n m l (h v)
 
--- a program,
+-- A program below n is below any larger number.
 program-more : (n m : ℕ) (P : Program Leaf) → n ≤ m → ProgramBelow n P → ProgramBelow m P
-program-more n m P l h = all-weaken (λ x. EnvironmentBelow n (x .environment)) (λ x. EnvironmentBelow m (x .environment)) (λ x k. environment-more n m (x .environment) l k) P h
+program-more n m P l h =
+    all-weaken (λ x. EnvironmentBelow n (x .environment)) (λ x. EnvironmentBelow m (x .environment))
+    (λ x k. environment-more n m (x .environment) l k) P h
 
--- goals,
+-- Goals below n are below any larger number.
 goals-more : (n m : ℕ) (gs : List (Sequent Leaf)) → n ≤ m → GoalsBelow gs n → GoalsBelow gs m
 goals-more n m gs l h =
-    all-weaken (SequentBelow n) (SequentBelow m) (λ g k. (environment-more n m (g .environment) l (k .0), program-more n m (g .program) l (k .1))) gs h
+    all-weaken (SequentBelow n) (SequentBelow m)
+    (λ g k. (environment-more n m (g .environment) l (k .0), program-more n m (g .program) l (k .1))) gs h
 
--- terms.
+-- Terms below n are below any larger number.
 terms-more : (n m : ℕ) (ts : Terms Leaf) → n ≤ m → LeavesAll ts (Below n) → LeavesAll ts (Below m)
 unfolding Below
 terms-more n m ts l h = leavesAll-weaken ts (Below n) (Below m) more h
@@ -82,43 +85,46 @@ terms-more n m ts l h = leavesAll-weaken ts (Below n) (Below m) more h
     more (var x) b = omega arith
     more (con c k) b = tt
 
--- terms of a sheet, under an environment that is below n, are below n
+-- Terms of a sheet, under an environment that is below n, are below n.
 pub substitutes-below : (ts : Terms ℕ) (e : Environment Leaf) (n : ℕ) → EnvironmentBelow n e → LeavesAll (substitutes ts e) (Below n)
 substitutes-below ts e n h = leavesAll-substitutes ts e (λ v. Unit {0}) (Below n) (λ v k. h v) (leavesAll-any ts (λ v. Unit {0}) (λ v. tt))
 
--- the fresh variables of a prefix are below the number after them,
+-- The fresh variables of a prefix are below the number after them.
 freshVariables-below : (vs : List ℕ) (n : ℕ) → All (λ t. Leaves t (Below (past vs n))) (freshVariables vs n)
 unfolding freshVariables past Leaves Below
 freshVariables-below [] n = tt
 freshVariables-below (v ∷ vs) n = (past-le vs (suc n), freshVariables-below vs (suc n))
 
--- so what the names of a member stand for is,
-pub prefix-below : (vs : List ℕ) (n : ℕ) (e : Environment Leaf) → EnvironmentBelow n e → EnvironmentBelow (past vs n) (assign vs (freshVariables vs n) e)
+-- An environment with fresh variables for a prefix is below the number after them.
+pub prefix-below : (vs : List ℕ) (n : ℕ) (e : Environment Leaf) → EnvironmentBelow n e
+    → EnvironmentBelow (past vs n) (assign vs (freshVariables vs n) e)
 prefix-below vs n e h =
-    assign-all (λ t. Leaves t (Below (past vs n))) vs (freshVariables vs n) e (environment-more n (past vs n) e (past-le vs n) h) (freshVariables-below vs n)
+    assign-all (λ t. Leaves t (Below (past vs n))) vs (freshVariables vs n) e (environment-more n (past vs n) e (past-le vs n) h)
+    (freshVariables-below vs n)
 
--- and so is its body
-body-below : (o : Option Goal) (e : Environment Leaf) (P : Program Leaf) (i n : ℕ) → EnvironmentBelow n e → ProgramBelow n P → GoalsBelow (bodySequent o e P i) n
+-- The sequent of a body is below n if its environment and its program are.
+body-below : (o : Option Goal) (e : Environment Leaf) (P : Program Leaf) (i n : ℕ) → EnvironmentBelow n e → ProgramBelow n P
+    → GoalsBelow (bodySequent o e P i) n
 unfolding bodySequent
 body-below none e P i n he hP = tt
 body-below (some g) e P i n he hP = ((he, hP), tt)
 
--- another fact about the same store,
+-- A good store is good with another fact about its next number.
 good-also : (R S : ℕ → Type 0) (s : Store) → Good R s → S (s .next) → Good S s
 good-also R S s o h = record { formed = o .formed; extra = h }
 
--- or about the store with fresh variables
+-- A good store with fresh variables is good with a fact about its new next number.
 good-fresh : (R S : ℕ → Type 0) (vs : List ℕ) (i : ℕ) (s : Store) → Good R s → S (past vs (s .next)) → Good S (fresh vs i s)
 unfolding fresh
 good-fresh R S vs i s o h = record { formed = fresh-formed vs i s (o .formed); extra = h }
 
--- the acts: going on with the goals,
+-- Going on with the goals keeps the invariant.
 proceed-keeps : (s : Store) (gs : List (Sequent Leaf)) (ls : List (Line Leaf)) → Good (GoalsBelow gs) s → All Invariant (proceed s gs ls)
 unfolding proceed Invariant
 proceed-keeps s [] ls o = (o .formed, tt)
 proceed-keeps s (g ∷ gs) ls o = (o, tt)
 
--- after an act of matching,
+-- What follows an act of matching keeps the invariant.
 settle-keeps : (m : Matching) (b : Branch) → MatchUnderWay m → Running (GoalsBelow (b .goals)) m → All Invariant (settle m b)
 unfolding settle Invariant Running
 settle-keeps (pairs s []) b w r = proceed-keeps s (b .goals) (b .path) (r .0)
@@ -126,20 +132,24 @@ settle-keeps (pairs s (p ∷ ps)) b w r = ((w, r), tt)
 settle-keeps (check s y t n ns ps) b w r = ((w, r), tt)
 settle-keeps fail b w r = tt
 
--- beginning a match,
-comparing-keeps : (s : Store) (o : Option (List Pair)) (b : Branch) → Running (GoalsBelow (b .goals)) (comparing s o) → All Invariant (settle (comparing s o) b)
+-- Beginning a match keeps the invariant.
+comparing-keeps : (s : Store) (o : Option (List Pair)) (b : Branch) → Running (GoalsBelow (b .goals)) (comparing s o)
+    → All Invariant (settle (comparing s o) b)
 unfolding comparing settle Running matchSteps
 comparing-keeps s none b r = tt
-comparing-keeps s (some ps) b r = settle-keeps (pairs s ps) b (record { before = s; compared = ps; acts = 0; formed = r .0 .formed; below = r .1; comes = refl }) r
+comparing-keeps s (some ps) b r =
+    settle-keeps (pairs s ps) b (record { before = s; compared = ps; acts = 0; formed = r .0 .formed; below = r .1; comes = refl }) r
 
--- with the members left,
-tryFrom-keeps : (s : Store) (a : Atom) (ms : List (Entry Leaf)) (k : ℕ) (b : Branch) → Good (TryBelow a ms (b .goals)) s → All Invariant (tryFrom s a ms k b)
+-- Going on to the members left keeps the invariant.
+tryFrom-keeps : (s : Store) (a : Atom) (ms : List (Entry Leaf)) (k : ℕ) (b : Branch) → Good (TryBelow a ms (b .goals)) s
+    → All Invariant (tryFrom s a ms k b)
 unfolding tryFrom Invariant
 tryFrom-keeps s a [] k b o = tt
 tryFrom-keeps s a (m ∷ ms) k b o = (o, tt)
 
--- with the member of a try,
-tryMember-keeps : (s : Store) (a : Atom) (m : Entry Leaf) (ms : List (Entry Leaf)) (k : ℕ) (b : Branch) → Good (TryBelow a (m ∷ ms) (b .goals)) s → All Invariant (tryMember s a m k b)
+-- Trying a member keeps the invariant.
+tryMember-keeps : (s : Store) (a : Atom) (m : Entry Leaf) (ms : List (Entry Leaf)) (k : ℕ) (b : Branch)
+    → Good (TryBelow a (m ∷ ms) (b .goals)) s → All Invariant (tryMember s a m k b)
 unfolding tryMember fresh
 tryMember-keeps s a m ms k b o =
     let vs = m .member .prefix in
@@ -151,14 +161,17 @@ tryMember-keeps s a m ms k b o =
     let gs = bodySequent (m .member .body) e (a .program) (a .level) ++ b .goals in
     let goals : GoalsBelow gs n =
     all-append (SequentBelow n) (bodySequent (m .member .body) e (a .program) (a .level)) (b .goals)
-    (body-below (m .member .body) e (a .program) (a .level) n he (program-more (s .next) n (a .program) l (x .program))) (goals-more (s .next) n (b .goals) l (x .goals)) in
+    (body-below (m .member .body) e (a .program) (a .level) n he (program-more (s .next) n (a .program) l (x .program)))
+    (goals-more (s .next) n (b .goals) l (x .goals)) in
     comparing-keeps (fresh vs (a .level) s) (pushPairs (a .arguments) (substitutes (m .member .arguments) e) []) _
     (comparing-running (GoalsBelow gs) (fresh vs (a .level) s) (a .arguments) (substitutes (m .member .arguments) e) []
-    (good-fresh (TryBelow a (m ∷ ms) (b .goals)) (GoalsBelow gs) vs (a .level) s o goals) (terms-more (s .next) n (a .arguments) l (x .arguments))
+    (good-fresh (TryBelow a (m ∷ ms) (b .goals)) (GoalsBelow gs) vs (a .level) s o goals)
+    (terms-more (s .next) n (a .arguments) l (x .arguments))
     (substitutes-below (m .member .arguments) e n he) tt)
 
--- taking a goal;
-takeGoal-keeps : (u : ℕ) (s : Store) (g : Goal) (e : Environment Leaf) (P : Program Leaf) (i : ℕ) (b : Branch) → Good (GoalsBelow (sequent g e P i ∷ b .goals)) s
+-- Taking a goal keeps the invariant.
+takeGoal-keeps : (u : ℕ) (s : Store) (g : Goal) (e : Environment Leaf) (P : Program Leaf) (i : ℕ) (b : Branch)
+    → Good (GoalsBelow (sequent g e P i ∷ b .goals)) s
     → All Invariant (takeGoal u s g e P i b)
 unfolding takeGoal Invariant Leaves Below past
 takeGoal-keeps u s (atom p ts) e P i b o =
@@ -186,17 +199,28 @@ takeGoal-keeps u s (exists v g) e P i b o =
       ),
       tt,
     )
-takeGoal-keeps u s (forall v g) e P i b o =
-    (good-also _ _ s o ((update-all (λ t. Leaves t (Below (s .next))) e v (leaf (con u (suc i))) (o .extra .0 .0) tt, o .extra .0 .1), o .extra .1), tt)
+takeGoal-keeps u s (forall v g) e P i b o = (
+  good-also _ _ s o (
+    (update-all (λ t. Leaves t (Below (s .next))) e v (leaf (con u (suc i))) (o .extra .0 .0) tt, o .extra .0 .1),
+    o .extra .1,
+  ),
+  tt,
+)
 
--- so every act keeps the invariant
+-- Every act keeps the invariant.
 pub step-keeps : (u : ℕ) (c : Configuration) → Invariant c → All Invariant (step u c)
 unfolding step Invariant matchSteps
 step-keeps u (take s g b) o = takeGoal-keeps u s (g .goal) (g .environment) (g .program) (g .level) b o
 step-keeps u (try s a m ms k b) o =
     all-append Invariant (cond (eqb (a .predicate) (m .member .predicate)) (tryMember s a m k b) []) (tryFrom s a ms (suc k) b)
     (tried (eqb (a .predicate) (m .member .predicate)))
-    (tryFrom-keeps s a ms (suc k) b (good-also _ _ s o (record { arguments = o .extra .arguments; program = o .extra .program; members = o .extra .members .1; goals = o .extra .goals })))
+    (tryFrom-keeps s a ms (suc k) b
+    (good-also _ _ s o (record {
+      arguments = o .extra .arguments;
+      program = o .extra .program;
+      members = o .extra .members .1;
+      goals = o .extra .goals;
+    })))
   where
     tried : (same : Bool) → All Invariant (cond same (tryMember s a m k b) [])
     tried true = tryMember-keeps s a m ms k b o
@@ -204,11 +228,18 @@ step-keeps u (try s a m ms k b) o =
 step-keeps u (match m b) o =
     let w = o .0 in
     settle-keeps (matchStep m) b
-    (record { before = w .before; compared = w .compared; acts = suc (w .acts); formed = w .formed; below = w .below; comes = ap matchStep (w .comes) })
+    (record {
+      before = w .before;
+      compared = w .compared;
+      acts = suc (w .acts);
+      formed = w .formed;
+      below = w .below;
+      comes = ap matchStep (w .comes);
+    })
     (matchStep-running (GoalsBelow (b .goals)) m (o .1))
 step-keeps u (done s ls) o = (o, tt)
 
--- the start: its variables are 0 to 7,
+-- The variables of the start are 0 to 7.
 startEnvironment-below : EnvironmentBelow 8 startEnvironment
 unfolding startEnvironment Leaves Below
 startEnvironment-below v = go (ltb v 8) refl
@@ -217,16 +248,22 @@ startEnvironment-below v = go (ltb v 8) refl
     go true e = ltb-true v 8 e
     go false e = tt
 
--- and its store is empty
+-- The invariant holds at the start, where the store is empty.
 pub start-invariant : (cs : List Clause) (g : Goal) → All Invariant (start cs g)
 unfolding start startGoal startStore instanceOf Invariant
-start-invariant cs g = (record { formed = empty-formed (λ x. 0) 8; extra = ((startEnvironment-below, sheet-all (EnvironmentBelow 8) cs startEnvironment startEnvironment-below), tt) }, tt)
+start-invariant cs g = (
+  record {
+    formed = empty-formed (λ x. 0) 8;
+    extra = ((startEnvironment-below, sheet-all (EnvironmentBelow 8) cs startEnvironment startEnvironment-below), tt);
+  },
+  tt,
+)
 
--- so the invariant holds of every configuration of a search,
+-- The invariant holds of every configuration of a search.
 pub after-invariant : (cs : List Clause) (g : Goal) (n : ℕ) → All Invariant (after cs g n)
 after-invariant cs g n = after-all cs g (λ u. Invariant) (start-invariant cs g) step-keeps (λ u c h. h) n
 
--- and every configuration that it holds of
+-- A configuration that satisfies the invariant has a formed store, or a match that is one of T3's.
 invariant-formed : (c : Configuration) → Invariant c → WellFormed c
 unfolding Invariant WellFormed
 invariant-formed (take s g b) h = h .formed
@@ -234,6 +271,6 @@ invariant-formed (try s a m ms k b) h = h .formed
 invariant-formed (match m b) h = h .0
 invariant-formed (done s ls) h = h
 
--- has a formed store, and a match that is one of T3's
+-- Every configuration of a search has a formed store, or a match that is one of T3's.
 pub after-formed : (cs : List Clause) (g : Goal) (n : ℕ) → All WellFormed (after cs g n)
 after-formed cs g n = all-weaken Invariant WellFormed invariant-formed (after cs g n) (after-invariant cs g n)

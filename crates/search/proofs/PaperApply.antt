@@ -1,5 +1,5 @@
--- θ(G): a substitution that is applied to the formula of a goal in an environment goes to the environment. Of clauses,
--- programs and sequents the same; ∅ changes nothing, and one substitution after another is their composition.
+-- A substitution θ applied to the formula of a goal in an environment goes to the environment; so it does for clauses, programs
+-- and sequents. The substitution ∅ changes nothing, and one substitution after another is their composition.
 use Prim.Native.Nat.{ℕ}
 use mathlib.Core.Path.{_≡_, refl, sym, _∙_, ap, ap₂, fun-ext}
 use mathlib.Core.List.{List, [], _∷_, map, map-id}
@@ -7,42 +7,47 @@ use Rattle.terms.specs.Terms.{Term, leaf, Terms, substitute, substitutes}
 use Rattle.terms.proofs.Lists.{map-map, map-agree, update-map}
 use Rattle.terms.proofs.Terms.{substitute-substitute, substitutes-substitutes}
 use Rattle.formulas.specs.Formulas.{Goal, atom, truth, and, or, implies, exists, forall, Clause, fact, rule, both, each}
-use Rattle.sequents.specs.Sequents.{Environment, hypothesis, Program, putEnvironment, putHypothesis, putProgram, Sequent, sequent, putSequent}
+use Rattle.sequents.specs.Sequents.{Environment, hypothesis, Program, putEnvironment, putHypothesis, putProgram, Sequent, sequent}
+use Rattle.sequents.specs.Sequents.{putSequent}
 use Rattle.unification.specs.Store.{Leaf, var, at, apply}
 use Rattle.unification.proofs.Substitution.{apply-fixed}
 use Rattle.search.specs.Paper.{name, Names, D, g-atom, g-and, g-or, g-implies, g-exists, g-forall, d-atom, d-implies, d-and, d-forall}
-use Rattle.search.specs.Paper.{bound, embed, onFree, applyG, applyD, formulaG, formulaD, names}
+use Rattle.search.specs.Paper.{bound, embed, replaceFree, applyG, applyD, formulaG, formulaD, names}
 use Rattle.search.specs.Procedure.{paperSequent, applySequent, formulasOf, paperOf}
 
 -- Terms of the search, and environments
 
--- θ of a term of the search, as a term of a formula.
-pub embed-apply : (t : Term Leaf) (θ : ℕ → Term Leaf) → substitute (substitute t embed) (onFree θ) ≡ substitute (apply t θ) embed
-unfolding embed onFree substitute
-embed-apply t θ = substitute-substitute t embed (onFree θ) ∙ sym (substitute-substitute t (at θ) embed)
+-- Applying θ to an embedded term of the search is embedding the term with θ applied.
+pub embed-apply : (t : Term Leaf) (θ : ℕ → Term Leaf) → substitute (substitute t embed) (replaceFree θ) ≡ substitute (apply t θ) embed
+unfolding embed replaceFree substitute
+embed-apply t θ = substitute-substitute t embed (replaceFree θ) ∙ sym (substitute-substitute t (at θ) embed)
 
 -- Of several terms the same.
-pub embeds-apply : (ts : Terms Leaf) (θ : ℕ → Term Leaf) → substitutes (substitutes ts embed) (onFree θ) ≡ substitutes (substitutes ts (at θ)) embed
-unfolding embed onFree substitute
-embeds-apply ts θ = substitutes-substitutes ts embed (onFree θ) ∙ sym (substitutes-substitutes ts (at θ) embed)
+pub embeds-apply : (ts : Terms Leaf) (θ : ℕ → Term Leaf)
+    → substitutes (substitutes ts embed) (replaceFree θ) ≡ substitutes (substitutes ts (at θ)) embed
+unfolding embed replaceFree substitute
+embeds-apply ts θ = substitutes-substitutes ts embed (replaceFree θ) ∙ sym (substitutes-substitutes ts (at θ) embed)
 
--- θ of what the names stand for, under a quantifier.
-bound-apply : (ρ : Names) (θ : ℕ → Term Leaf) (v : ℕ) → _≡_ {A = Names} (λ w. substitute (bound ρ v w) (onFree θ)) (bound (λ w. substitute (ρ w) (onFree θ)) v)
-unfolding substitute onFree
-bound-apply ρ θ v = update-map (λ t. substitute t (onFree θ)) ρ v (leaf (name v))
+-- Under a quantifier, θ goes to what the other names stand for.
+bound-apply : (ρ : Names) (θ : ℕ → Term Leaf) (v : ℕ)
+    → _≡_ {A = Names} (λ w. substitute (bound ρ v w) (replaceFree θ)) (bound (λ w. substitute (ρ w) (replaceFree θ)) v)
+unfolding substitute replaceFree
+bound-apply ρ θ v = update-map (λ t. substitute t (replaceFree θ)) ρ v (leaf (name v))
 
 -- What the names of an environment stand for.
-names-apply : (e : Environment Leaf) (θ : ℕ → Term Leaf) → _≡_ {A = Names} (λ v. substitute (names e v) (onFree θ)) (names (putEnvironment (at θ) e))
+names-apply : (e : Environment Leaf) (θ : ℕ → Term Leaf)
+    → _≡_ {A = Names} (λ v. substitute (names e v) (replaceFree θ)) (names (putEnvironment (at θ) e))
 names-apply e θ = fun-ext (λ v. embed-apply (e v) θ)
 
 -- Formulas
 
--- θ goes to what the names stand for.
+-- In the formula of a goal or a clause, θ goes to what the names stand for.
 mutual
   unfolding applyG formulaG
 
-  formulaG-onFree : (g : Goal) (ρ : Names) (θ : ℕ → Term Leaf) → applyG (formulaG g ρ) θ ≡ formulaG g (λ v. substitute (ρ v) (onFree θ))
-  formulaG-onFree (atom p ts) ρ θ = ap (g-atom p) (substitutes-substitutes ts ρ (onFree θ))
+  formulaG-onFree : (g : Goal) (ρ : Names) (θ : ℕ → Term Leaf)
+      → applyG (formulaG g ρ) θ ≡ formulaG g (λ v. substitute (ρ v) (replaceFree θ))
+  formulaG-onFree (atom p ts) ρ θ = ap (g-atom p) (substitutes-substitutes ts ρ (replaceFree θ))
   formulaG-onFree truth ρ θ = refl
   formulaG-onFree (and a b) ρ θ = ap₂ g-and (formulaG-onFree a ρ θ) (formulaG-onFree b ρ θ)
   formulaG-onFree (or a b) ρ θ = ap₂ g-or (formulaG-onFree a ρ θ) (formulaG-onFree b ρ θ)
@@ -50,28 +55,32 @@ mutual
   formulaG-onFree (exists v g) ρ θ = ap (g-exists v) (formulaG-onFree g (bound ρ v) θ ∙ ap (formulaG g) (bound-apply ρ θ v))
   formulaG-onFree (forall v g) ρ θ = ap (g-forall v) (formulaG-onFree g (bound ρ v) θ ∙ ap (formulaG g) (bound-apply ρ θ v))
 
-  formulaD-onFree : (d : Clause) (ρ : Names) (θ : ℕ → Term Leaf) → applyD (formulaD d ρ) θ ≡ formulaD d (λ v. substitute (ρ v) (onFree θ))
-  formulaD-onFree (fact p ts) ρ θ = ap (d-atom p) (substitutes-substitutes ts ρ (onFree θ))
-  formulaD-onFree (rule g p ts) ρ θ = ap₂ (λ h us. d-implies h p us) (formulaG-onFree g ρ θ) (substitutes-substitutes ts ρ (onFree θ))
+  formulaD-onFree : (d : Clause) (ρ : Names) (θ : ℕ → Term Leaf)
+      → applyD (formulaD d ρ) θ ≡ formulaD d (λ v. substitute (ρ v) (replaceFree θ))
+  formulaD-onFree (fact p ts) ρ θ = ap (d-atom p) (substitutes-substitutes ts ρ (replaceFree θ))
+  formulaD-onFree (rule g p ts) ρ θ = ap₂ (λ h us. d-implies h p us) (formulaG-onFree g ρ θ) (substitutes-substitutes ts ρ (replaceFree θ))
   formulaD-onFree (both a b) ρ θ = ap₂ d-and (formulaD-onFree a ρ θ) (formulaD-onFree b ρ θ)
   formulaD-onFree (each v d) ρ θ = ap (d-forall v) (formulaD-onFree d (bound ρ v) θ ∙ ap (formulaD d) (bound-apply ρ θ v))
 
 -- A goal in an environment.
-pub formulaG-apply : (g : Goal) (e : Environment Leaf) (θ : ℕ → Term Leaf) → applyG (formulaG g (names e)) θ ≡ formulaG g (names (putEnvironment (at θ) e))
+pub formulaG-apply : (g : Goal) (e : Environment Leaf) (θ : ℕ → Term Leaf)
+    → applyG (formulaG g (names e)) θ ≡ formulaG g (names (putEnvironment (at θ) e))
 formulaG-apply g e θ = formulaG-onFree g (names e) θ ∙ ap (formulaG g) (names-apply e θ)
 
 -- A clause in an environment.
-formulaD-apply : (d : Clause) (e : Environment Leaf) (θ : ℕ → Term Leaf) → applyD (formulaD d (names e)) θ ≡ formulaD d (names (putEnvironment (at θ) e))
+formulaD-apply : (d : Clause) (e : Environment Leaf) (θ : ℕ → Term Leaf)
+    → applyD (formulaD d (names e)) θ ≡ formulaD d (names (putEnvironment (at θ) e))
 formulaD-apply d e θ = formulaD-onFree d (names e) θ ∙ ap (formulaD d) (names-apply e θ)
 
 -- A goal under a quantifier.
 pub formulaG-bound : (g : Goal) (e : Environment Leaf) (v : ℕ) (θ : ℕ → Term Leaf)
     → applyG (formulaG g (bound (names e) v)) θ ≡ formulaG g (bound (names (putEnvironment (at θ) e)) v)
-formulaG-bound g e v θ = formulaG-onFree g (bound (names e) v) θ ∙ ap (formulaG g) (bound-apply (names e) θ v ∙ ap (λ ρ. bound ρ v) (names-apply e θ))
+formulaG-bound g e v θ =
+    formulaG-onFree g (bound (names e) v) θ ∙ ap (formulaG g) (bound-apply (names e) θ v ∙ ap (λ ρ. bound ρ v) (names-apply e θ))
 
 -- Programs and sequents
 
--- θ(𝒫)
+-- The list θ(𝒫) is the program's formulas with θ applied.
 abbrev pub formulasAt : (ℕ → Term Leaf) → Program Leaf → List D
 formulasAt θ P = map (λ d. applyD d θ) (formulasOf P)
 
@@ -92,7 +101,8 @@ apply-identity t = apply-fixed t (λ x. leaf (var x)) (λ x h. refl)
 
 -- Of sequents the same.
 pub sequent-identity : (q : Sequent Leaf) → applySequent (λ x. leaf (var x)) (paperOf q) ≡ paperOf q
-sequent-identity q = sequent-apply (λ x. leaf (var x)) q ∙ ap paperOf (ap₂ (λ e P. sequent (q .goal) e P (q .level)) (same (q .environment)) program)
+sequent-identity q =
+    sequent-apply (λ x. leaf (var x)) q ∙ ap paperOf (ap₂ (λ e P. sequent (q .goal) e P (q .level)) (same (q .environment)) program)
   where
     same : (e : Environment Leaf) → putEnvironment (at (λ x. leaf (var x))) e ≡ e
     same e = fun-ext (λ v. apply-identity (e v))
@@ -118,10 +128,12 @@ module _ (S σ S′ : ℕ → Term Leaf) (composed : (t : Term Leaf) → apply t
       program : putProgram (at σ) (putProgram (at S) (q .program)) ≡ putProgram (at S′) (q .program)
       program =
           map-map (putHypothesis (at S)) (putHypothesis (at σ)) (q .program)
-          ∙ map-agree (λ h. putHypothesis (at σ) (putHypothesis (at S) h)) (putHypothesis (at S′)) (λ h. ap (hypothesis (h .clause)) (same (h .environment)))
+          ∙ map-agree (λ h. putHypothesis (at σ) (putHypothesis (at S) h)) (putHypothesis (at S′))
+          (λ h. ap (hypothesis (h .clause)) (same (h .environment)))
           (q .program)
 
   -- A list of them.
-  pub sequents-composed : (qs : List (Sequent Leaf)) → map (applySequent σ) (map (applySequent S) (map paperOf qs)) ≡ map (applySequent S′) (map paperOf qs)
+  pub sequents-composed : (qs : List (Sequent Leaf))
+      → map (applySequent σ) (map (applySequent S) (map paperOf qs)) ≡ map (applySequent S′) (map paperOf qs)
   sequents-composed [] = refl
   sequents-composed (q ∷ qs) = ap₂ _∷_ (sequent-composed q) (sequents-composed qs)

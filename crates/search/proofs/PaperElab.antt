@@ -19,7 +19,8 @@ use Rattle.search.specs.Paper.{name, Names, bound, formulaD, names, Elab
 use Rattle.search.specs.Procedure.{formulasOf}
 use Rattle.search.proofs.PaperApply.{formulasAt, formulas-apply}
 use Rattle.search.proofs.PaperReplace.{Tidy, tidy-names, tidy-bound}
-use Rattle.search.proofs.PaperNames.{formulaB, Own, own-bound, own-new, inTs-free, inB-free, AgreeOn, agree-left, agree-right, formulaB-agree}
+use Rattle.search.proofs.PaperNames.{formulaB, Own, own-bound, own-new, inTs-free, inB-free, AgreeOn, agree-left, agree-right}
+use Rattle.search.proofs.PaperNames.{formulaB-agree}
 
 -- The names of a prefix stand for themselves.
 unfoldable pub boundBy : List ℕ → Names → Names
@@ -47,7 +48,8 @@ boundBy-agree [] ρ π u (inl e) = e
 boundBy-agree [] ρ π u (inr e) = absurd (true≢false (sym e))
 boundBy-agree (w ∷ vs) ρ π u h = boundBy-agree vs (bound ρ w) (bound π w) u (go (eqb u w) refl h)
   where
-    go : (b : Bool) → eqb u w ≡ b → (ρ u ≡ π u) ⊎ (elem u (w ∷ vs) ≡ true) → (cond b (leaf (name w)) (ρ u) ≡ cond b (leaf (name w)) (π u)) ⊎ (elem u vs ≡ true)
+    go : (b : Bool) → eqb u w ≡ b → (ρ u ≡ π u) ⊎ (elem u (w ∷ vs) ≡ true) → (cond b (leaf (name w)) (ρ u) ≡ cond b (leaf (name w)) (π u))
+        ⊎ (elem u vs ≡ true)
     go true e k = inl refl
     go false e (inl k) = inl k
     go false e (inr k) = inr (rw (ne-eqb w u (λ q. eqb-false u w e (sym q)), elem) at k)
@@ -59,24 +61,28 @@ formulaM-skip : (m : Member) (ρ : Names) (v : ℕ) → standsFree v m ≡ false
 unfolding formulaM standsFree update
 formulaM-skip m ρ v h =
     ap₂ (λ ts b. record { prefix = m .prefix; predicate = m .predicate; arguments = ts; body = b })
-    (substitutes-free (m .arguments) (boundBy (m .prefix) (bound ρ v)) (boundBy (m .prefix) ρ) (agree-left (freeTs (m .arguments)) (freeB (m .body)) agree))
-    (formulaB-agree (m .body) (boundBy (m .prefix) (bound ρ v)) (boundBy (m .prefix) ρ) (agree-right (freeTs (m .arguments)) (freeB (m .body)) agree))
+    (substitutes-free (m .arguments) (boundBy (m .prefix) (bound ρ v)) (boundBy (m .prefix) ρ)
+    (agree-left (freeTs (m .arguments)) (freeB (m .body)) agree))
+    (formulaB-agree (m .body) (boundBy (m .prefix) (bound ρ v)) (boundBy (m .prefix) ρ)
+    (agree-right (freeTs (m .arguments)) (freeB (m .body)) agree))
   where
-    -- a name that stands free in the head or the body, but not in the member, is in the prefix
+    -- A name that stands free in the head or the body, but not in the member, is in the prefix.
     shadowed : (a b : Bool) → not a && b ≡ false → b ≡ true → a ≡ true
     shadowed true b e k = refl
     shadowed false b e k = absurd (true≢false (sym k ∙ e))
 
     same : (u : ℕ) (b : Bool) → eqb u v ≡ b → freeTs (m .arguments) u || freeB (m .body) u ≡ true
         → (cond b (leaf (name v)) (ρ u) ≡ ρ u) ⊎ (elem u (m .prefix) ≡ true)
-    same u true e k = inr (shadowed (elem u (m .prefix)) (freeTs (m .arguments) u || freeB (m .body) u) (ap (λ x. standsFree x m) (eqb-true u v e) ∙ h) k)
+    same u true e k =
+        inr (shadowed (elem u (m .prefix)) (freeTs (m .arguments) u || freeB (m .body) u) (ap (λ x. standsFree x m) (eqb-true u v e) ∙ h) k)
     same u false e k = inl refl
 
     agree : AgreeOn (λ u. freeTs (m .arguments) u || freeB (m .body) u) (boundBy (m .prefix) (bound ρ v)) (boundBy (m .prefix) ρ)
     agree u k = boundBy-agree (m .prefix) (bound ρ v) ρ u (same u (eqb u v) refl k)
 
 -- Where it stands free it joins the prefix, in the formula as in the member.
-generalize-quantify : (m : Member) (ρ : Names) (v : ℕ) → Own (bound ρ v) v → generalize v (formulaM (bound ρ v) m) ≡ formulaM ρ (quantify v m)
+generalize-quantify : (m : Member) (ρ : Names) (v : ℕ) → Own (bound ρ v) v
+    → generalize v (formulaM (bound ρ v) m) ≡ formulaM ρ (quantify v m)
 unfolding generalize quantify formulaM boundBy standsFree
 generalize-quantify m ρ v o = rw (inTs-free (m .arguments) π v own, inB-free (m .body) π v own) (go (standsFree v m) refl)
   where
@@ -87,14 +93,19 @@ generalize-quantify m ρ v o = rw (inTs-free (m .arguments) π v own, inB-free (
     own = own-boundBy (m .prefix) (bound ρ v) v o
 
     go : (b : Bool) → standsFree v m ≡ b
-        → cond b (record { prefix = v ∷ m .prefix; predicate = m .predicate; arguments = substitutes (m .arguments) π; body = formulaB (m .body) π }) (formulaM (bound ρ v) m)
+        → cond b (record {
+          prefix = v ∷ m .prefix;
+          predicate = m .predicate;
+          arguments = substitutes (m .arguments) π;
+          body = formulaB (m .body) π;
+        }) (formulaM (bound ρ v) m)
         ≡ formulaM ρ (cond b (record { prefix = v ∷ m .prefix; predicate = m .predicate; arguments = m .arguments; body = m .body }) m)
     go true e = refl
     go false e = formulaM-skip m ρ v e
 
 -- A clause, a program
 
--- elab(D): the members, each as a formula.
+-- The list elab(D) is the members of the clause, each as a formula.
 elab-members : (d : Clause) (ρ : Names) → Tidy ρ → elab (formulaD d ρ) ≡ map (formulaM ρ) (members d)
 unfolding elab formulaD members formulaM boundBy
 elab-members (fact p ts) ρ h = refl
@@ -103,24 +114,26 @@ elab-members (both a b) ρ h = ap₂ _++_ (elab-members a ρ h) (elab-members b 
 elab-members (each v d) ρ h =
     ap (map (generalize v)) (elab-members d (bound ρ v) (tidy-bound ρ v h))
     ∙ map-map (formulaM (bound ρ v)) (generalize v) (members d)
-    ∙ map-agree (λ m. generalize v (formulaM (bound ρ v) m)) (λ m. formulaM ρ (quantify v m)) (λ m. generalize-quantify m ρ v (own-new ρ v h)) (members d)
+    ∙ map-agree (λ m. generalize v (formulaM (bound ρ v) m)) (λ m. formulaM ρ (quantify v m))
+    (λ m. generalize-quantify m ρ v (own-new ρ v h)) (members d)
     ∙ sym (map-map (quantify v) (formulaM ρ) (members d))
 
 -- The formula that a member of a program's clause is.
 abbrev pub formulaE : Entry Leaf → Elaborated
 formulaE m = formulaM (names (m .environment)) (m .member)
 
--- elab(𝒫): the members of its clauses, each as a formula.
+-- The list elab(𝒫) is the members of its clauses, each as a formula.
 elabs-entries : (P : Program Leaf) → elabs (formulasOf P) ≡ map formulaE (entries P)
 unfolding elabs formulasOf entries
 elabs-entries [] = refl
 elabs-entries (h ∷ P) =
     ap₂ _++_
-    (elab-members (h .clause) (names (h .environment)) (tidy-names (h .environment)) ∙ sym (map-map (entry (h .environment)) formulaE (members (h .clause))))
+    (elab-members (h .clause) (names (h .environment)) (tidy-names (h .environment))
+    ∙ sym (map-map (entry (h .environment)) formulaE (members (h .clause))))
     (elabs-entries P)
     ∙ sym (map-append formulaE (map (entry (h .environment)) (members (h .clause))) (entries P))
 
--- elab(θ(𝒫))
+-- The list elab(θ(𝒫)) is the members of the program's clauses with θ applied, each as a formula.
 pub elabs-apply : (P : Program Leaf) (θ : ℕ → Term Leaf) → elabs (formulasAt θ P) ≡ map (λ m. formulaE (putEntry (at θ) m)) (entries P)
 elabs-apply P θ =
     ap elabs (formulas-apply P θ) ∙ elabs-entries (putProgram (at θ) P) ∙ ap (map formulaE) (entries-put (at θ) P)

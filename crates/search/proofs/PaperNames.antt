@@ -9,7 +9,8 @@ use borrow.Author.Tests.{eqb-true, eq-eqb}
 use Rattle.terms.specs.Lists.{update}
 use Rattle.terms.specs.Terms.{Term, leaf, app, Terms, nil, cons, substitute, substitutes}
 use Rattle.terms.proofs.Lists.{update-agree}
-use Rattle.formulas.specs.Formulas.{Goal, atom, truth, and, or, implies, exists, forall, Clause, fact, rule, both, each, freeT, freeTs, freeG, freeC, freeB}
+use Rattle.formulas.specs.Formulas.{Goal, atom, truth, and, or, implies, exists, forall, Clause, fact, rule, both, each, freeT, freeTs}
+use Rattle.formulas.specs.Formulas.{freeG, freeC, freeB}
 use Rattle.formulas.proofs.Free.{or-left, or-right, substitutes-free}
 use Rattle.unification.specs.Store.{Leaf}
 use Rattle.search.specs.Paper.{name, Names, G, g-atom, g-and, g-or, g-implies, g-exists, g-forall, d-atom, d-implies, d-and, d-forall}
@@ -22,7 +23,7 @@ formulaB o ρ = Option·map (λ g. formulaG g ρ) o
 
 -- Where a name stands free
 
--- v stands for itself, and in nothing that another name stands for.
+-- The name v stands for itself, and is in nothing that another name stands for.
 abbrev pub Own : Names → ℕ → Type 0
 Own ρ v = (u : ℕ) → inT (ρ u) v ≡ eqb u v
 
@@ -96,15 +97,15 @@ inB-free (some g) ρ v h = inG-free g ρ v h
 
 -- What a formula depends on
 
--- ρ and π agree on the names that pass the test.
+-- The mappings ρ and π agree on the names that pass the test.
 abbrev pub AgreeOn : (ℕ → Bool) → Names → Names → Type 0
 AgreeOn f ρ π = (u : ℕ) → f u ≡ true → ρ u ≡ π u
 
--- If they agree on the names of two formulas, they agree on those of the left one,
+-- Mappings that agree on the names of two formulas agree on those of the left one.
 pub agree-left : (f h : ℕ → Bool) {ρ π : Names} → AgreeOn (λ u. f u || h u) ρ π → AgreeOn f ρ π
 agree-left f h a u k = a u (or-left (f u) (h u) k)
 
--- and on those of the right one.
+-- Mappings that agree on the names of two formulas agree on those of the right one.
 pub agree-right : (f h : ℕ → Bool) {ρ π : Names} → AgreeOn (λ u. f u || h u) ρ π → AgreeOn h ρ π
 agree-right f h a u k = a u (or-right (f u) (h u) k)
 
@@ -119,8 +120,10 @@ mutual
   formulaG-agree : (g : Goal) (ρ π : Names) → AgreeOn (freeG g) ρ π → formulaG g ρ ≡ formulaG g π
   formulaG-agree (atom p ts) ρ π h = ap (g-atom p) (substitutes-free ts ρ π h)
   formulaG-agree truth ρ π h = refl
-  formulaG-agree (and a b) ρ π h = ap₂ g-and (formulaG-agree a ρ π (agree-left (freeG a) (freeG b) h)) (formulaG-agree b ρ π (agree-right (freeG a) (freeG b) h))
-  formulaG-agree (or a b) ρ π h = ap₂ g-or (formulaG-agree a ρ π (agree-left (freeG a) (freeG b) h)) (formulaG-agree b ρ π (agree-right (freeG a) (freeG b) h))
+  formulaG-agree (and a b) ρ π h =
+      ap₂ g-and (formulaG-agree a ρ π (agree-left (freeG a) (freeG b) h)) (formulaG-agree b ρ π (agree-right (freeG a) (freeG b) h))
+  formulaG-agree (or a b) ρ π h =
+      ap₂ g-or (formulaG-agree a ρ π (agree-left (freeG a) (freeG b) h)) (formulaG-agree b ρ π (agree-right (freeG a) (freeG b) h))
   formulaG-agree (implies d g) ρ π h =
       ap₂ g-implies (formulaD-agree d ρ π (agree-left (freeC d) (freeG g) h)) (formulaG-agree g ρ π (agree-right (freeC d) (freeG g) h))
   formulaG-agree (exists w g) ρ π h = ap (g-exists w) (formulaG-agree g (bound ρ w) (bound π w) (agree-bound (freeG g) ρ π w h))
@@ -129,8 +132,10 @@ mutual
   formulaD-agree : (d : Clause) (ρ π : Names) → AgreeOn (freeC d) ρ π → formulaD d ρ ≡ formulaD d π
   formulaD-agree (fact p ts) ρ π h = ap (d-atom p) (substitutes-free ts ρ π h)
   formulaD-agree (rule g p ts) ρ π h =
-      ap₂ (λ k us. d-implies k p us) (formulaG-agree g ρ π (agree-left (freeG g) (freeTs ts) h)) (substitutes-free ts ρ π (agree-right (freeG g) (freeTs ts) h))
-  formulaD-agree (both a b) ρ π h = ap₂ d-and (formulaD-agree a ρ π (agree-left (freeC a) (freeC b) h)) (formulaD-agree b ρ π (agree-right (freeC a) (freeC b) h))
+      ap₂ (λ k us. d-implies k p us) (formulaG-agree g ρ π (agree-left (freeG g) (freeTs ts) h))
+      (substitutes-free ts ρ π (agree-right (freeG g) (freeTs ts) h))
+  formulaD-agree (both a b) ρ π h =
+      ap₂ d-and (formulaD-agree a ρ π (agree-left (freeC a) (freeC b) h)) (formulaD-agree b ρ π (agree-right (freeC a) (freeC b) h))
   formulaD-agree (each w d) ρ π h = ap (d-forall w) (formulaD-agree d (bound ρ w) (bound π w) (agree-bound (freeC d) ρ π w h))
 
 -- Of bodies the same.

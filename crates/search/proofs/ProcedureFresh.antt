@@ -38,7 +38,8 @@ numbers-variables (v ∷ vs) n = ap (leaf (var n) ∷_) (numbers-variables vs (s
 numbers-from : (vs : List ℕ) (n : ℕ) → All (λ w. n ≤ w) (numbers vs n)
 unfolding numbers
 numbers-from [] n = tt
-numbers-from (v ∷ vs) n = (omega arith, all-weaken (λ w. suc n ≤ w) (λ w. n ≤ w) (λ w h. omega arith) (numbers vs (suc n)) (numbers-from vs (suc n)))
+numbers-from (v ∷ vs) n =
+    (omega arith, all-weaken (λ w. suc n ≤ w) (λ w. n ≤ w) (λ w h. omega arith) (numbers vs (suc n)) (numbers-from vs (suc n)))
 
 -- They lie below the number after them.
 pub numbers-below : (vs : List ℕ) (n : ℕ) → All (λ w. w < past vs n) (numbers vs n)
@@ -50,11 +51,11 @@ numbers-below (v ∷ vs) n = (past-le vs (suc n), numbers-below vs (suc n))
 pub not-below : (n : ℕ) (X : List ℕ) → All (λ x. x < n) X → (w : ℕ) → n ≤ w → Mem w X → ⊥
 not-below n X h w l m = let q = all-mem (λ x. x < n) X w h m in omega arith
 
--- So they are new
+-- The numbers of the fresh variables are new among variables below n.
 pub numbers-new : (vs : List ℕ) (n : ℕ) (X : List ℕ) → All (λ x. x < n) X → All (λ w. Mem w X → ⊥) (numbers vs n)
 numbers-new vs n X h = all-weaken (λ w. n ≤ w) (λ w. Mem w X → ⊥) (not-below n X h) (numbers vs n) (numbers-from vs n)
 
--- and distinct.
+-- The numbers of the fresh variables are distinct.
 pub numbers-distinct : (vs : List ℕ) (n : ℕ) → Distinct (numbers vs n)
 unfolding numbers Distinct
 numbers-distinct [] n = tt
@@ -70,7 +71,8 @@ relabel-fresh [] n i L l x e = e
 relabel-fresh (v ∷ vs) n i L l x e = relabel-fresh vs (suc n) i (update L n i) (update l n i) x (ap (cond (eqb x n) i) e)
 
 -- So the labels stay those of the store.
-pub fresh-labels : (vs : List ℕ) (i : ℕ) (s : Store) (L : Labelling) → Labels L s → Labels (relabel (numbers vs (s .next)) i L) (fresh vs i s)
+pub fresh-labels : (vs : List ℕ) (i : ℕ) (s : Store) (L : Labelling) → Labels L s
+    → Labels (relabel (numbers vs (s .next)) i L) (fresh vs i s)
 unfolding fresh
 fresh-labels vs i s L h x u = relabel-fresh vs (s .next) i L (s .level) x (h x u)
 

@@ -5,7 +5,7 @@ use mathlib.Core.List.{List, [], _∷_, map}
 use Rattle.terms.specs.Lists.{Mem, here, there, place}
 use Rattle.terms.proofs.Lists.{mem-map, place-map}
 
--- a stands in l at place k, the first place being j.
+-- The element a stands in l at place k, the first place being j.
 abbrev pub StandsAt : {A : Type 0} → ℕ → List A → ℕ → A → Type 0
 StandsAt j l k a = (h : Mem a l) × (place j h ≡ k)
 

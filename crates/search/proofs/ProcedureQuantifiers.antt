@@ -25,7 +25,8 @@ module _ {cs : List Clause} {g₀ : Goal} {u : ℕ} {s : Store} {gs : List Paper
     (v : ℕ) (g : Goal) (e : Environment Leaf) (P : Program Leaf) (i : ℕ) where
   -- (iii): the variable is the store's next one.
   pub exists-reached : Formed s → Reached cs g₀ u s (paperOf (sequent (exists v g) e P i) ∷ gs) path
-      → Reached cs g₀ (suc u) (fresh (v ∷ []) i s) (paperOf (sequent g (update e v (leaf (var (s .next)))) P i) ∷ gs) (Dsome (leaf (var (s .next))) ∷ path)
+      → Reached cs g₀ (suc u) (fresh (v ∷ []) i s) (paperOf (sequent g (update e v (leaf (var (s .next)))) P i) ∷ gs)
+      (Dsome (leaf (var (s .next))) ∷ path)
   unfolding paperOf formulaG applyG By identity fresh past relabel numbers solution substitute at embed
   exists-reached f r = reached-by r (record {
     state = record {
@@ -51,7 +52,8 @@ module _ {cs : List Clause} {g₀ : Goal} {u : ℕ} {s : Store} {gs : List Paper
 
   -- (v): the constant has the number of the act.
   pub forall-reached : Reached cs g₀ u s (paperOf (sequent (forall v g) e P i) ∷ gs) path
-      → Reached cs g₀ (suc u) s (paperOf (sequent g (update e v (leaf (con u (suc i)))) P (suc i)) ∷ gs) (Dall (leaf (con u (suc i))) ∷ path)
+      → Reached cs g₀ (suc u) s (paperOf (sequent g (update e v (leaf (con u (suc i)))) P (suc i)) ∷ gs)
+      (Dall (leaf (con u (suc i))) ∷ path)
   unfolding paperOf formulaG applyG By identity substitute at embed
   forall-reached r = reached-by r (record {
     state = record {

@@ -28,7 +28,8 @@ Takes s q gs x S₁ S₂ =
     By x (taken .goal) (taken .program) (taken .level) [] (map (applySequent (solution s)) gs) S₁ S₂
 
 -- The state after it, as the search has it: with the store s′ and the goals gs′, after u′ acts.
-pub record Step (s : Store) (q : PaperSequent) (gs : List PaperSequent) (x : Line Leaf) (S₁ : State) (u′ : ℕ) (s′ : Store) (gs′ : List PaperSequent) : Type 0 where
+pub record Step (s : Store) (q : PaperSequent) (gs : List PaperSequent) (x : Line Leaf) (S₁ : State) (u′ : ℕ) (s′ : Store)
+    (gs′ : List PaperSequent) : Type 0 where
   pub state : State
   pub takes : Takes s q gs x S₁ state
   pub goals : state .goals ≡ map (applySequent (solution s′)) gs′
@@ -44,7 +45,8 @@ constants-more u C h = all-weaken (λ c. c .0 < u) (λ c. c .0 < suc u) (λ c l.
 module _ {cs : List Clause} {g : Goal} {u : ℕ} {s : Store} {path : List (Line Leaf)} where
   -- Goals that wait for another act stand where they stood.
   pub reached-more : {gs : List PaperSequent} → Reached cs g u s gs path → Reached cs g (suc u) s gs path
-  reached-more r = record { follows = r .follows; constants = constants-more u (r .follows .state .constants) (r .constants); variables = r .variables }
+  reached-more r =
+      record { follows = r .follows; constants = constants-more u (r .follows .state .constants) (r .constants); variables = r .variables }
 
   -- A step makes the sequence longer by a tuple.
   pub reached-by : {q : PaperSequent} {gs : List PaperSequent} {x : Line Leaf} {u′ : ℕ} {s′ : Store} {gs′ : List PaperSequent}
@@ -54,7 +56,14 @@ module _ {cs : List Clause} {g : Goal} {u : ℕ} {s : Store} {path : List (Line 
     follows = record {
       state = n .state;
       sequence = then x (r .follows .sequence) (record {
-        derived = record { before = []; taken = applySequent (solution s) q; after = map (applySequent (solution s)) gs; split = r .follows .goals; by = n .takes };
+        derived =
+            record {
+              before = [];
+              taken = applySequent (solution s) q;
+              after = map (applySequent (solution s)) gs;
+              split = r .follows .goals;
+              by = n .takes;
+            };
         front = refl;
       });
       goals = n .goals;
@@ -67,7 +76,8 @@ module _ {cs : List Clause} {g : Goal} {u : ℕ} {s : Store} {path : List (Line 
 
   -- The cases in which only the goals change.
   pub reached-goals : {q : PaperSequent} {gs : List PaperSequent} {x : Line Leaf} {gs′ : List PaperSequent}
-      → (r : Reached cs g u s (q ∷ gs) path) → Takes s q gs x (r .follows .state) (onlyGoals (r .follows .state) (map (applySequent (solution s)) gs′))
+      → (r : Reached cs g u s (q ∷ gs) path)
+      → Takes s q gs x (r .follows .state) (onlyGoals (r .follows .state) (map (applySequent (solution s)) gs′))
       → Reached cs g (suc u) s gs′ (x ∷ path)
   unfolding identity
   reached-goals {gs′} r t = reached-by r (record {

@@ -16,11 +16,12 @@ use Rattle.unification.specs.Promises.{Solved}
 use Rattle.unification.proofs.Stores.{past-le, fresh-formed}
 use Rattle.unification.proofs.Promises.{unification}
 use Rattle.search.specs.Configurations.{Branch, branch, Atom}
-use Rattle.search.specs.Paper.{onNames, embed, applyG, Elaborated, elabs}
+use Rattle.search.specs.Paper.{replaceNames, embed, applyG, Elaborated, elabs}
 use Rattle.search.specs.Procedure.{PaperSequent, applySequent, State, relabel, paperBody, By, paperOf}
 use Rattle.search.proofs.PaperApply.{embeds-apply, formulasAt, sequents-composed}
 use Rattle.search.proofs.PaperElab.{formulaM, formulaE, elabs-apply}
-use Rattle.search.proofs.ProcedureFresh.{numbers, numbers-length, numbers-variables, numbers-below, numbers-new, numbers-distinct, fresh-labels, solution-new}
+use Rattle.search.proofs.ProcedureFresh.{numbers, numbers-length, numbers-variables, numbers-below, numbers-new, numbers-distinct}
+use Rattle.search.proofs.ProcedureFresh.{fresh-labels, solution-new}
 use Rattle.search.proofs.ProcedureRenaming.{freshEnvironment, freshRenaming, Older, fresh-apply, renaming-head, renaming-body}
 use Rattle.search.proofs.ProcedurePairs.{pushPairs-general}
 use Rattle.search.proofs.ProcedurePlaces.{StandsAt, stands-map}
@@ -31,15 +32,16 @@ use Rattle.search.proofs.ProcedureTried.{atomSequent, triedEnvironment,
 pub resolved : {cs : List Clause} {g : Goal} {u : ℕ} {s′ : Store} {b : Branch}
     → Resolving cs g u (pairs s′ []) b → Reached cs g u s′ (map paperOf (b .goals)) (b .path)
 unfolding By applyG fresh solution formulaM substitute at
-resolved {cs} {g} {u} {s′} {b} r = subst (λ b. Reached cs g u s′ (map paperOf (b .goals)) (b .path)) (sym (r .tried .branch)) (reached-by (r .reached) (record {
-  state = S₂;
-  takes = takes;
-  goals = refl;
-  composed = λ x. solved .composed (leaf (var x));
-  labels = solved .labels;
-  constants = r .reached .constants;
-  variables = subst (λ n. All (λ x. x < n) (ws ++ S₁ .variables)) (sym (solved .next)) low;
-}))
+resolved {cs} {g} {u} {s′} {b} r =
+    subst (λ b. Reached cs g u s′ (map paperOf (b .goals)) (b .path)) (sym (r .tried .branch)) (reached-by (r .reached) (record {
+      state = S₂;
+      takes = takes;
+      goals = refl;
+      composed = λ x. solved .composed (leaf (var x));
+      labels = solved .labels;
+      constants = r .reached .constants;
+      variables = subst (λ n. All (λ x. x < n) (ws ++ S₁ .variables)) (sym (solved .next)) low;
+    }))
   where
     s : Store
     s = r .tried .store
@@ -65,14 +67,14 @@ resolved {cs} {g} {u} {s′} {b} r = subst (λ b. Reached cs g u s′ (map paper
     vs : List ℕ
     vs = m .member .prefix
 
-    -- the fresh variables, which are unbound
+    -- The fresh variables have the numbers ws and are unbound.
     ws : List ℕ
     ws = numbers vs n
 
     unbound : Older S n
     unbound = solution-new s (r .tried .formed)
 
-    -- the state before, and its labels with theirs
+    -- The state before is S₁, and L is its labelling with the labels of the fresh variables.
     S₁ : State
     S₁ = r .reached .follows .state
 
@@ -84,7 +86,7 @@ resolved {cs} {g} {u} {s′} {b} r = subst (λ b. Reached cs g u s′ (map paper
         unification (fresh vs (a .level) s) (r .tried .pairs) L (fresh-formed vs (a .level) s (r .tried .formed)) (r .tried .below)
         (fresh-labels vs (a .level) s (S₁ .labels) (r .reached .follows .labels)) .solved (r .acts) s′ (r .comes)
 
-    -- the state after
+    -- The state after is S₂, with the member's body in front of the goals that waited.
     body : List (Sequent Leaf)
     body = bodySequent (m .member .body) (triedEnvironment s m) (a .program) (a .level)
 
@@ -102,7 +104,7 @@ resolved {cs} {g} {u} {s′} {b} r = subst (λ b. Reached cs g u s′ (map paper
         all-append (λ x. x < past vs n) ws (S₁ .variables) (numbers-below vs n)
         (all-weaken (λ x. x < n) (λ x. x < past vs n) (λ x l. let p = past-le vs n in omega arith) (S₁ .variables) (r .reached .variables))
 
-    -- the member of elab(𝒫), at its place
+    -- The member of elab(𝒫) stands at its place k.
     member : Elaborated
     member = formulaE (putEntry (at S) m)
 
@@ -111,26 +113,34 @@ resolved {cs} {g} {u} {s′} {b} r = subst (λ b. Reached cs g u s′ (map paper
         subst (λ l. StandsAt 1 l k member) (sym (elabs-apply (a .program) S))
         (stands-map (λ e. formulaE (putEntry (at S) e)) 1 (entries (a .program)) k m (r .tried .placed))
 
-    -- its head, renamed
+    -- The member's head is renamed by the fresh variables.
     arguments : Terms Leaf
     arguments = substitutes (m .member .arguments) (triedEnvironment s m)
 
-    applied : substitutes arguments (at S) ≡ substitutes (m .member .arguments) (freshEnvironment vs n (putEnvironment (at S) (m .environment)))
-    applied = substitutes-substitutes (m .member .arguments) (triedEnvironment s m) (at S) ∙ ap (substitutes (m .member .arguments)) (fresh-apply S vs n (m .environment) unbound)
+    applied : substitutes arguments (at S) ≡ substitutes (m .member .arguments)
+        (freshEnvironment vs n (putEnvironment (at S) (m .environment)))
+    applied =
+        substitutes-substitutes (m .member .arguments) (triedEnvironment s m) (at S)
+        ∙ ap (substitutes (m .member .arguments)) (fresh-apply S vs n (m .environment) unbound)
 
-    head : substitutes (member .arguments) (onNames (freshRenaming vs n)) ≡ substitutes (substitutes arguments (at S)) embed
-    head = renaming-head (m .member .arguments) vs n (putEnvironment (at S) (m .environment)) ∙ ap (λ ts. substitutes ts embed) (sym applied)
+    head : substitutes (member .arguments) (replaceNames (freshRenaming vs n)) ≡ substitutes (substitutes arguments (at S)) embed
+    head =
+        renaming-head (m .member .arguments) vs n (putEnvironment (at S) (m .environment)) ∙ ap (λ ts. substitutes ts embed) (sym applied)
 
-    -- its body, renamed, in front of the other goals
+    -- The member's body, renamed, stands in front of the other goals.
     rest : List PaperSequent
     rest = map (applySequent S) (map paperOf (before .goals))
 
     split : map (applySequent S) (map paperOf (body ++ before .goals)) ≡ map (applySequent S) (map paperOf body) ++ rest
-    split = ap (map (applySequent S)) (map-append paperOf body (before .goals)) ∙ map-append (applySequent S) (map paperOf body) (map paperOf (before .goals))
+    split =
+        ap (map (applySequent S)) (map-append paperOf body (before .goals))
+        ∙ map-append (applySequent S) (map paperOf body) (map paperOf (before .goals))
 
-    goals : map (applySequent (solved .mgu .to)) (paperBody (member .body) (freshRenaming vs n) (formulasAt S (a .program)) (a .level) ++ rest) ≡ S₂ .goals
+    goals : map (applySequent (solved .mgu .to))
+        (paperBody (member .body) (freshRenaming vs n) (formulasAt S (a .program)) (a .level) ++ rest) ≡ S₂ .goals
     goals =
-        ap (λ l. map (applySequent (solved .mgu .to)) (l ++ rest)) (renaming-body (m .member .body) vs n (m .environment) (a .program) (a .level) S unbound)
+        ap (λ l. map (applySequent (solved .mgu .to)) (l ++ rest))
+        (renaming-body (m .member .body) vs n (m .environment) (a .program) (a .level) S unbound)
         ∙ ap (map (applySequent (solved .mgu .to))) (sym split)
         ∙ sequents-composed S (solved .mgu .to) (solution s′) (solved .composed) (body ++ before .goals)
 

@@ -30,7 +30,7 @@ follows cs g n =
     Both : ℕ → Configuration → Type 0
     Both u c = Invariant c × Known cs g u c
 
--- T4
+-- Promise T4 holds: every search follows the derivation steps.
 pub allSteps : AllSteps
 unfolding FollowsSteps
 allSteps cs g = record {

@@ -39,7 +39,8 @@ unfolding freeFrom
 freeFrom-below zero v k g l = tt
 freeFrom-below (suc n) v k g l = go (freeG g v) (freeFrom-below n (suc v) k g (omega arith))
   where
-    go : (b : Bool) → All (λ x. x < k) (freeFrom n (suc v) g) → All (λ x. x < k) (elim b [ true ↦ v ∷ freeFrom n (suc v) g | false ↦ freeFrom n (suc v) g ])
+    go : (b : Bool) → All (λ x. x < k) (freeFrom n (suc v) g)
+        → All (λ x. x < k) (elim b [ true ↦ v ∷ freeFrom n (suc v) g | false ↦ freeFrom n (suc v) g ])
     go true h = (omega arith, h)
     go false h = h
 
@@ -47,7 +48,8 @@ module _ (cs : List Clause) (g₀ : Goal) where
   -- What is known of a configuration after u acts: where it stands in the procedure.
   unfoldable pub Known : ℕ → Configuration → Type 0
   Known u (take s q b) = Reached cs g₀ u s (map paperOf (q ∷ b .goals)) (b .path)
-  Known u (try s a m ms k b) = Reached cs g₀ u s (atomSequent a ∷ map paperOf (b .goals)) (b .path) × Placed 1 (entries (a .program)) k (m ∷ ms)
+  Known u (try s a m ms k b) =
+      Reached cs g₀ u s (atomSequent a ∷ map paperOf (b .goals)) (b .path) × Placed 1 (entries (a .program)) k (m ∷ ms)
   Known u (match m b) = Resolving cs g₀ u m b
   Known u (done s ls) = Reached cs g₀ u s [] ls
 
@@ -70,13 +72,15 @@ module _ (cs : List Clause) (g₀ : Goal) where
   -- Taking a goal: the cases of definition 6 but (vi) and (vii)
 
   -- The goals that wait come next.
-  proceed-known : (u : ℕ) (s : Store) (gs : List (Sequent Leaf)) (ls : List (Line Leaf)) → Reached cs g₀ u s (map paperOf gs) ls → All (Known u) (proceed s gs ls)
+  proceed-known : (u : ℕ) (s : Store) (gs : List (Sequent Leaf)) (ls : List (Line Leaf)) → Reached cs g₀ u s (map paperOf gs) ls
+      → All (Known u) (proceed s gs ls)
   unfolding proceed Known
   proceed-known u s [] ls r = (r, tt)
   proceed-known u s (q ∷ gs) ls r = (r, tt)
 
   -- The members that are left come next, at their places.
-  tryFrom-known : (u : ℕ) (s : Store) (a : Atom) (ms : List (Entry Leaf)) (k : ℕ) (b : Branch) → Reached cs g₀ u s (atomSequent a ∷ map paperOf (b .goals)) (b .path)
+  tryFrom-known : (u : ℕ) (s : Store) (a : Atom) (ms : List (Entry Leaf)) (k : ℕ) (b : Branch)
+      → Reached cs g₀ u s (atomSequent a ∷ map paperOf (b .goals)) (b .path)
       → Placed 1 (entries (a .program)) k ms → All (Known u) (tryFrom s a ms k b)
   unfolding tryFrom Known
   tryFrom-known u s a [] k b r p = tt
@@ -108,7 +112,8 @@ module _ (cs : List Clause) (g₀ : Goal) where
   settle-known u fail b h = tt
 
   -- A match begins.
-  tryMember-known : (u : ℕ) (s : Store) (a : Atom) (m : Entry Leaf) (ms : List (Entry Leaf)) (k : ℕ) (b : Branch) → Good (TryBelow a (m ∷ ms) (b .goals)) s
+  tryMember-known : (u : ℕ) (s : Store) (a : Atom) (m : Entry Leaf) (ms : List (Entry Leaf)) (k : ℕ) (b : Branch)
+      → Good (TryBelow a (m ∷ ms) (b .goals)) s
       → Reached cs g₀ u s (atomSequent a ∷ map paperOf (b .goals)) (b .path) → StandsAt 1 (entries (a .program)) k m
       → a .predicate ≡ m .member .predicate → All (Known u) (tryMember s a m k b)
   unfolding tryMember comparing settle matchSteps
@@ -149,7 +154,8 @@ module _ (cs : List Clause) (g₀ : Goal) where
       go true e = tryMember-known (suc u) s a m ms k b o (reached-more (h .0)) (h .1 .0) (eqb-true (a .predicate) (m .member .predicate) e)
       go false e = tt
   step-known u (match m b) o h =
-      settle-known (suc u) (matchStep m) b (record { tried = h .tried; reached = reached-more (h .reached); acts = suc (h .acts); comes = ap matchStep (h .comes) })
+      settle-known (suc u) (matchStep m) b
+      (record { tried = h .tried; reached = reached-more (h .reached); acts = suc (h .acts); comes = ap matchStep (h .comes) })
   step-known u (done s ls) o h = (reached-more h, tt)
 
   -- The start is definition 8's first state.

@@ -28,7 +28,7 @@ atomSequent a = paperSequent (g-atom (a .predicate) (substitutes (a .arguments) 
 abbrev pub triedEnvironment : Store → Entry Leaf → Environment Leaf
 triedEnvironment s m = freshEnvironment (m .member .prefix) (s .next) (m .environment)
 
--- qs are the pairs of the arguments of the atom and of the member, which are compared.
+-- The pairs qs are those of the arguments of the atom and of the member, which are compared.
 abbrev pub Compared : Store → Atom → Entry Leaf → List Pair → Type 0
 Compared s a m qs = pushPairs (a .arguments) (substitutes (m .member .arguments) (triedEnvironment s m)) [] ≡ some qs
 
@@ -40,14 +40,16 @@ triedBranch s a m k b =
 
 -- The pairs have only variables that have been made.
 pub compared-below : (s : Store) (a : Atom) (m : Entry Leaf) (qs : List Pair) → Formed s
-    → LeavesAll (a .arguments) (Below (s .next)) → EnvironmentBelow (s .next) (m .environment) → Compared s a m qs → All (BelowPair (past (m .member .prefix) (s .next))) qs
+    → LeavesAll (a .arguments) (Below (s .next)) → EnvironmentBelow (s .next) (m .environment) → Compared s a m qs
+    → All (BelowPair (past (m .member .prefix) (s .next))) qs
 unfolding Leaves comparing Running fresh
 compared-below s a m qs f h k e =
     let vs = m .member .prefix in
     let n = past vs (s .next) in
     let us = substitutes (m .member .arguments) (triedEnvironment s m) in
     subst (λ o. Running (λ n. Unit {0}) (comparing (fresh vs (a .level) s) o)) e
-    (comparing-running (λ n. Unit {0}) (fresh vs (a .level) s) (a .arguments) us [] (record { formed = fresh-formed vs (a .level) s f; extra = tt })
+    (comparing-running (λ n. Unit {0}) (fresh vs (a .level) s) (a .arguments) us []
+    (record { formed = fresh-formed vs (a .level) s f; extra = tt })
     (below-more (app 0 (a .arguments)) (s .next) n (past-le vs (s .next)) h)
     (substitutes-below (m .member .arguments) (triedEnvironment s m) n (prefix-below vs (s .next) (m .environment) k)) tt) .1
 

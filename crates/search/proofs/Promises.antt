@@ -5,18 +5,18 @@ use Rattle.search.proofs.ProcedureSearch.{allSteps}
 use Rattle.search.proofs.Sound.{sound}
 use Rattle.search.proofs.Complete.{complete}
 
--- T2
+-- Promise T2, on units, holds.
 pub units : AllUnits
 units = allUnits
 
--- T4
+-- Promise T4, on derivation steps, holds.
 pub derivationSteps : AllSteps
 derivationSteps = allSteps
 
--- T5
+-- Promise T5, soundness, holds.
 pub soundness : Soundness
 soundness = sound
 
--- T7
+-- Promise T7, completeness, holds.
 pub completeness : Completeness
 completeness = complete

@@ -13,7 +13,8 @@ use Rattle.terms.proofs.Lists.{all-append, map-append}
 use Rattle.terms.proofs.Terms.{substitutes-substitutes}
 use Rattle.formulas.specs.Formulas.{Goal, atom, truth, and, or, implies, exists, forall, Clause}
 use Rattle.sequents.specs.Symbols.{Symbol, Ground, level}
-use Rattle.sequents.specs.Sequents.{Environment, Program, Entry, entries, Sequent, sequent, assign, Dtrue, Dand, Dleft, Dright, Dassume, Line, plain, Dsome, Dall, Dclause, putTerms, putEnvironment, putProgram, putEntry, putSequent, putLine}
+use Rattle.sequents.specs.Sequents.{Environment, Program, Entry, entries, Sequent, sequent, assign, Dtrue, Dand, Dleft, Dright, Dassume}
+use Rattle.sequents.specs.Sequents.{Line, plain, Dsome, Dall, Dclause, putTerms, putEnvironment, putProgram, putEntry, putSequent, putLine}
 use Rattle.sequents.specs.Lines.{Uses, Infers, Leads, Derives}
 use Rattle.sequents.proofs.Sequents.{entries-put, assign-put, instance-put}
 use Rattle.sequents.proofs.Lines.{leads-append}
@@ -30,14 +31,16 @@ use Rattle.search.specs.Promises.{Sound}
 use Rattle.search.proofs.After.{proved-all}
 use Rattle.search.proofs.Invariant.{Invariant, start-invariant, step-keeps}
 use Rattle.search.proofs.Answers.{finalValues, final-valued, final-solves, final-level0}
-use Rattle.search.proofs.Values.{symbols, Valuation, valued, Solution, goalsAt, body-goals, update-goals, freshVariables-length, fresh-solution}
+use Rattle.search.proofs.Values.{symbols, Valuation, valued, Solution, goalsAt, body-goals, update-goals, freshVariables-length}
+use Rattle.search.proofs.Values.{fresh-solution}
 
 -- The lines with their values, in the order taken.
 abbrev pub linesAt : Valuation → List (Line Leaf) → List (Line Symbol)
 linesAt σ path = map (putLine (valued σ)) (reverse path)
 
--- the latest line is the last
-linesAt-cons : (σ : Valuation) (x : Line Leaf) (path : List (Line Leaf)) → linesAt σ (x ∷ path) ≡ linesAt σ path ++ (putLine (valued σ) x ∷ [])
+-- The latest line is the last in the order taken.
+linesAt-cons : (σ : Valuation) (x : Line Leaf) (path : List (Line Leaf))
+    → linesAt σ (x ∷ path) ≡ linesAt σ path ++ (putLine (valued σ) x ∷ [])
 linesAt-cons σ x path = ap (map (putLine (valued σ))) (reverse-cons x path) ∙ map-append (putLine (valued σ)) (reverse path) (x ∷ [])
 
 -- From the store s₀ and the sequent g₀ of the start.
@@ -47,9 +50,11 @@ module _ (s₀ : Store) (g₀ : Sequent Leaf) where
     pub first : Solution σ s₀
     pub leads : Leads path (putSequent (valued σ) g₀ ∷ []) gs
 
-  -- one line more
-  reaches-on : (σ : Valuation) (path : List (Line Leaf)) (g : Sequent Symbol) (gs rest : List (Sequent Symbol)) (x : Line Leaf) → Reaches σ (linesAt σ path) (g ∷ gs)
-      → Infers (putLine (valued σ) x) (g .goal) (g .environment) (g .program) (g .level) (λ new. new ++ gs ≡ rest) → Reaches σ (linesAt σ (x ∷ path)) rest
+  -- One more line, a step for the first goal, leads to what the step leaves.
+  reaches-on : (σ : Valuation) (path : List (Line Leaf)) (g : Sequent Symbol) (gs rest : List (Sequent Symbol)) (x : Line Leaf)
+      → Reaches σ (linesAt σ path) (g ∷ gs)
+      → Infers (putLine (valued σ) x) (g .goal) (g .environment) (g .program) (g .level) (λ new. new ++ gs ≡ rest)
+      → Reaches σ (linesAt σ (x ∷ path)) rest
   unfolding Leads
   reaches-on σ path g gs rest x r h = record {
     first = r .first;
@@ -57,35 +62,37 @@ module _ (s₀ : Store) (g₀ : Sequent Leaf) where
         (leads-append (linesAt σ path) (putLine (valued σ) x ∷ []) (putSequent (valued σ) g₀ ∷ []) (g ∷ gs) rest (r .leads) h);
   }
 
-  -- The invariant: every solution of the store reaches the goals;
+  -- Every solution of the store reaches the goals by the lines so far.
   abbrev pub SoundAt : Store → List (Sequent Leaf) → List (Line Leaf) → Type 0
   SoundAt s gs path = (σ : Valuation) → Solution σ s → Reaches σ (linesAt σ path) (goalsAt σ gs)
 
-  -- of a match under way, every solution of it;
+  -- Every solution of a match under way reaches the goals by the lines so far.
   abbrev pub SoundMatch : Matching → Branch → Type 0
   SoundMatch m b = (σ : Valuation) → SolvesMatching symbols σ m → Reaches σ (linesAt σ (b .path)) (goalsAt σ (b .goals))
 
-  -- of an atom that is tried with the members ms, every solution and every line that uses one of them.
+  -- For an atom tried with the members ms, each solution, with a line using one of them, reaches what the line leaves.
   abbrev pub SoundTry : Store → Atom → List (Entry Leaf) → ℕ → Branch → Type 0
   SoundTry s a ms k b = (σ : Valuation) → Solution σ s → (x : Line Leaf) (rest : List (Sequent Symbol))
-      → Uses (putLine (valued σ) x) (map (putEntry (valued σ)) ms) k (a .predicate) (substitutes (a .arguments) (valued σ)) (putProgram (valued σ) (a .program)) (a .level)
+      → Uses (putLine (valued σ) x) (map (putEntry (valued σ)) ms) k (a .predicate) (substitutes (a .arguments) (valued σ))
+      (putProgram (valued σ) (a .program)) (a .level)
       (λ new. new ++ goalsAt σ (b .goals) ≡ rest)
       → Reaches σ (linesAt σ (x ∷ b .path)) rest
 
-  -- so for each kind of configuration
+  -- The soundness invariant is stated for each kind of configuration.
   abbrev pub SoundConfiguration : Configuration → Type 0
   SoundConfiguration (take s g b) = SoundAt s (g ∷ b .goals) (b .path)
   SoundConfiguration (try s a m ms k b) = SoundTry s a (m ∷ ms) k b
   SoundConfiguration (match m b) = SoundMatch m b
   SoundConfiguration (done s path) = SoundAt s [] path
 
-  -- the acts: going on with the goals,
-  proceed-sound : (s : Store) (gs : List (Sequent Leaf)) (path : List (Line Leaf)) → SoundAt s gs path → All SoundConfiguration (proceed s gs path)
+  -- Going on with the goals keeps the soundness invariant.
+  proceed-sound : (s : Store) (gs : List (Sequent Leaf)) (path : List (Line Leaf)) → SoundAt s gs path
+      → All SoundConfiguration (proceed s gs path)
   unfolding proceed
   proceed-sound s [] path h = (h, tt)
   proceed-sound s (g ∷ gs) path h = (h, tt)
 
-  -- after an act of matching,
+  -- What follows an act of matching keeps the soundness invariant.
   settle-sound : (m : Matching) (b : Branch) → SoundMatch m b → All SoundConfiguration (settle m b)
   unfolding settle SolvesMatching
   settle-sound (pairs s []) b h = proceed-sound s (b .goals) (b .path) (λ σ v. h σ (v, tt))
@@ -93,14 +100,16 @@ module _ (s₀ : Store) (g₀ : Sequent Leaf) where
   settle-sound (check s y t n ns ps) b h = (h, tt)
   settle-sound fail b h = tt
 
-  -- with the members left,
-  tryFrom-sound : (s : Store) (a : Atom) (ms : List (Entry Leaf)) (k : ℕ) (b : Branch) → SoundTry s a ms k b → All SoundConfiguration (tryFrom s a ms k b)
+  -- Going on to the members left keeps the soundness invariant.
+  tryFrom-sound : (s : Store) (a : Atom) (ms : List (Entry Leaf)) (k : ℕ) (b : Branch) → SoundTry s a ms k b
+      → All SoundConfiguration (tryFrom s a ms k b)
   unfolding tryFrom
   tryFrom-sound s a [] k b h = tt
   tryFrom-sound s a (m ∷ ms) k b h = (h, tt)
 
-  -- with the member of a try, its fresh variables having their values,
-  tryMember-sound : (s : Store) (a : Atom) (m : Entry Leaf) (ms : List (Entry Leaf)) (k : ℕ) (b : Branch) → a .predicate ≡ m .member .predicate → SoundTry s a (m ∷ ms) k b
+  -- Trying a member keeps the soundness invariant, its fresh variables having their values.
+  tryMember-sound : (s : Store) (a : Atom) (m : Entry Leaf) (ms : List (Entry Leaf)) (k : ℕ) (b : Branch)
+      → a .predicate ≡ m .member .predicate → SoundTry s a (m ∷ ms) k b
       → All SoundConfiguration (tryMember s a m k b)
   unfolding tryMember putLine place
   tryMember-sound s a m ms k b q h = settle-sound _ _ (λ σ v.
@@ -110,7 +119,8 @@ module _ (s₀ : Store) (g₀ : Sequent Leaf) where
       let e = assign vs xs (m .environment) in
       let r = comparing-sound symbols σ (fresh vs (a .level) s) (a .arguments) (substitutes (m .member .arguments) e) [] v in
       let z = fresh-solution vs (a .level) s σ (r .0) in
-      let values : putEnvironment θ e ≡ assign vs (putTerms θ xs) (putEnvironment θ (m .environment)) = assign-put θ vs xs (m .environment) in
+      let values : putEnvironment θ e ≡ assign vs (putTerms θ xs) (putEnvironment θ (m .environment)) =
+      assign-put θ vs xs (m .environment) in
       h σ (z .0) (Dclause k xs) _ (record {
         used = putEntry θ m;
         at = here;
@@ -122,15 +132,18 @@ module _ (s₀ : Store) (g₀ : Sequent Leaf) where
         premises = body-goals σ (m .member .body) e _ (a .program) (a .level) (b .goals) values;
       }))
 
-  -- taking a goal: the line that it adds is a step for it;
-  takeGoal-sound : (u : ℕ) (s : Store) (g : Goal) (e : Environment Leaf) (P : Program Leaf) (i : ℕ) (b : Branch) → SoundAt s (sequent g e P i ∷ b .goals) (b .path)
+  -- Taking a goal keeps the soundness invariant, since the line that it adds is a step for the goal.
+  takeGoal-sound : (u : ℕ) (s : Store) (g : Goal) (e : Environment Leaf) (P : Program Leaf) (i : ℕ) (b : Branch)
+      → SoundAt s (sequent g e P i ∷ b .goals) (b .path)
       → All SoundConfiguration (takeGoal u s g e P i b)
   unfolding takeGoal Infers putLine value substitute symbols freshVariables
   takeGoal-sound u s (atom p ts) e P i b h = tryFrom-sound s _ (entries P) 1 b (λ σ v x rest k.
       reaches-on σ (b .path) _ (goalsAt σ (b .goals)) rest x (h σ v)
-      (subst₂ (λ (l : List (Entry Symbol)) (us : Terms Symbol). Uses (putLine (valued σ) x) l 1 p us (putProgram (valued σ) P) i (λ new. new ++ goalsAt σ (b .goals) ≡ rest))
+      (subst₂ (λ (l : List (Entry Symbol)) (us : Terms Symbol). Uses (putLine (valued σ) x) l 1 p us (putProgram (valued σ) P) i
+      (λ new. new ++ goalsAt σ (b .goals) ≡ rest))
       (sym (entries-put (valued σ) P)) (substitutes-substitutes ts e (valued σ)) k))
-  takeGoal-sound u s truth e P i b h = proceed-sound s (b .goals) (plain Dtrue ∷ b .path) (λ σ v. reaches-on σ (b .path) _ _ _ (plain Dtrue) (h σ v) (refl, refl))
+  takeGoal-sound u s truth e P i b h =
+      proceed-sound s (b .goals) (plain Dtrue ∷ b .path) (λ σ v. reaches-on σ (b .path) _ _ _ (plain Dtrue) (h σ v) (refl, refl))
   takeGoal-sound u s (and g k) e P i b h = ((λ σ v. reaches-on σ (b .path) _ _ _ (plain Dand) (h σ v) (refl, refl)), tt)
   takeGoal-sound u s (or g k) e P i b h = (
     (λ σ v. reaches-on σ (b .path) _ _ _ (plain Dleft) (h σ v) (inl (refl, refl))),
@@ -140,15 +153,17 @@ module _ (s₀ : Store) (g₀ : Sequent Leaf) where
   takeGoal-sound u s (exists v g) e P i b h = (
     (λ σ w.
         let q = fresh-solution (v ∷ []) i s σ w in
-        reaches-on σ (b .path) _ _ _ (Dsome (leaf (var (s .next)))) (h σ (q .0)) (σ (s .next), refl, q .1 .0, update-goals σ g e v (leaf (var (s .next))) P i (b .goals))),
+        reaches-on σ (b .path) _ _ _ (Dsome (leaf (var (s .next)))) (h σ (q .0))
+        (σ (s .next), refl, q .1 .0, update-goals σ g e v (leaf (var (s .next))) P i (b .goals))),
     tt,
   )
   takeGoal-sound u s (forall v g) e P i b h = (
-    (λ σ w. reaches-on σ (b .path) _ _ _ (Dall (leaf (con u (suc i)))) (h σ w) (u, refl, update-goals σ g e v (leaf (con u (suc i))) P (suc i) (b .goals))),
+    (λ σ w. reaches-on σ (b .path) _ _ _ (Dall (leaf (con u (suc i)))) (h σ w)
+        (u, refl, update-goals σ g e v (leaf (con u (suc i))) P (suc i) (b .goals))),
     tt,
   )
 
-  -- so every act keeps the invariant
+  -- Every act keeps the soundness invariant.
   pub step-sound : (u : ℕ) (c : Configuration) → SoundConfiguration c → All SoundConfiguration (step u c)
   unfolding step place
   step-sound u (take s g b) h = takeGoal-sound u s (g .goal) (g .environment) (g .program) (g .level) b h
@@ -172,20 +187,23 @@ module _ (s₀ : Store) (g₀ : Sequent Leaf) where
   step-sound u (match m b) h = settle-sound (matchStep m) b (λ σ v. h σ (matchStep-sound symbols σ m v))
   step-sound u (done s path) h = (h, tt)
 
--- the start, which needs no line
+-- The soundness invariant holds at the start, which needs no line.
 start-sound : (cs : List Clause) (g : Goal) → All (SoundConfiguration startStore (startGoal cs g)) (start cs g)
 unfolding start Leads
 start-sound cs g = ((λ σ v. record { first = v; leads = refl }), tt)
 
--- the end: no goal is left, and the final values are a solution
-pub sound : (cs : List Clause) (g : Goal) (budget n : ℕ) (s : Store) (path : List (Line Leaf)) → search budget cs g ≡ ends (proved s path) n → Sound cs g s path
+-- At the end no goal is left and the final values are a solution, so that T5 holds.
+pub sound : (cs : List Clause) (g : Goal) (budget n : ℕ) (s : Store) (path : List (Line Leaf))
+    → search budget cs g ≡ ends (proved s path) n → Sound cs g s path
 unfolding Invariant startStore startGoal finalLines finalEnvironment level symbols value
 sound cs g budget n s path e =
     let formed : Formed s = proved-all cs g Invariant (start-invariant cs g) step-keeps budget n s path e in
     let r : Reaches startStore (startGoal cs g) (finalValues s) (linesAt (finalValues s) path) [] =
-    proved-all cs g (SoundConfiguration startStore (startGoal cs g)) (start-sound cs g) (step-sound startStore (startGoal cs g)) budget n s path e (finalValues s) (final-solves s formed) in
+    proved-all cs g (SoundConfiguration startStore (startGoal cs g)) (start-sound cs g)
+    (step-sound startStore (startGoal cs g)) budget n s path e (finalValues s) (final-solves s formed) in
     record {
       level0 = final-level0 s (λ x l. subst (λ (θ : Leaf → Ground). level (θ (var x)) ≤ 0) (final-valued s) (r .first .levels x l));
       derives = subst (λ (q : Sequent Symbol). Derives (finalLines s path) (q ∷ [])) (instance-put (final s) cs g startEnvironment)
-          (subst (λ (θ : Leaf → Ground). Derives (map (putLine θ) (reverse path)) (putSequent θ (startGoal cs g) ∷ [])) (final-valued s) (r .leads));
+          (subst (λ (θ : Leaf → Ground). Derives (map (putLine θ) (reverse path)) (putSequent θ (startGoal cs g) ∷ [])) (final-valued s)
+          (r .leads));
     }

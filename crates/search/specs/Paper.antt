@@ -21,7 +21,7 @@ abbrev pub Names : Type 0
 Names = ℕ → Term PaperLeaf
 
 mutual
-  -- G ::= A | true | G ∧ G | G ∨ G | D ⊃ G | ∃x G | ∀x G
+  -- The goals are G ::= A | true | G ∧ G | G ∨ G | D ⊃ G | ∃x G | ∀x G.
   pub data G : Type 0 where
     g-atom : ℕ → Terms PaperLeaf → G
     g-true : G
@@ -29,7 +29,7 @@ mutual
     g-implies : D → G → G
     g-exists g-forall : ℕ → G → G
 
-  -- D ::= A | G ⊃ A | D ∧ D | ∀x D
+  -- The clauses are D ::= A | G ⊃ A | D ∧ D | ∀x D.
   pub data D : Type 0 where
     d-atom : ℕ → Terms PaperLeaf → D
     d-implies : G → ℕ → Terms PaperLeaf → D
@@ -37,16 +37,16 @@ mutual
     d-forall : ℕ → D → D
 
 -- Terms for names.
-unfoldable pub onNames : Names → PaperLeaf → Term PaperLeaf
-onNames ρ (name v) = ρ v
-onNames ρ (free l) = leaf (free l)
+unfoldable pub replaceNames : Names → PaperLeaf → Term PaperLeaf
+replaceNames ρ (name v) = ρ v
+replaceNames ρ (free l) = leaf (free l)
 
 abbrev pub bound : Names → ℕ → Names
 bound ρ v = update ρ v (leaf (name v))
 
 unfoldable mutual
   pub putG : G → Names → G
-  putG (g-atom p ts) ρ = g-atom p (substitutes ts (onNames ρ))
+  putG (g-atom p ts) ρ = g-atom p (substitutes ts (replaceNames ρ))
   putG g-true ρ = g-true
   putG (g-and a b) ρ = g-and (putG a ρ) (putG b ρ)
   putG (g-or a b) ρ = g-or (putG a ρ) (putG b ρ)
@@ -55,12 +55,12 @@ unfoldable mutual
   putG (g-forall v g) ρ = g-forall v (putG g (bound ρ v))
 
   pub putD : D → Names → D
-  putD (d-atom p ts) ρ = d-atom p (substitutes ts (onNames ρ))
-  putD (d-implies g p ts) ρ = d-implies (putG g ρ) p (substitutes ts (onNames ρ))
+  putD (d-atom p ts) ρ = d-atom p (substitutes ts (replaceNames ρ))
+  putD (d-implies g p ts) ρ = d-implies (putG g ρ) p (substitutes ts (replaceNames ρ))
   putD (d-and a b) ρ = d-and (putD a ρ) (putD b ρ)
   putD (d-forall v d) ρ = d-forall v (putD d (bound ρ v))
 
--- [t/x]G
+-- The formula [t/x]G is G with the term t for the free name x.
 unfoldable pub replace : G → ℕ → Term PaperLeaf → G
 replace g x t = putG g (update (λ v. leaf (name v)) x t)
 
@@ -68,14 +68,14 @@ replace g x t = putG g (update (λ v. leaf (name v)) x t)
 unfoldable pub embed : Leaf → Term PaperLeaf
 embed l = leaf (free l)
 
--- θ(G): terms for logic variables.
-unfoldable pub onFree : (ℕ → Term Leaf) → PaperLeaf → Term PaperLeaf
-onFree θ (name v) = leaf (name v)
-onFree θ (free l) = substitute (at θ l) embed
+-- The formula θ(G) is G with terms for logic variables.
+unfoldable pub replaceFree : (ℕ → Term Leaf) → PaperLeaf → Term PaperLeaf
+replaceFree θ (name v) = leaf (name v)
+replaceFree θ (free l) = substitute (at θ l) embed
 
 unfoldable mutual
   pub applyG : G → (ℕ → Term Leaf) → G
-  applyG (g-atom p ts) θ = g-atom p (substitutes ts (onFree θ))
+  applyG (g-atom p ts) θ = g-atom p (substitutes ts (replaceFree θ))
   applyG g-true θ = g-true
   applyG (g-and a b) θ = g-and (applyG a θ) (applyG b θ)
   applyG (g-or a b) θ = g-or (applyG a θ) (applyG b θ)
@@ -84,8 +84,8 @@ unfoldable mutual
   applyG (g-forall v g) θ = g-forall v (applyG g θ)
 
   pub applyD : D → (ℕ → Term Leaf) → D
-  applyD (d-atom p ts) θ = d-atom p (substitutes ts (onFree θ))
-  applyD (d-implies g p ts) θ = d-implies (applyG g θ) p (substitutes ts (onFree θ))
+  applyD (d-atom p ts) θ = d-atom p (substitutes ts (replaceFree θ))
+  applyD (d-implies g p ts) θ = d-implies (applyG g θ) p (substitutes ts (replaceFree θ))
   applyD (d-and a b) θ = d-and (applyD a θ) (applyD b θ)
   applyD (d-forall v d) θ = d-forall v (applyD d θ)
 
@@ -140,7 +140,7 @@ unfoldable mutual
   inD (d-and a b) v = inD a v || inD b v
   inD (d-forall w d) v = not (eqb w v) && inD d v
 
--- ∀x₁ … ∀xₙ A or ∀x₁ … ∀xₙ (G ⊃ A)
+-- An elaborated member is ∀x₁ … ∀xₙ A or ∀x₁ … ∀xₙ (G ⊃ A).
 pub record Elaborated : Type 0 where
   pub prefix : List ℕ
   pub predicate : ℕ

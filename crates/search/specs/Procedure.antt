@@ -10,14 +10,16 @@ use lib.ListN.{length}
 use Rattle.terms.specs.Lists.{All, Mem, place, update}
 use Rattle.terms.specs.Terms.{Term, leaf, app, Terms, substitutes}
 use Rattle.formulas.specs.Formulas.{Goal, Clause, freeVariables}
-use Rattle.sequents.specs.Sequents.{Environment, Hypothesis, Program, Sequent, Word, Dtrue, Dand, Dleft, Dright, Dassume, Line, plain, Dsome, Dall, Dclause}
+use Rattle.sequents.specs.Sequents.{Environment, Hypothesis, Program, Sequent, Word, Dtrue, Dand, Dleft, Dright, Dassume, Line, plain}
+use Rattle.sequents.specs.Sequents.{Dsome, Dall, Dclause}
 use Rattle.sequents.specs.Derivations.{sheetProgram}
 use Rattle.unification.specs.Store.{Leaf, var, con, apply}
 use Rattle.unification.specs.Labelled.{Substitution, Labelling, Induced, MostGeneral}
-use Rattle.search.specs.Paper.{PaperLeaf, name, free, Names, onNames, embed, G, g-atom, g-true, g-and, g-or, g-implies, g-exists, g-forall, D, putG, replace, applyG, applyD, formulaG, formulaD, names, Elaborated, elabs}
+use Rattle.search.specs.Paper.{PaperLeaf, name, free, Names, replaceNames, embed, G, g-atom, g-true, g-and, g-or, g-implies, g-exists}
+use Rattle.search.specs.Paper.{g-forall, D, putG, replace, applyG, applyD, formulaG, formulaD, names, Elaborated, elabs}
 use Rattle.search.specs.Search.{startEnvironment}
 
--- ⟨G, 𝒫, I⟩
+-- A sequent of the paper is ⟨G, 𝒫, I⟩.
 pub record PaperSequent : Type 0 where
   pub goal : G
   pub program : List D
@@ -26,11 +28,11 @@ pub record PaperSequent : Type 0 where
 abbrev pub paperSequent : G → List D → ℕ → PaperSequent
 paperSequent g P i = record { goal = g; program = P; level = i }
 
--- σ applied to ⟨G, 𝒫, I⟩
+-- Applies σ to ⟨G, 𝒫, I⟩.
 abbrev pub applySequent : (ℕ → Term Leaf) → PaperSequent → PaperSequent
 applySequent σ q = paperSequent (applyG (q .goal) σ) (map (λ d. applyD d σ) (q .program)) (q .level)
 
--- ⟨𝒢, 𝒞, 𝒱, ℒ, θ⟩
+-- A state is ⟨𝒢, 𝒞, 𝒱, ℒ, θ⟩.
 pub record State : Type 0 where
   pub goals : List PaperSequent
   pub constants : List (ℕ × ℕ)
@@ -38,7 +40,7 @@ pub record State : Type 0 where
   pub labels : Labelling
   pub substitution : Substitution
 
--- ∅
+-- The substitution ∅ maps each variable to itself.
 unfoldable pub identity : Substitution
 identity = record { to = λ x. leaf (var x); beyond = 0; finite = λ x h. refl }
 
@@ -67,7 +69,8 @@ paperBody (some g) ρ P i = paperSequent (putG g ρ) P i ∷ []
 
 -- (vi) and (vii): a member of elab(𝒫), the line naming its place and the new variables. Outside a quantifier terms have no
 -- names: they are terms of the search (left, right).
-pub record Resolved (x : Line Leaf) (p : ℕ) (ts : Terms PaperLeaf) (P : List D) (i : ℕ) (before after : List PaperSequent) (S₁ S₂ : State) : Type 0 where
+pub record Resolved (x : Line Leaf) (p : ℕ) (ts : Terms PaperLeaf) (P : List D) (i : ℕ) (before after : List PaperSequent)
+    (S₁ S₂ : State) : Type 0 where
   pub clause : Elaborated
   pub within : Mem clause (elabs P)
   pub ws : List ℕ
@@ -78,10 +81,12 @@ pub record Resolved (x : Line Leaf) (p : ℕ) (ts : Terms PaperLeaf) (P : List D
   pub left : Terms Leaf
   pub right : Terms Leaf
   pub is-left : ts ≡ substitutes left embed
-  pub is-right : substitutes (clause .arguments) (onNames (renaming (clause .prefix) ws (λ v. leaf (name v)))) ≡ substitutes right embed
+  pub is-right : substitutes (clause .arguments) (replaceNames (renaming (clause .prefix) ws (λ v. leaf (name v)))) ≡ substitutes right
+      embed
   pub σ : Substitution
   pub general : MostGeneral (relabel ws i (S₁ .labels)) (record { goal = app p left; clause = app (clause .predicate) right } ∷ []) σ
-  pub goals : S₂ .goals ≡ map (applySequent (σ .to)) (before ++ (paperBody (clause .body) (renaming (clause .prefix) ws (λ v. leaf (name v))) P i ++ after))
+  pub goals : S₂ .goals ≡ map (applySequent (σ .to))
+      (before ++ (paperBody (clause .body) (renaming (clause .prefix) ws (λ v. leaf (name v))) P i ++ after))
   pub constants : S₂ .constants ≡ S₁ .constants
   pub variables : S₂ .variables ≡ ws ++ S₁ .variables
   pub substitution : S₂ .substitution ≡ σ
@@ -89,14 +94,14 @@ pub record Resolved (x : Line Leaf) (p : ℕ) (ts : Terms PaperLeaf) (P : List D
 
 -- Definition 6, the sequent taken being ⟨G, P, i⟩ between before and after, and the D line naming the case.
 unfoldable pub By : Line Leaf → G → List D → ℕ → List PaperSequent → List PaperSequent → State → State → Type 0
--- added by document 01
+-- The case of true is added by document 01.
 By x g-true P i before after S₁ S₂ = (x ≡ plain Dtrue) × (S₂ ≡ onlyGoals S₁ (before ++ after))
--- (i)
+-- Case (i) is that of a conjunction.
 By x (g-and a b) P i before after S₁ S₂ = (x ≡ plain Dand) × (S₂ ≡ onlyGoals S₁ (before ++ paperSequent a P i ∷ paperSequent b P i ∷ after))
--- (ii)
+-- Case (ii) is that of a disjunction.
 By x (g-or a b) P i before after S₁ S₂ = ((x ≡ plain Dleft) × (S₂ ≡ onlyGoals S₁ (before ++ paperSequent a P i ∷ after)))
     ⊎ ((x ≡ plain Dright) × (S₂ ≡ onlyGoals S₁ (before ++ paperSequent b P i ∷ after)))
--- (iii)
+-- Case (iii) is that of an existential goal.
 By x (g-exists v g) P i before after S₁ S₂ = (w : ℕ) × (x ≡ Dsome (leaf (var w))) × (Mem w (S₁ .variables) → ⊥) × (S₂ ≡ record {
   goals = before ++ paperSequent (replace g v (leaf (free (var w)))) P i ∷ after;
   constants = S₁ .constants;
@@ -104,17 +109,18 @@ By x (g-exists v g) P i before after S₁ S₂ = (w : ℕ) × (x ≡ Dsome (leaf
   labels = update (S₁ .labels) w i;
   substitution = identity;
 })
--- (iv)
+-- Case (iv) is that of an implication.
 By x (g-implies d g) P i before after S₁ S₂ = (x ≡ plain Dassume) × (S₂ ≡ onlyGoals S₁ (before ++ paperSequent g (d ∷ P) i ∷ after))
--- (v)
-By x (g-forall v g) P i before after S₁ S₂ = (c : ℕ) × (x ≡ Dall (leaf (con c (suc i)))) × (Mem (c, suc i) (S₁ .constants) → ⊥) × (S₂ ≡ record {
-  goals = before ++ paperSequent (replace g v (leaf (free (con c (suc i))))) P (suc i) ∷ after;
-  constants = (c, suc i) ∷ S₁ .constants;
-  variables = S₁ .variables;
-  labels = S₁ .labels;
-  substitution = identity;
-})
--- (vi), (vii)
+-- Case (v) is that of a universal goal.
+By x (g-forall v g) P i before after S₁ S₂ =
+    (c : ℕ) × (x ≡ Dall (leaf (con c (suc i)))) × (Mem (c, suc i) (S₁ .constants) → ⊥) × (S₂ ≡ record {
+      goals = before ++ paperSequent (replace g v (leaf (free (con c (suc i))))) P (suc i) ∷ after;
+      constants = (c, suc i) ∷ S₁ .constants;
+      variables = S₁ .variables;
+      labels = S₁ .labels;
+      substitution = identity;
+    })
+-- Cases (vi) and (vii) are those of an atom.
 By x (g-atom p ts) P i before after S₁ S₂ = Resolved x p ts P i before after S₁ S₂
 
 -- S₂ is derived from S₁ by definition 6, whichever sequent is taken.
@@ -133,9 +139,10 @@ pub record DerivedInFront (x : Line Leaf) (S₁ S₂ : State) : Type 0 where
 -- Definition 7: a derivation sequence, its lines latest first: from S₀ to S by the states between.
 pub data DerivationSequence (S₀ : State) : List (Line Leaf) → State → Type 0 where
   start : DerivationSequence S₀ [] S₀
-  then : {ls : List (Line Leaf)} {S₁ S₂ : State} (x : Line Leaf) → DerivationSequence S₀ ls S₁ → DerivedInFront x S₁ S₂ → DerivationSequence S₀ (x ∷ ls) S₂
+  then : {ls : List (Line Leaf)} {S₁ S₂ : State} (x : Line Leaf) → DerivationSequence S₀ ls S₁ → DerivedInFront x S₁ S₂
+      → DerivationSequence S₀ (x ∷ ls) S₂
 
--- θₙ ∘ … ∘ θ₁
+-- The composition of the sequence's substitutions is θₙ ∘ … ∘ θ₁.
 unfoldable pub composition : {S₀ : State} {ls : List (Line Leaf)} {S : State} → DerivationSequence S₀ ls S → ℕ → Term Leaf
 composition {S₀ = S₀} start x = S₀ .substitution .to x
 composition (then {S₂ = S₂} l d h) x = apply (composition d x) (S₂ .substitution .to)

@@ -19,7 +19,8 @@ use Rattle.search.specs.Configurations.{Atom, Configuration, take, try, 
 use Rattle.search.specs.Search.{Verdict, proved, noProof, ComesTo, Outcome, ends, spent, search, after}
 use Rattle.search.specs.Answers.{finalEnvironment, finalLines}
 use Rattle.search.specs.Paper.{g-atom, embed}
-use Rattle.search.specs.Procedure.{PaperSequent, paperSequent, applySequent, State, DerivationSequence, composition, formulasOf, paperOf, initial}
+use Rattle.search.specs.Procedure.{PaperSequent, paperSequent, applySequent, State, DerivationSequence, composition, formulasOf}
+use Rattle.search.specs.Procedure.{paperOf, initial}
 
 -- T2, demand 3: "Whoever is told proved or no is told what the walk of document 01 comes to, with its units"; "told spent
 -- exactly if the walk needs more units than the budget". What it comes to is one thing.
@@ -50,14 +51,15 @@ pub record Follows (cs : List Clause) (g : Goal) (s : Store) (gs : List PaperSeq
   pub state : State
   pub sequence : DerivationSequence (initial cs g) path state
   pub goals : state .goals ≡ map (applySequent (solution s)) gs
-  -- its labels are the store's levels, and the bindings are the composition of the sequence's substitutions
+  -- The state's labels are the store's levels, and the bindings are the composition of the sequence's substitutions.
   pub labels : Labels (state .labels) s
   pub answer : (x : ℕ) → composition sequence x ≡ solution s x
 
 unfoldable pub FollowsSteps : List Clause → Goal → Configuration → Type 0
 FollowsSteps cs g (take s q b) = Follows cs g s (map paperOf (q ∷ b .goals)) (b .path)
 FollowsSteps cs g (try s a m ms k b) =
-    Follows cs g s (paperSequent (g-atom (a .predicate) (substitutes (a .arguments) embed)) (formulasOf (a .program)) (a .level) ∷ map paperOf (b .goals)) (b .path)
+    Follows cs g s (paperSequent (g-atom (a .predicate) (substitutes (a .arguments) embed)) (formulasOf (a .program))
+    (a .level) ∷ map paperOf (b .goals)) (b .path)
 FollowsSteps cs g (match m b) = Unit {0}
 FollowsSteps cs g (done s ls) = Follows cs g s [] ls
 
@@ -65,7 +67,8 @@ pub record DerivationSteps (cs : List Clause) (g : Goal) : Type 0 where
   pub formed : (n : ℕ) → All WellFormed (after cs g n)
   pub follows : (n : ℕ) → All (FollowsSteps cs g) (after cs g n)
   -- Definition 8: a proved search is a derivation of the goal; its answer substitution is what the final store gives.
-  pub derivation : (budget n : ℕ) (s : Store) (path : List (Line Leaf)) → search budget cs g ≡ ends (proved s path) n → Follows cs g s [] path
+  pub derivation : (budget n : ℕ) (s : Store) (path : List (Line Leaf)) → search budget cs g ≡ ends (proved s path) n
+      → Follows cs g s [] path
 
 -- T5: the lines of a proved search, with final bindings and levels, derive that instance of the goal.
 pub record Sound (cs : List Clause) (g : Goal) (s : Store) (path : List (Line Leaf)) : Type 0 where
@@ -73,7 +76,9 @@ pub record Sound (cs : List Clause) (g : Goal) (s : Store) (path : List (Line Le
   pub derives : Derives (finalLines s path) (instanceOf cs g (finalEnvironment s) ∷ [])
 
 abbrev pub Soundness : Type 0
-Soundness = (cs : List Clause) (g : Goal) (budget n : ℕ) (s : Store) (path : List (Line Leaf)) → search budget cs g ≡ ends (proved s path) n → Sound cs g s path
+Soundness =
+    (cs : List Clause) (g : Goal) (budget n : ℕ) (s : Store) (path : List (Line Leaf)) → search budget cs g ≡ ends (proved s path) n
+    → Sound cs g s path
 
 -- The goal's free variables are names of a sheet, 0 to 7: the names to which the start gives a variable.
 abbrev pub SheetNames : Goal → Type 0
@@ -85,10 +90,10 @@ abbrev pub Completeness : Type 0
 Completeness = (cs : List Clause) (g : Goal) (e : Environment Symbol) → All Closed cs → SheetNames g → InstanceDerivation cs g e
     → (budget n : ℕ) → search budget cs g ≡ ends noProof n → ⊥
 
--- T2
+-- Promise T2 is for all clauses and every goal.
 abbrev pub AllUnits : Type 0
 AllUnits = (cs : List Clause) (g : Goal) → Units cs g
 
--- T4
+-- Promise T4 is for all clauses and every goal.
 abbrev pub AllSteps : Type 0
 AllSteps = (cs : List Clause) (g : Goal) → DerivationSteps cs g

@@ -9,7 +9,8 @@ use Rattle.terms.specs.Lists.{update}
 use Rattle.terms.specs.Terms.{Term, leaf, Terms, substitutes}
 use Rattle.formulas.specs.Formulas.{Goal, atom, truth, and, or, implies, exists, forall, Clause}
 use Rattle.formulas.specs.Members.{Member}
-use Rattle.sequents.specs.Sequents.{Environment, Program, hypothesis, Entry, entries, Sequent, sequent, assign, bodySequent, Word, Dtrue, Dand, Dleft, Dright, Dassume, Line, plain, Dsome, Dall, Dclause}
+use Rattle.sequents.specs.Sequents.{Environment, Program, hypothesis, Entry, entries, Sequent, sequent, assign, bodySequent, Word, Dtrue}
+use Rattle.sequents.specs.Sequents.{Dand, Dleft, Dright, Dassume, Line, plain, Dsome, Dall, Dclause}
 use Rattle.unification.specs.Store.{Leaf, var, con, Store, fresh, freshVariables}
 use Rattle.unification.specs.Matching.{Pair, Matching, pairs, check, fail, pushPairs, comparing, matchStep}
 use Rattle.search.specs.Configurations.{Branch, branch, Atom, Configuration, take, try, match, done}
@@ -41,11 +42,13 @@ tryMember s a m k b =
 
 -- Taking a goal. A made constant gets the number u of acts done before: no two acts make the same one.
 unfoldable pub takeGoal : ℕ → Store → Goal → Environment Leaf → Program Leaf → ℕ → Branch → List Configuration
-takeGoal u s (atom p ts) e P i b = tryFrom s (record { predicate = p; arguments = substitutes ts e; program = P; level = i }) (entries P) 1 b
+takeGoal u s (atom p ts) e P i b =
+    tryFrom s (record { predicate = p; arguments = substitutes ts e; program = P; level = i }) (entries P) 1 b
 takeGoal u s truth e P i b = proceed s (b .goals) (plain Dtrue ∷ b .path)
 takeGoal u s (and g h) e P i b = take s (sequent g e P i) (branch (sequent h e P i ∷ b .goals) (plain Dand ∷ b .path)) ∷ []
 takeGoal u s (or g h) e P i b =
-    take s (sequent g e P i) (branch (b .goals) (plain Dleft ∷ b .path)) ∷ take s (sequent h e P i) (branch (b .goals) (plain Dright ∷ b .path)) ∷ []
+    take s (sequent g e P i) (branch (b .goals) (plain Dleft ∷ b .path)) ∷ take s (sequent h e P i)
+    (branch (b .goals) (plain Dright ∷ b .path)) ∷ []
 takeGoal u s (implies c g) e P i b = take s (sequent g e (hypothesis c e ∷ P) i) (branch (b .goals) (plain Dassume ∷ b .path)) ∷ []
 takeGoal u s (exists v g) e P i b =
     let x = leaf (var (s .next)) in

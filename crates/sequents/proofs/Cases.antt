@@ -13,7 +13,7 @@ use Rattle.sequents.specs.Derivations.{Derivation, d-assume, d-all, d-cl
 abbrev none-bound : Environment Symbol
 none-bound v = app 0 nil
 
--- the predicates of a program's members in trying order: latest assumption first, within a clause left first
+-- Lists the predicates of a program's members in trying order: latest assumption first, within a clause left first.
 unfoldable trying : Program Symbol → List ℕ
 unfolding entries members quantify standsFree freeT freeG freeB elem
 trying P = map (λ m. m .member .predicate) (entries P)
@@ -22,7 +22,7 @@ order : trying (hypothesis (both (fact 5 nil) (fact 6 nil)) none-bound ∷ hypot
 unfolding trying
 order = refl
 
--- p implies every x q, with the clause q of the sheet: the member used stands at place 2, after the assumption
+-- For p implies every x q, with the clause q of the sheet, the member used stands at place 2, after the assumption.
 goal : Goal
 goal = implies (fact 0 nil) (forall 0 (atom 1 nil))
 

@@ -17,11 +17,11 @@ use Rattle.sequents.specs.Renamings.{Renaming, rename, renamed}
 use Rattle.sequents.proofs.Sequents.{update-put}
 use Rattle.sequents.proofs.Renamings.{renames}
 
--- No name stands for a term above level i,
+-- No name stands for a term above level i.
 abbrev pub LowEnvironment : ℕ → Environment Symbol → Type 0
 LowEnvironment i e = (v : ℕ) → level (e v) ≤ i
 
--- in no clause of the program.
+-- In no clause of the program a name stands for a term above level i.
 abbrev pub LowProgram : ℕ → Program Symbol → Type 0
 LowProgram i P = All (λ h. LowEnvironment i (h .environment)) P
 
@@ -29,12 +29,12 @@ LowProgram i P = All (λ h. LowEnvironment i (h .environment)) P
 unfoldable exchange : ℕ → ℕ → ℕ → Renaming
 exchange k n m = record { ofMade = λ x j. cond (eqb j k && eqb x n) m x; ofLeftover = λ x j. x }
 
--- it does become m,
+-- The exchange takes the made constant n of level k to m.
 exchange-at : (k n m : ℕ) → renamed (exchange k n m) (made n k) ≡ leaf (made m k)
 unfolding exchange rename
 exchange-at k n m = rw (eq-eqb k k refl, eq-eqb n n refl)
 
--- and symbols of lower levels stay
+-- The exchange at level i + 1 leaves symbols of level at most i as they are.
 exchange-symbol : (i n m : ℕ) (s : Symbol) → symbolLevel s ≤ i → renamed (exchange (suc i) n m) s ≡ leaf s
 unfolding exchange rename symbolLevel
 exchange-symbol i n m (made x j) h = go (eqb j (suc i)) refl
@@ -44,22 +44,24 @@ exchange-symbol i n m (made x j) h = go (eqb j (suc i)) refl
     go false e = refl
 exchange-symbol i n m (leftover x j) h = refl
 
--- so a low term stays,
+-- The exchange at level i + 1 leaves a term of level at most i as it is.
 exchange-term : (i n m : ℕ) (t : Ground) → level t ≤ i → substitute t (renamed (exchange (suc i) n m)) ≡ t
 unfolding level
 exchange-term i n m t h =
-    substitute-where t (λ s. symbolLevel s ≤ i) (renamed (exchange (suc i) n m)) leaf (leaves-level t symbolLevel i h) (exchange-symbol i n m) ∙ substitute-leaf t
+    substitute-where t (λ s. symbolLevel s ≤ i) (renamed (exchange (suc i) n m)) leaf (leaves-level t symbolLevel i h)
+    (exchange-symbol i n m) ∙ substitute-leaf t
 
--- a low environment,
+-- The exchange at level i + 1 leaves an environment that is low for i as it is.
 exchange-environment : (i n m : ℕ) (e : Environment Symbol) → LowEnvironment i e → putEnvironment (renamed (exchange (suc i) n m)) e ≡ e
 exchange-environment i n m e h = fun-ext (λ v. exchange-term i n m (e v) (h v))
 
--- and a low program
+-- The exchange at level i + 1 leaves a program that is low for i as it is.
 exchange-program : (i n m : ℕ) (P : Program Symbol) → LowProgram i P → putProgram (renamed (exchange (suc i) n m)) P ≡ P
 exchange-program i n m [] h = refl
-exchange-program i n m (x ∷ P) h = ap₂ _∷_ (ap (hypothesis (x .clause)) (exchange-environment i n m (x .environment) (h .0))) (exchange-program i n m P (h .1))
+exchange-program i n m (x ∷ P) h =
+    ap₂ _∷_ (ap (hypothesis (x .clause)) (exchange-environment i n m (x .environment) (h .0))) (exchange-program i n m P (h .1))
 
--- a derivation with the constant n is one with m
+-- A derivation with the made constant n gives one with m.
 pub another-constant : (P : Program Symbol) (g : Goal) (e : Environment Symbol) (v i n m : ℕ) → LowProgram i P → LowEnvironment i e
     → Derivation P g (update e v (leaf (made n (suc i)))) (suc i) → Derivation P g (update e v (leaf (made m (suc i)))) (suc i)
 unfolding substitute

@@ -7,12 +7,14 @@ use mathlib.Core.Logic.{inl, inr}
 use Rattle.formulas.specs.Formulas.{Goal, atom, truth, and, or, implies, exists, forall}
 use Rattle.sequents.specs.Symbols.{Symbol}
 use Rattle.sequents.specs.Sequents.{Environment, Program, Sequent, sequent, assign, bodySequent, Line}
-use Rattle.sequents.specs.Derivations.{Derivation, d-true, d-and, d-left, d-right, d-assume, d-some, d-all, d-clause, BodyDerivation, b-none, b-some, Derivable, lines, bodyLines}
+use Rattle.sequents.specs.Derivations.{Derivation, d-true, d-and, d-left, d-right, d-assume, d-some, d-all, d-clause, BodyDerivation}
+use Rattle.sequents.specs.Derivations.{b-none, b-some, Derivable, lines, bodyLines}
 use Rattle.sequents.specs.Lines.{Infers, Leads, Derives}
 use Rattle.sequents.specs.Promises.{TreesAreLines}
 
--- a line that is a step is one, also if less is asked of its premises
-pub infers-weaken : (x : Line Symbol) (g : Goal) (e : Environment Symbol) (P : Program Symbol) (i : ℕ) (K L : List (Sequent Symbol) → Type 0)
+-- A line that is a step stays one if less is asked of its premises.
+pub infers-weaken : (x : Line Symbol) (g : Goal) (e : Environment Symbol) (P : Program Symbol) (i : ℕ) (K L : List (Sequent Symbol)
+    → Type 0)
     → ((new : List (Sequent Symbol)) → K new → L new) → Infers x g e P i K → Infers x g e P i L
 unfolding Infers
 infers-weaken x (atom p us) e P i K L f u = record {
@@ -33,23 +35,29 @@ infers-weaken x (implies c g) e P i K L f u = (u .0, f _ (u .1))
 infers-weaken x (exists v g) e P i K L f u = (u .0, u .1, u .2, f _ (u .3))
 infers-weaken x (forall v g) e P i K L f u = (u .0, u .1, f _ (u .2))
 
--- lines that lead on from where others lead, put after them, lead on from where those begin
-pub leads-append : (ls ks : List (Line Symbol)) (gs hs rest : List (Sequent Symbol)) → Leads ls gs hs → Leads ks hs rest → Leads (ls ++ ks) gs rest
+-- Lines that lead from gs to hs, then lines that lead from hs to rest, lead from gs to rest.
+pub leads-append : (ls ks : List (Line Symbol)) (gs hs rest : List (Sequent Symbol)) → Leads ls gs hs → Leads ks hs rest
+    → Leads (ls ++ ks) gs rest
 unfolding Leads
 leads-append [] ks gs hs rest h k = subst (λ (fs : List (Sequent Symbol)). Leads ks fs rest) (sym h) k
 leads-append (x ∷ ls) ks [] hs rest h k = absurd h
 leads-append (x ∷ ls) ks (g ∷ gs) hs rest h k =
-    infers-weaken x (g .goal) (g .environment) (g .program) (g .level) (λ new. Leads ls (new ++ gs) hs) (λ new. Leads (ls ++ ks) (new ++ gs) rest)
+    infers-weaken x (g .goal) (g .environment) (g .program) (g .level) (λ new. Leads ls (new ++ gs) hs)
+    (λ new. Leads (ls ++ ks) (new ++ gs) rest)
     (λ new l. leads-append ls ks (new ++ gs) hs rest l k) h
 
--- from a tree to its lines: they lead from its sequent, before any others, to the others
+-- The lines of a derivation tree lead from its sequent, before any others, to the others.
 mutual
   unfolding Leads Infers lines bodySequent
 
-  pub tree-leads : {P : Program Symbol} {g : Goal} {e : Environment Symbol} {i : ℕ} (d : Derivation P g e i) (gs : List (Sequent Symbol)) → Leads (lines d) (sequent g e P i ∷ gs) gs
+  pub tree-leads : {P : Program Symbol} {g : Goal} {e : Environment Symbol} {i : ℕ} (d : Derivation P g e i) (gs : List (Sequent Symbol))
+      → Leads (lines d) (sequent g e P i ∷ gs) gs
   tree-leads d-true gs = (refl, refl)
-  tree-leads (d-and {P = P} {a = a} {b = b} {e = e} {i = i} x y) gs =
-      (refl, leads-append (lines x) (lines y) (sequent a e P i ∷ sequent b e P i ∷ gs) (sequent b e P i ∷ gs) gs (tree-leads x (sequent b e P i ∷ gs)) (tree-leads y gs))
+  tree-leads (d-and {P = P} {a = a} {b = b} {e = e} {i = i} x y) gs = (
+    refl,
+    leads-append (lines x) (lines y) (sequent a e P i ∷ sequent b e P i ∷ gs) (sequent b e P i ∷ gs) gs
+        (tree-leads x (sequent b e P i ∷ gs)) (tree-leads y gs),
+  )
   tree-leads (d-left x) gs = inl (refl, tree-leads x gs)
   tree-leads (d-right x) gs = inr (refl, tree-leads x gs)
   tree-leads (d-assume x) gs = (refl, tree-leads x gs)
@@ -58,7 +66,8 @@ mutual
   tree-leads (d-clause m h ts l p q x) gs =
       record { used = m; at = h; terms = ts; line = refl; instantiates = l; predicate = p; arguments = q; premises = body-leads x gs }
 
-  body-leads : {P : Program Symbol} {o : Option Goal} {e : Environment Symbol} {i : ℕ} (d : BodyDerivation P o e i) (gs : List (Sequent Symbol)) → Leads (bodyLines d) (bodySequent o e P i ++ gs) gs
+  body-leads : {P : Program Symbol} {o : Option Goal} {e : Environment Symbol} {i : ℕ} (d : BodyDerivation P o e i)
+      (gs : List (Sequent Symbol)) → Leads (bodyLines d) (bodySequent o e P i ++ gs) gs
   body-leads b-none gs = refl
   body-leads (b-some x) gs = tree-leads x gs
 
@@ -67,15 +76,17 @@ abbrev pub Forest : List (Sequent Symbol) → List (Line Symbol) → Type 0
 Forest [] ls = ls ≡ []
 Forest (g ∷ gs) ls = (d : Derivable g) × (more : List (Line Symbol)) × (ls ≡ lines d ++ more) × Forest gs more
 
--- the first derivations are those of a body
-body-forest : (o : Option Goal) (e : Environment Symbol) (P : Program Symbol) (i : ℕ) (gs : List (Sequent Symbol)) (ls : List (Line Symbol)) → Forest (bodySequent o e P i ++ gs) ls
+-- Derivations of a body and of other sequents begin with one of the body.
+body-forest : (o : Option Goal) (e : Environment Symbol) (P : Program Symbol) (i : ℕ) (gs : List (Sequent Symbol))
+    (ls : List (Line Symbol)) → Forest (bodySequent o e P i ++ gs) ls
     → (d : BodyDerivation P o e i) × (more : List (Line Symbol)) × (ls ≡ bodyLines d ++ more) × Forest gs more
 unfolding bodySequent lines
 body-forest none e P i gs ls f = (b-none, ls, refl, f)
 body-forest (some g) e P i gs ls f = (b-some (f .0), f .1, f .2, f .3)
 
--- a line that is a step, before the lines of derivations of its premises
-infers-forest : (x : Line Symbol) (g : Goal) (e : Environment Symbol) (P : Program Symbol) (i : ℕ) (gs : List (Sequent Symbol)) (ls : List (Line Symbol)) (K : List (Sequent Symbol) → Type 0)
+-- A line that is a step, before the lines of derivations of its premises, makes a derivation of its sequent.
+infers-forest : (x : Line Symbol) (g : Goal) (e : Environment Symbol) (P : Program Symbol) (i : ℕ) (gs : List (Sequent Symbol))
+    (ls : List (Line Symbol)) (K : List (Sequent Symbol) → Type 0)
     → ((new : List (Sequent Symbol)) → K new → Forest (new ++ gs) ls) → Infers x g e P i K → Forest (sequent g e P i ∷ gs) (x ∷ ls)
 unfolding Infers lines
 infers-forest x (atom p us) e P i gs ls K f u =
@@ -85,23 +96,29 @@ infers-forest x (atom p us) e P i gs ls K f u =
 infers-forest x truth e P i gs ls K f u = (d-true, ls, ap (_∷ ls) (u .0), f [] (u .1))
 infers-forest x (and a b) e P i gs ls K f u =
     let r = f _ (u .1) in
-    let s = r .3 in
-    (d-and (r .0) (s .0), s .1, ap₂ _∷_ (u .0) (r .2 ∙ ap (lines (r .0) ++_) (s .2) ∙ sym (append-assoc (lines (r .0)) (lines (s .0)) (s .1))), s .3)
+    let s = r .3 in (
+      d-and (r .0) (s .0),
+      s .1,
+      ap₂ _∷_ (u .0) (r .2 ∙ ap (lines (r .0) ++_) (s .2)
+          ∙ sym (append-assoc (lines (r .0)) (lines (s .0)) (s .1))),
+      s .3,
+    )
 infers-forest x (or a b) e P i gs ls K f (inl u) = let r = f _ (u .1) in (d-left (r .0), r .1, ap₂ _∷_ (u .0) (r .2), r .3)
 infers-forest x (or a b) e P i gs ls K f (inr u) = let r = f _ (u .1) in (d-right (r .0), r .1, ap₂ _∷_ (u .0) (r .2), r .3)
 infers-forest x (implies c g) e P i gs ls K f u = let r = f _ (u .1) in (d-assume (r .0), r .1, ap₂ _∷_ (u .0) (r .2), r .3)
 infers-forest x (exists v g) e P i gs ls K f u = let r = f _ (u .3) in (d-some (u .0) (u .2) (r .0), r .1, ap₂ _∷_ (u .1) (r .2), r .3)
 infers-forest x (forall v g) e P i gs ls K f u = let r = f _ (u .2) in (d-all (u .0) (r .0), r .1, ap₂ _∷_ (u .1) (r .2), r .3)
 
--- from lines to trees: lines that derive sequents are those of derivations of them
+-- Lines that derive sequents are the lines of derivations of them.
 pub lines-forest : (ls : List (Line Symbol)) (gs : List (Sequent Symbol)) → Derives ls gs → Forest gs ls
 unfolding Leads
 lines-forest [] gs h = subst (λ (hs : List (Sequent Symbol)). Forest hs []) (sym h) refl
 lines-forest (x ∷ ls) [] h = absurd h
 lines-forest (x ∷ ls) (g ∷ gs) h =
-    infers-forest x (g .goal) (g .environment) (g .program) (g .level) gs ls (λ new. Leads ls (new ++ gs) []) (λ new k. lines-forest ls (new ++ gs) k) h
+    infers-forest x (g .goal) (g .environment) (g .program) (g .level) gs ls (λ new. Leads ls (new ++ gs) [])
+    (λ new k. lines-forest ls (new ++ gs) k) h
 
--- so a tree and its lines are one thing
+-- A derivation tree and its lines determine each other.
 pub trees-are-lines : (g : Sequent Symbol) → TreesAreLines g
 trees-are-lines g = record { tree-lines = λ d. tree-leads d []; lines-tree = tree }
   where

@@ -15,19 +15,21 @@ use Rattle.formulas.specs.Formulas.{Goal, Clause, freeTs, freeG, freeC, freeB}
 use Rattle.formulas.specs.Members.{Member, members, standsFree}
 use Rattle.formulas.proofs.Free.{or-left, or-right, substitutes-free, Within, members-within}
 use Rattle.sequents.specs.Symbols.{Symbol, made}
-use Rattle.sequents.specs.Sequents.{Environment, Program, hypothesis, Entry, entry, entries, assign, Line, plain, Dsome, Dall, Dclause, Dand, Dleft, Dright, Dassume}
-use Rattle.sequents.specs.Derivations.{Derivation, d-true, d-and, d-left, d-right, d-assume, d-some, d-all, d-clause, BodyDerivation, b-none, b-some, lines, bodyLines, sheetProgram, instanceOf}
+use Rattle.sequents.specs.Sequents.{Environment, Program, hypothesis, Entry, entry, entries, assign, Line, plain, Dsome, Dall}
+use Rattle.sequents.specs.Sequents.{Dclause, Dand, Dleft, Dright, Dassume}
+use Rattle.sequents.specs.Derivations.{Derivation, d-true, d-and, d-left, d-right, d-assume, d-some, d-all, d-clause, BodyDerivation}
+use Rattle.sequents.specs.Derivations.{b-none, b-some, lines, bodyLines, sheetProgram, instanceOf}
 use Rattle.sequents.specs.Promises.{AgreeOn, Closed, Local}
 
--- e and f say the same of the names that stand free in the clause,
+-- The environments e and f agree on the names that stand free in the clause.
 abbrev pub AgreeOnClause : Clause → Environment Symbol → Environment Symbol → Type 0
 AgreeOnClause c e f = (v : ℕ) → freeC c v ≡ true → e v ≡ f v
 
--- in the member,
+-- The environments e and f agree on the names that stand free in the member.
 abbrev pub AgreeOnMember : Member → Environment Symbol → Environment Symbol → Type 0
 AgreeOnMember m e f = (v : ℕ) → standsFree v m ≡ true → e v ≡ f v
 
--- in the body.
+-- The environments e and f agree on the names that stand free in the body.
 abbrev pub AgreeOnBody : Option Goal → Environment Symbol → Environment Symbol → Type 0
 AgreeOnBody o e f = (v : ℕ) → freeB o v ≡ true → e v ≡ f v
 
@@ -38,18 +40,21 @@ Alike [] (k ∷ Q) = ⊥
 Alike (h ∷ P) [] = ⊥
 Alike (h ∷ P) (k ∷ Q) = (h .clause ≡ k .clause) × AgreeOnClause (h .clause) (h .environment) (k .environment) × Alike P Q
 
--- what a quantifier binds does not stand free under it: there the environments need not agree
-quantifier-agree : (v : ℕ) (g : Goal) (e f : Environment Symbol) (t : Term Symbol) → ((w : ℕ) → (not (eqb v w) && freeG g w) ≡ true → e w ≡ f w) → AgreeOn g (update e v t) (update f v t)
+-- Under a quantifier the environments need not agree on the name that it binds.
+quantifier-agree : (v : ℕ) (g : Goal) (e f : Environment Symbol) (t : Term Symbol)
+    → ((w : ℕ) → (not (eqb v w) && freeG g w) ≡ true → e w ≡ f w) → AgreeOn g (update e v t) (update f v t)
 quantifier-agree v g e f t h w k = update-agree e f v t w (λ q. h w (rw q k))
 
--- nor on what a prefix binds
-assign-agree : (vs : List ℕ) (ts : List (Term Symbol)) (e f : Environment Symbol) → length ts ≡ length vs → (v : ℕ) → (elem v vs ≡ false → e v ≡ f v) → assign vs ts e v ≡ assign vs ts f v
+-- With terms for a prefix, the environments need not agree on the names that it binds.
+assign-agree : (vs : List ℕ) (ts : List (Term Symbol)) (e f : Environment Symbol) → length ts ≡ length vs → (v : ℕ)
+    → (elem v vs ≡ false → e v ≡ f v) → assign vs ts e v ≡ assign vs ts f v
 unfolding assign elem
 assign-agree [] ts e f n v h = h refl
 assign-agree (w ∷ vs) [] e f n v h = absurd (omega arith)
-assign-agree (w ∷ vs) (t ∷ ts) e f n v h = assign-agree vs ts (update e w t) (update f w t) (omega arith) v (λ q. update-agree e f w t v (λ p. h (rw (p, elem) q)))
+assign-agree (w ∷ vs) (t ∷ ts) e f n v h =
+    assign-agree vs ts (update e w t) (update f w t) (omega arith) v (λ q. update-agree e f w t v (λ p. h (rw (p, elem) q)))
 
--- so names in the instance of a member stand for the same, if the environments agree on the member
+-- Environments that agree on a member give the free names in its instance the same terms.
 instance-agree : (m : Member) (ts : List (Term Symbol)) (e f : Environment Symbol) → length ts ≡ length (m .prefix) → AgreeOnMember m e f
     → (v : ℕ) → (freeTs (m .arguments) v || freeB (m .body) v) ≡ true → assign (m .prefix) ts e v ≡ assign (m .prefix) ts f v
 unfolding standsFree
@@ -62,9 +67,10 @@ pub record Twin (m : Entry Symbol) (l : List (Entry Symbol)) (h : Mem m l) (twin
   pub places : (k : ℕ) → place k at ≡ place k h
   pub agree : AgreeOnMember (m .member) (m .environment) environment
 
--- members of a clause have twins, if those that follow have
+-- Every member of a clause has a `Twin` if every member that follows has one.
 clause-twin : (e f : Environment Symbol) (R S : List (Entry Symbol)) (ms : List Member) → All (λ m. AgreeOnMember m e f) ms
-    → ((m : Entry Symbol) (h : Mem m R) → Twin m R h S) → (m : Entry Symbol) (h : Mem m (map (entry e) ms ++ R)) → Twin m (map (entry e) ms ++ R) h (map (entry f) ms ++ S)
+    → ((m : Entry Symbol) (h : Mem m R) → Twin m R h S) → (m : Entry Symbol) (h : Mem m (map (entry e) ms ++ R))
+    → Twin m (map (entry e) ms ++ R) h (map (entry f) ms ++ S)
 unfolding place
 clause-twin e f R S [] a t m h = t m h
 clause-twin e f R S (x ∷ ms) a t m here = record { environment = f; at = here; places = λ k. refl; agree = a .0 }
@@ -72,7 +78,7 @@ clause-twin e f R S (x ∷ ms) a t m (there h) =
     let r = clause-twin e f R S ms (a .1) t m h in
     record { environment = r .environment; at = there (r .at); places = λ k. r .places (suc k); agree = r .agree }
 
--- so members of a program have twins in every program that is like it
+-- Every member of a program has a `Twin` in every program that is like it.
 pub program-twin : (P Q : Program Symbol) → Alike P Q → (m : Entry Symbol) (h : Mem m (entries P)) → Twin m (entries P) h (entries Q)
 unfolding entries
 program-twin [] [] a m h = elim h [ ]
@@ -81,14 +87,16 @@ program-twin (p ∷ P) [] a m h = absurd a
 program-twin (p ∷ P) (k ∷ Q) a m h =
     subst (λ (c : Clause). Twin m (entries (p ∷ P)) h (map (entry (k .environment)) (members c) ++ entries Q)) (a .0)
     (clause-twin (p .environment) (k .environment) (entries P) (entries Q) (members (p .clause))
-    (all-weaken (Within (p .clause)) (λ x. AgreeOnMember x (p .environment) (k .environment)) (λ x w v s. a .1 v (w v s)) (members (p .clause)) (members-within (p .clause)))
+    (all-weaken (Within (p .clause)) (λ x. AgreeOnMember x (p .environment) (k .environment)) (λ x w v s. a .1 v (w v s))
+    (members (p .clause)) (members-within (p .clause)))
     (program-twin P Q (a .2)) m h)
 
--- a derivation has a twin, with the same lines
+-- A derivation gives one with the same lines in environments and programs that agree on free names.
 mutual
   unfolding lines freeG freeC freeB
 
-  pub tree-local : {P : Program Symbol} {g : Goal} {e : Environment Symbol} {i : ℕ} (d : Derivation P g e i) (f : Environment Symbol) (Q : Program Symbol) → AgreeOn g e f → Alike P Q
+  pub tree-local : {P : Program Symbol} {g : Goal} {e : Environment Symbol} {i : ℕ} (d : Derivation P g e i) (f : Environment Symbol)
+      (Q : Program Symbol) → AgreeOn g e f → Alike P Q
       → (d′ : Derivation Q g f i) × (lines d′ ≡ lines d)
   tree-local d-true f Q a p = (d-true, refl)
   tree-local (d-and {a = g} {b = h} x y) f Q a p =
@@ -102,7 +110,8 @@ mutual
       let r = tree-local x f Q (λ v k. a v (or-right (freeG g v) (freeG h v) k)) p in
       (d-right (r .0), ap (plain Dright ∷_) (r .1))
   tree-local (d-assume {c = c} {g = g} x) f Q a p =
-      let r = tree-local x f (hypothesis c f ∷ Q) (λ v k. a v (or-right (freeC c v) (freeG g v) k)) (refl, λ v k. a v (or-left (freeC c v) (freeG g v) k), p) in
+      let r = tree-local x f (hypothesis c f ∷ Q) (λ v k. a v (or-right (freeC c v) (freeG g v) k))
+      (refl, λ v k. a v (or-left (freeC c v) (freeG g v) k), p) in
       (d-assume (r .0), ap (plain Dassume ∷_) (r .1))
   tree-local (d-some {v = v} {g = g} {e = e} t l x) f Q a p =
       let r = tree-local x (update f v t) Q (quantifier-agree v g e f t a) p in
@@ -115,7 +124,8 @@ mutual
       let w = program-twin P Q p m h in
       let vs = m .member .prefix in
       let same = instance-agree (m .member) ts (m .environment) (w .environment) (l .many) (w .agree) in
-      let r = body-local x (assign vs ts (w .environment)) Q (λ v z. same v (or-right (freeTs (m .member .arguments) v) (freeB (m .member .body) v) z)) p in (
+      let r = body-local x (assign vs ts (w .environment)) Q
+      (λ v z. same v (or-right (freeTs (m .member .arguments) v) (freeB (m .member .body) v) z)) p in (
         d-clause (entry (w .environment) (m .member)) (w .at) ts l q
             (sym (substitutes-free us e f a) ∙ k
             ∙ substitutes-free (m .member .arguments) (assign vs ts (m .environment)) (assign vs ts (w .environment))
@@ -123,18 +133,19 @@ mutual
         ap₂ (λ (n : ℕ) (z : List (Line Symbol)). Dclause n ts ∷ z) (w .places 1) (r .1),
       )
 
-  body-local : {P : Program Symbol} {o : Option Goal} {e : Environment Symbol} {i : ℕ} (d : BodyDerivation P o e i) (f : Environment Symbol) (Q : Program Symbol) → AgreeOnBody o e f → Alike P Q
+  body-local : {P : Program Symbol} {o : Option Goal} {e : Environment Symbol} {i : ℕ} (d : BodyDerivation P o e i)
+      (f : Environment Symbol) (Q : Program Symbol) → AgreeOnBody o e f → Alike P Q
       → (d′ : BodyDerivation Q o f i) × (bodyLines d′ ≡ bodyLines d)
   body-local b-none f Q a p = (b-none, refl)
   body-local (b-some x) f Q a p = let r = tree-local x f Q a p in (b-some (r .0), r .1)
 
--- closed clauses are alike under any two environments
+-- Closed clauses are alike under any two environments.
 sheet-alike : (cs : List Clause) (e f : Environment Symbol) → All Closed cs → Alike (sheetProgram cs e) (sheetProgram cs f)
 unfolding sheetProgram
 sheet-alike [] e f h = tt
 sheet-alike (c ∷ cs) e f h = (refl, λ v k. absurd (h .0 v k), sheet-alike cs e f (h .1))
 
--- so an instance of a goal is fixed by the terms for its free variables
+-- An instance of a goal is fixed by the terms for its free variables.
 pub local : (cs : List Clause) (g : Goal) → All Closed cs → Local cs g
 unfolding instanceOf
 local cs g h = record { tree = λ e f a d. tree-local d f (sheetProgram cs f) a (sheet-alike cs e f h) }

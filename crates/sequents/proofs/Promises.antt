@@ -4,14 +4,14 @@ use Rattle.sequents.proofs.Lines.{trees-are-lines}
 use Rattle.sequents.proofs.Renamings.{renames}
 use Rattle.sequents.proofs.Locality.{local}
 
--- trees and lines are one thing
+-- Derivation trees and lines determine each other.
 pub trees : Trees
 trees = trees-are-lines
 
--- numbers of symbols do not matter
+-- The numbers of symbols do not matter.
 pub renamable : Renamable
 renamable = renames
 
--- an environment matters only at names that stand free
+-- An environment matters only at names that stand free.
 pub locality : Locality
 locality = local

@@ -10,10 +10,11 @@ use Rattle.terms.proofs.Lists.{map-append, map-map, update-map, update-all, all
 use Rattle.terms.proofs.Terms.{substitutes-substitutes}
 use Rattle.formulas.specs.Formulas.{Goal, Clause}
 use Rattle.formulas.specs.Members.{Member, members}
-use Rattle.sequents.specs.Sequents.{Environment, Program, hypothesis, entry, entries, sequent, assign, bodySequent, putTerms, putEnvironment, putHypothesis, putProgram, putEntry, putSequent}
+use Rattle.sequents.specs.Sequents.{Environment, Program, hypothesis, entry, entries, sequent, assign, bodySequent, putTerms}
+use Rattle.sequents.specs.Sequents.{putEnvironment, putHypothesis, putProgram, putEntry, putSequent}
 use Rattle.sequents.specs.Derivations.{sheetProgram, instanceOf}
 
--- into a program, or into its members
+-- Substituting into a program is substituting into its members.
 pub entries-put : {A B : Type 0} (θ : A → Term B) (P : Program A) → entries (putProgram θ P) ≡ map (putEntry θ) (entries P)
 unfolding entries
 entries-put θ [] = refl
@@ -21,54 +22,61 @@ entries-put θ (h ∷ P) =
     ap₂ _++_ (sym (map-map (entry (h .environment)) (putEntry θ) (members (h .clause)))) (entries-put θ P)
     ∙ sym (map-append (putEntry θ) (map (entry (h .environment)) (members (h .clause))) (entries P))
 
--- before a quantifier's name gets its term, or after
-pub update-put : {A B : Type 0} (θ : A → Term B) (e : Environment A) (v : ℕ) (t : Term A) → putEnvironment θ (update e v t) ≡ update (putEnvironment θ e) v (substitute t θ)
+-- Substitution goes through the assignment of a term to a quantifier's name.
+pub update-put : {A B : Type 0} (θ : A → Term B) (e : Environment A) (v : ℕ) (t : Term A)
+    → putEnvironment θ (update e v t) ≡ update (putEnvironment θ e) v (substitute t θ)
 update-put θ e v t = update-map (λ u. substitute u θ) e v t
 
--- before the names of a prefix get theirs, or after
-pub assign-put : {A B : Type 0} (θ : A → Term B) (vs : List ℕ) (ts : List (Term A)) (e : Environment A) → putEnvironment θ (assign vs ts e) ≡ assign vs (putTerms θ ts) (putEnvironment θ e)
+-- Substitution goes through the assignment of terms to the names of a prefix.
+pub assign-put : {A B : Type 0} (θ : A → Term B) (vs : List ℕ) (ts : List (Term A)) (e : Environment A)
+    → putEnvironment θ (assign vs ts e) ≡ assign vs (putTerms θ ts) (putEnvironment θ e)
 unfolding assign
 assign-put θ [] ts e = refl
 assign-put θ (v ∷ vs) [] e = refl
 assign-put θ (v ∷ vs) (t ∷ ts) e = assign-put θ vs ts (update e v t) ∙ ap (assign vs (putTerms θ ts)) (update-put θ e v t)
 
--- into the sequent of a body, or into what it is made of
+-- Substituting into the sequent of a body is substituting into its environment and program.
 pub body-put : {A B : Type 0} (θ : A → Term B) (o : Option Goal) (e : Environment A) (P : Program A) (i : ℕ)
     → map (putSequent θ) (bodySequent o e P i) ≡ bodySequent o (putEnvironment θ e) (putProgram θ P) i
 unfolding bodySequent
 body-put θ none e P i = refl
 body-put θ (some g) e P i = refl
 
--- into the arguments of an atom and of a member, which stay equal
+-- Equal arguments of an atom and of a member stay equal under substitution.
 pub arguments-put : {A B : Type 0} (θ : A → Term B) (us ws : Terms ℕ) (e f : Environment A) → substitutes us e ≡ substitutes ws f
     → substitutes us (putEnvironment θ e) ≡ substitutes ws (putEnvironment θ f)
 arguments-put θ us ws e f h = sym (substitutes-substitutes us e θ) ∙ ap (λ ts. substitutes ts θ) h ∙ substitutes-substitutes ws f θ
 
--- a property of all terms of an environment and for a prefix
-pub assign-all : {A : Type 0} (Q : Term A → Type 0) (vs : List ℕ) (ts : List (Term A)) (e : Environment A) → ((v : ℕ) → Q (e v)) → All Q ts → (v : ℕ) → Q (assign vs ts e v)
+-- A property of all terms of an environment and of the terms for a prefix holds after the assignment.
+pub assign-all : {A : Type 0} (Q : Term A → Type 0) (vs : List ℕ) (ts : List (Term A)) (e : Environment A) → ((v : ℕ) → Q (e v))
+    → All Q ts → (v : ℕ) → Q (assign vs ts e v)
 unfolding assign
 assign-all Q [] ts e h k = h
 assign-all Q (v ∷ vs) [] e h k = h
 assign-all Q (v ∷ vs) (t ∷ ts) e h k = assign-all Q vs ts (update e v t) (update-all Q e v t h (k .0)) (k .1)
 
--- a property of the environments of a program, for its members
-pub entries-all : {A : Type 0} (Q : Environment A → Type 0) (P : Program A) → All (λ h. Q (h .environment)) P → All (λ m. Q (m .environment)) (entries P)
+-- A property of the environments of a program holds of those of its members.
+pub entries-all : {A : Type 0} (Q : Environment A → Type 0) (P : Program A) → All (λ h. Q (h .environment)) P
+    → All (λ m. Q (m .environment)) (entries P)
 unfolding entries
 entries-all Q [] k = tt
 entries-all Q (h ∷ P) k =
-    all-append (λ m. Q (m .environment)) (map (entry (h .environment)) (members (h .clause))) (entries P) (each (members (h .clause))) (entries-all Q P (k .1))
+    all-append (λ m. Q (m .environment)) (map (entry (h .environment)) (members (h .clause))) (entries P) (each (members (h .clause)))
+    (entries-all Q P (k .1))
   where
     each : (ms : List Member) → All (λ m. Q (m .environment)) (map (entry (h .environment)) ms)
     each [] = tt
     each (m ∷ ms) = (k .0, each ms)
 
--- into an instance of a goal, or into its environment
-pub instance-put : {A B : Type 0} (θ : A → Term B) (cs : List Clause) (g : Goal) (e : Environment A) → putSequent θ (instanceOf cs g e) ≡ instanceOf cs g (putEnvironment θ e)
+-- Substituting into an instance of a goal is substituting into its environment.
+pub instance-put : {A B : Type 0} (θ : A → Term B) (cs : List Clause) (g : Goal) (e : Environment A)
+    → putSequent θ (instanceOf cs g e) ≡ instanceOf cs g (putEnvironment θ e)
 unfolding instanceOf sheetProgram
 instance-put θ cs g e = ap (λ P. sequent g (putEnvironment θ e) P 0) (map-map (λ c. hypothesis c e) (putHypothesis θ) cs)
 
--- a property of the one environment of a sheet's clauses
-pub sheet-all : {A : Type 0} (Q : Environment A → Type 0) (cs : List Clause) (e : Environment A) → Q e → All (λ h. Q (h .environment)) (sheetProgram cs e)
+-- A property of an environment holds of the environments of a sheet's clauses under it.
+pub sheet-all : {A : Type 0} (Q : Environment A → Type 0) (cs : List Clause) (e : Environment A) → Q e
+    → All (λ h. Q (h .environment)) (sheetProgram cs e)
 unfolding sheetProgram
 sheet-all Q [] e h = tt
 sheet-all Q (c ∷ cs) e h = (h, sheet-all Q cs e h)

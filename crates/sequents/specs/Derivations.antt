@@ -12,7 +12,8 @@ use Rattle.terms.specs.Terms.{Term, leaf, Terms, substitutes}
 use Rattle.formulas.specs.Formulas.{Goal, atom, truth, and, or, implies, exists, forall, Clause, freeG}
 use Rattle.formulas.specs.Members.{Member}
 use Rattle.sequents.specs.Symbols.{Symbol, made, Ground, level}
-use Rattle.sequents.specs.Sequents.{Environment, Program, hypothesis, Entry, entries, Sequent, sequent, assign, Word, Dtrue, Dand, Dleft, Dright, Dassume, Line, plain, Dsome, Dall, Dclause}
+use Rattle.sequents.specs.Sequents.{Environment, Program, hypothesis, Entry, entries, Sequent, sequent, assign, Word, Dtrue, Dand}
+use Rattle.sequents.specs.Sequents.{Dleft, Dright, Dassume, Line, plain, Dsome, Dall, Dclause}
 
 -- Terms for a prefix: one for each name, none above the level.
 pub record Instantiates (vs : List ℕ) (ts : List Ground) (i : ℕ) : Type 0 where
@@ -23,20 +24,25 @@ pub record Instantiates (vs : List ℕ) (ts : List Ground) (i : ℕ) : Type 0 wh
 mutual
   pub data Derivation : Program Symbol → Goal → Environment Symbol → ℕ → Type 0 where
     d-true : {P : Program Symbol} {e : Environment Symbol} {i : ℕ} → Derivation P truth e i
-    d-and : {P : Program Symbol} {a b : Goal} {e : Environment Symbol} {i : ℕ} → Derivation P a e i → Derivation P b e i → Derivation P (and a b) e i
+    d-and : {P : Program Symbol} {a b : Goal} {e : Environment Symbol} {i : ℕ} → Derivation P a e i → Derivation P b e i
+        → Derivation P (and a b) e i
     d-left : {P : Program Symbol} {a b : Goal} {e : Environment Symbol} {i : ℕ} → Derivation P a e i → Derivation P (or a b) e i
     d-right : {P : Program Symbol} {a b : Goal} {e : Environment Symbol} {i : ℕ} → Derivation P b e i → Derivation P (or a b) e i
-    d-assume : {P : Program Symbol} {c : Clause} {g : Goal} {e : Environment Symbol} {i : ℕ} → Derivation (hypothesis c e ∷ P) g e i → Derivation P (implies c g) e i
-    d-some : {P : Program Symbol} {v : ℕ} {g : Goal} {e : Environment Symbol} {i : ℕ} (t : Ground) → level t ≤ i → Derivation P g (update e v t) i
+    d-assume : {P : Program Symbol} {c : Clause} {g : Goal} {e : Environment Symbol} {i : ℕ} → Derivation (hypothesis c e ∷ P) g e i
+        → Derivation P (implies c g) e i
+    d-some : {P : Program Symbol} {v : ℕ} {g : Goal} {e : Environment Symbol} {i : ℕ} (t : Ground) → level t ≤ i
+        → Derivation P g (update e v t) i
         → Derivation P (exists v g) e i
-    d-all : {P : Program Symbol} {v : ℕ} {g : Goal} {e : Environment Symbol} {i : ℕ} (n : ℕ) → Derivation P g (update e v (leaf (made n (suc i)))) (suc i)
+    d-all : {P : Program Symbol} {v : ℕ} {g : Goal} {e : Environment Symbol} {i : ℕ} (n : ℕ)
+        → Derivation P g (update e v (leaf (made n (suc i)))) (suc i)
         → Derivation P (forall v g) e i
-    d-clause : {P : Program Symbol} {p : ℕ} {us : Terms ℕ} {e : Environment Symbol} {i : ℕ} (m : Entry Symbol) (h : Mem m (entries P)) (ts : List Ground)
+    d-clause : {P : Program Symbol} {p : ℕ} {us : Terms ℕ} {e : Environment Symbol} {i : ℕ} (m : Entry Symbol) (h : Mem m (entries P))
+        (ts : List Ground)
         → Instantiates (m .member .prefix) ts i → p ≡ m .member .predicate
         → substitutes us e ≡ substitutes (m .member .arguments) (assign (m .member .prefix) ts (m .environment))
         → BodyDerivation P (m .member .body) (assign (m .member .prefix) ts (m .environment)) i → Derivation P (atom p us) e i
 
-  -- of a body, if there is one
+  -- A derivation of a body is one of its goal, or nothing if there is no body.
   pub data BodyDerivation : Program Symbol → Option Goal → Environment Symbol → ℕ → Type 0 where
     b-none : {P : Program Symbol} {e : Environment Symbol} {i : ℕ} → BodyDerivation P none e i
     b-some : {P : Program Symbol} {g : Goal} {e : Environment Symbol} {i : ℕ} → Derivation P g e i → BodyDerivation P (some g) e i

@@ -8,11 +8,13 @@ use Rattle.terms.specs.Terms.{leaf, Terms, substitutes}
 use Rattle.formulas.specs.Formulas.{Goal, atom, truth, and, or, implies, exists, forall}
 use Rattle.formulas.specs.Members.{Member}
 use Rattle.sequents.specs.Symbols.{Symbol, made, Ground, level}
-use Rattle.sequents.specs.Sequents.{Environment, Program, hypothesis, Entry, entries, Sequent, sequent, assign, bodySequent, Word, Dtrue, Dand, Dleft, Dright, Dassume, Line, plain, Dsome, Dall, Dclause}
+use Rattle.sequents.specs.Sequents.{Environment, Program, hypothesis, Entry, entries, Sequent, sequent, assign, bodySequent, Word}
+use Rattle.sequents.specs.Sequents.{Dtrue, Dand, Dleft, Dright, Dassume, Line, plain, Dsome, Dall, Dclause}
 use Rattle.sequents.specs.Derivations.{Instantiates}
 
 -- The line uses one of the members l, whose places count from k, on the atom; K holds of the sequents that are left to derive.
-pub record Uses (x : Line Symbol) (l : List (Entry Symbol)) (k p : ℕ) (us : Terms Symbol) (P : Program Symbol) (i : ℕ) (K : List (Sequent Symbol) → Type 0) : Type 0 where
+pub record Uses (x : Line Symbol) (l : List (Entry Symbol)) (k p : ℕ) (us : Terms Symbol) (P : Program Symbol) (i : ℕ)
+    (K : List (Sequent Symbol) → Type 0) : Type 0 where
   pub used : Entry Symbol
   pub at : Mem used l
   pub terms : List Ground
@@ -30,7 +32,8 @@ Infers x (and a b) e P i K = (x ≡ plain Dand) × K (sequent a e P i ∷ sequen
 Infers x (or a b) e P i K = ((x ≡ plain Dleft) × K (sequent a e P i ∷ [])) ⊎ ((x ≡ plain Dright) × K (sequent b e P i ∷ []))
 Infers x (implies c g) e P i K = (x ≡ plain Dassume) × K (sequent g e (hypothesis c e ∷ P) i ∷ [])
 Infers x (exists v g) e P i K = (t : Ground) × (x ≡ Dsome t) × (level t ≤ i) × K (sequent g (update e v t) P i ∷ [])
-Infers x (forall v g) e P i K = (n : ℕ) × (x ≡ Dall (leaf (made n (suc i)))) × K (sequent g (update e v (leaf (made n (suc i)))) P (suc i) ∷ [])
+Infers x (forall v g) e P i K =
+    (n : ℕ) × (x ≡ Dall (leaf (made n (suc i)))) × K (sequent g (update e v (leaf (made n (suc i)))) P (suc i) ∷ [])
 
 -- The lines lead from the sequents gs, always the first being taken, to the sequents rest that are left to derive.
 unfoldable pub Leads : List (Line Symbol) → List (Sequent Symbol) → List (Sequent Symbol) → Type 0

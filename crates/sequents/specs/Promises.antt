@@ -24,7 +24,7 @@ pub record Renames (r : Renaming) : Type 0 where
   pub leads : (ls : List (Line Symbol)) (gs rest : List (Sequent Symbol)) → Leads ls gs rest
       → Leads (map (renameLine r) ls) (map (renameSequent r) gs) (map (renameSequent r) rest)
 
--- e and f say the same of the names that stand free.
+-- The environments e and f agree on the names that stand free in the goal.
 abbrev pub AgreeOn : Goal → Environment Symbol → Environment Symbol → Type 0
 AgreeOn g e f = (v : ℕ) → freeG g v ≡ true → e v ≡ f v
 
@@ -33,7 +33,8 @@ Closed c = (v : ℕ) → freeC c v ≡ true → ⊥
 
 -- An instance of a goal is fixed by the terms for the goal's free variables, the clauses having none.
 pub record Local (cs : List Clause) (g : Goal) : Type 0 where
-  pub tree : (e f : Environment Symbol) → AgreeOn g e f → (d : Derivable (instanceOf cs g e)) → (d′ : Derivable (instanceOf cs g f)) × (lines d′ ≡ lines d)
+  pub tree : (e f : Environment Symbol) → AgreeOn g e f → (d : Derivable (instanceOf cs g e)) → (d′ : Derivable (instanceOf cs g f))
+      × (lines d′ ≡ lines d)
 
 abbrev pub Trees : Type 0
 Trees = (g : Sequent Symbol) → TreesAreLines g

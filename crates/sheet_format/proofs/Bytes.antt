@@ -11,21 +11,21 @@ use Rattle.terms.specs.Lists.{All}
 use Rattle.terms.proofs.Lists.{all-weaken}
 use Rattle.formulas.proofs.Free.{and-parts, or-left}
 use Rattle.sheet_format.specs.Limits.{maxName}
-use Rattle.sheet_format.specs.Bytes.{isDigit, isLetter, isNameByte, nameBytes, isName, sameBytes, lf, Lines, onLine, linesOf}
+use Rattle.sheet_format.specs.Bytes.{isDigit, isLetter, isNameByte, nameBytes, isName, sameBytes, lf, Lines, extendLine, linesOf}
 
 -- sameBytes
 
--- a list has the same bytes as itself
+-- A list has the same bytes as itself.
 pub same-refl : (a : List ℕ) → sameBytes a a ≡ true
 unfolding sameBytes
 same-refl [] = refl
 same-refl (c ∷ cs) = rw (eq-eqb c c refl) (same-refl cs)
 
--- equal lists have the same bytes
+-- Equal lists have the same bytes.
 pub equal-same : (a b : List ℕ) → a ≡ b → sameBytes a b ≡ true
 equal-same a b e = rw (← e) (same-refl a)
 
--- lists with the same bytes are equal
+-- Lists with the same bytes are equal.
 pub same-equal : (a b : List ℕ) → sameBytes a b ≡ true → a ≡ b
 unfolding sameBytes
 same-equal [] [] h = refl
@@ -49,33 +49,33 @@ Every k b = All (λ d. k d ≡ true) b
 abbrev pub Graphic : List ℕ → Type 0
 Graphic b = All (λ d. 32 < d) b
 
--- neither tab nor LF nor space is graphic
+-- Graphic bytes have no byte of at most 32, so no tab, LF or space.
 pub graphic-without : (c : ℕ) → c ≤ 32 → (b : List ℕ) → Graphic b → Without c b
 graphic-without c h b g = all-weaken (λ d. 32 < d) (λ d. eqb d c ≡ false) (λ d l. ne-eqb d c (λ e. omega arith)) b g
 
--- a byte of another kind is absent: so a number has no tab, LF, `@`, bracket or comma
+-- Bytes of a kind have no byte of another kind: so a number has no tab, LF, `@`, bracket or comma.
 pub every-without : (k : ℕ → Bool) (c : ℕ) → k c ≡ false → (b : List ℕ) → Every k b → Without c b
 every-without k c h b g =
     all-weaken (λ d. k d ≡ true) (λ d. eqb d c ≡ false) (λ d l. ne-eqb d c (λ e. true≢false (sym l ∙ ap k e ∙ h))) b g
 
 -- kinds of bytes
 
--- the bounds of a digit
+-- A digit is a byte from 48 to 57.
 pub digit-bounds : (c : ℕ) → isDigit c ≡ true → (48 ≤ c) × (c ≤ 57)
 unfolding isDigit
 digit-bounds c h = let p = and-parts (leb 48 c) (leb c 57) h in (leb-true 48 c (p .0), leb-true c 57 (p .1))
 
--- the bounds of a letter
+-- A letter is a byte from 97 to 122.
 pub letter-bounds : (c : ℕ) → isLetter c ≡ true → (97 ≤ c) × (c ≤ 122)
 unfolding isLetter
 letter-bounds c h = let p = and-parts (leb 97 c) (leb c 122) h in (leb-true 97 c (p .0), leb-true c 122 (p .1))
 
--- a letter is a name byte
+-- A letter is a name byte.
 pub letter-name : (c : ℕ) → isLetter c ≡ true → isNameByte c ≡ true
 unfolding isNameByte
 letter-name c h = or-left (isLetter c || isDigit c) (eqb c 95) (or-left (isLetter c) (isDigit c) h)
 
--- what is no name byte is no digit
+-- A byte that is no name byte is no digit.
 pub no-digit : (c : ℕ) → isNameByte c ≡ false → isDigit c ≡ false
 unfolding isNameByte
 no-digit c h = go (isLetter c) (isDigit c) h
@@ -85,7 +85,7 @@ no-digit c h = go (isLetter c) (isDigit c) h
     go true true k = k
     go false true k = k
 
--- a name byte is a graphic character
+-- A name byte is a graphic character.
 pub name-graphic : (c : ℕ) → isNameByte c ≡ true → 32 < c
 unfolding isNameByte
 name-graphic c h = go (isLetter c) refl (isDigit c) refl h
@@ -97,28 +97,28 @@ name-graphic c h = go (isLetter c) refl (isDigit c) refl h
 
 -- names
 
--- name bytes, one by one
+-- Each of the bytes that pass `nameBytes` is a name byte.
 pub name-bytes : (b : List ℕ) → nameBytes b ≡ true → Every isNameByte b
 unfolding nameBytes
 name-bytes [] h = tt
 name-bytes (c ∷ cs) h = let p = and-parts (isNameByte c) (nameBytes cs) h in (p .0, name-bytes cs (p .1))
 
--- a name is not empty
+-- A name is not empty.
 pub name-nonempty : isName [] ≡ true → ⊥
 unfolding isName
 name-nonempty h = true≢false (sym h)
 
--- it has a length
+-- The line has a length.
 pub name-length : (b : List ℕ) → isName b ≡ true → 1 ≤ length b
 name-length [] h = absurd (name-nonempty h)
 name-length (c ∷ cs) h = omega arith
 
--- it begins with a letter
+-- A name begins with a letter.
 pub name-letter : (c : ℕ) (cs : List ℕ) → isName (c ∷ cs) ≡ true → isLetter c ≡ true
 unfolding isName
 name-letter c cs h = and-parts (isLetter c) (nameBytes cs) (and-parts (isLetter c && nameBytes cs) (leb (length (c ∷ cs)) maxName) h .0) .0
 
--- it has name bytes only
+-- A name has name bytes only.
 pub name-kinds : (b : List ℕ) → isName b ≡ true → Every isNameByte b
 unfolding isName
 name-kinds [] h = tt
@@ -126,13 +126,13 @@ name-kinds (c ∷ cs) h =
     let p = and-parts (isLetter c) (nameBytes cs) (and-parts (isLetter c && nameBytes cs) (leb (length (c ∷ cs)) maxName) h .0) in
     (letter-name c (p .0), name-bytes cs (p .1))
 
--- it is short
+-- A name has at most 16 bytes.
 pub name-short : (b : List ℕ) → isName b ≡ true → length b ≤ maxName
 unfolding isName
 name-short [] h = omega arith
 name-short (c ∷ cs) h = leb-true (length (c ∷ cs)) maxName (and-parts (isLetter c && nameBytes cs) (leb (length (c ∷ cs)) maxName) h .1)
 
--- its bytes are graphic
+-- The bytes of a name are graphic.
 pub name-is-graphic : (b : List ℕ) → isName b ≡ true → Graphic b
 name-is-graphic b h = all-weaken (λ d. isNameByte d ≡ true) (λ d. 32 < d) name-graphic b (name-kinds b h)
 
@@ -140,7 +140,7 @@ name-is-graphic b h = all-weaken (λ d. isNameByte d ≡ true) (λ d. 32 < d) na
 abbrev pub lines : List (List ℕ) → List ℕ → Lines
 lines ls r = record { whole = ls; rest = r }
 
--- another byte goes in front of the first line, or of the rest
-pub linesOf-other : (c : ℕ) (cs : List ℕ) → eqb c lf ≡ false → linesOf (c ∷ cs) ≡ onLine c (linesOf cs .whole) (linesOf cs .rest)
+-- A byte other than LF goes in front of the first line, or of the rest.
+pub linesOf-other : (c : ℕ) (cs : List ℕ) → eqb c lf ≡ false → linesOf (c ∷ cs) ≡ extendLine c (linesOf cs .whole) (linesOf cs .rest)
 unfolding linesOf
 linesOf-other c cs h = rw (h, linesOf)

@@ -7,7 +7,7 @@ use Rattle.sheet_format.specs.Bytes.{ascii}
 use Rattle.sheet_format.specs.Sheets.{Sheet, Refusal, refusal, Read, sheet, refused}
 use Rattle.sheet_format.proofs.Computing.{computeSheet}
 
--- number and line, or 0 and 0 for a sheet
+-- A refusal is told as its number and its line, a sheet as 0 and 0.
 abbrev told : Read → ℕ × ℕ
 told (sheet s) = (0, 0)
 told (refused r) = (r .number, r .line)
@@ -16,7 +16,7 @@ unfoldable reads : String → ℕ × ℕ
 unfolding computeSheet
 reads s = told (computeSheet (ascii s))
 
--- 6: letter, field count, number, name, arity, variable, no LF; an empty line; five nodes
+-- Refusal 6 is for a letter, field count, number, name, arity, variable, no LF, an empty line, or five nodes.
 letter : reads "y\n" ≡ (6, 1)
 unfolding reads
 letter = refl
@@ -61,7 +61,7 @@ five-nodes : reads "A\t0\t1\t2\t3\t4\t5\n" ≡ (6, 1)
 unfolding reads
 five-nodes = refl
 
--- 8: not yet there, its own number, a name again
+-- Refusal 8 is for a symbol not yet there, a node's own number, or a name declared again.
 unknown : reads "P\tp\t0\nA\t1\n" ≡ (8, 2)
 unfolding reads
 unknown = refl
@@ -74,7 +74,7 @@ again : reads "P\tp\t0\nF\tp\t1\n" ≡ (8, 2)
 unfolding reads
 again = refl
 
--- 9: neither, arity, wrong kind at C and Q; > to what is no atom is no clause
+-- Refusal 9 is for neither kind, a wrong arity, or a wrong kind at C and Q; > to what is no atom is no clause.
 neither-kind : reads "Y\nV\t0\n&\t0\t1\n" ≡ (9, 3)
 unfolding reads
 neither-kind = refl
@@ -95,7 +95,7 @@ no-rule : reads "P\tp\t0\nA\t0\n&\t0\t0\n>\t0\t1\nC\t2\n" ≡ (9, 5)
 unfolding reads
 no-rule = refl
 
--- 64 members pass, 65 do not
+-- A clause of 64 members passes, and one of 65 does not.
 members-64 : reads "P\tp\t0\nA\t0\n&\t0\t0\n&\t1\t1\n&\t2\t2\n&\t3\t3\n&\t4\t4\n&\t5\t5\nC\t6\nQ\t0\n" ≡ (0, 0)
 unfolding reads
 members-64 = refl
@@ -104,16 +104,18 @@ members-65 : reads "P\tp\t0\nA\t0\n&\t0\t0\n&\t1\t1\n&\t2\t2\n&\t3\t3\n&\t4\t4\n
 unfolding reads
 members-65 = refl
 
--- a term of 1,024 variables and symbols passes, with one more it does not
-term-1024 : reads "F\tf\t2\nF\tg\t1\nV\t0\nA\t0\t0\t0\nA\t0\t1\t1\nA\t0\t2\t2\nA\t0\t3\t3\nA\t0\t4\t4\nA\t0\t5\t5\nA\t0\t6\t6\nA\t0\t7\t7\nA\t0\t8\t8\nA\t1\t9\nY\nQ\t11\n" ≡ (0, 0)
+-- A term of 1,024 variables and symbols passes, and one with one more does not.
+term-1024 : reads
+    "F\tf\t2\nF\tg\t1\nV\t0\nA\t0\t0\t0\nA\t0\t1\t1\nA\t0\t2\t2\nA\t0\t3\t3\nA\t0\t4\t4\nA\t0\t5\t5\nA\t0\t6\t6\nA\t0\t7\t7\nA\t0\t8\t8\nA\t1\t9\nY\nQ\t11\n" ≡ (0, 0)
 unfolding reads
 term-1024 = refl
 
-term-1025 : reads "F\tf\t2\nF\tg\t1\nV\t0\nA\t0\t0\t0\nA\t0\t1\t1\nA\t0\t2\t2\nA\t0\t3\t3\nA\t0\t4\t4\nA\t0\t5\t5\nA\t0\t6\t6\nA\t0\t7\t7\nA\t0\t8\t8\nA\t1\t9\nA\t1\t10\n" ≡ (9, 14)
+term-1025 : reads
+    "F\tf\t2\nF\tg\t1\nV\t0\nA\t0\t0\t0\nA\t0\t1\t1\nA\t0\t2\t2\nA\t0\t3\t3\nA\t0\t4\t4\nA\t0\t5\t5\nA\t0\t6\t6\nA\t0\t7\t7\nA\t0\t8\t8\nA\t1\t9\nA\t1\t10\n" ≡ (9, 14)
 unfolding reads
 term-1025 = refl
 
--- 10: a free variable in a clause; a bound one is none
+-- Refusal 10 is for a free variable in a clause, and a bound one passes.
 open-clause : reads "P\tp\t1\nV\t7\nA\t0\t0\nC\t1\n" ≡ (10, 4)
 unfolding reads
 open-clause = refl
@@ -122,7 +124,7 @@ closed : reads "P\tp\t1\nV\t7\nA\t0\t0\nU\t7\t1\nC\t2\nQ\t1\n" ≡ (0, 0)
 unfolding reads
 closed = refl
 
--- 11: no Q line, bytes after it
+-- Refusal 11 is for no Q line, or for bytes after it.
 no-goal : reads "Y\n" ≡ (11, 2)
 unfolding reads
 no-goal = refl

@@ -10,11 +10,12 @@ use lib.Dec.{eqb}
 use lib.ListN.{getElem?}
 use borrow.Author.Tests.{eqb-true}
 use Rattle.terms.specs.Terms.{Term, leaf, app, Terms, nil, cons, count}
-use Rattle.formulas.specs.Formulas.{Goal, atom, truth, and, or, implies, exists, forall, Clause, fact, rule, both, each, freeT, freeTs, freeG, freeC}
+use Rattle.formulas.specs.Formulas.{Goal, atom, truth, and, or, implies, exists, forall, Clause, fact, rule, both, each, freeT, freeTs}
+use Rattle.formulas.specs.Formulas.{freeG, freeC}
 use Rattle.formulas.proofs.Free.{and-parts}
 use Rattle.sheet_format.specs.Limits.{variableNames}
 use Rattle.sheet_format.specs.Nodes.{Declaration}
-use Rattle.sheet_format.proofs.Places.{at-append}
+use Rattle.sheet_format.proofs.Indexing.{at-append}
 
 -- Symbol f is declared as a function symbol (k is true) or as a predicate, with arity n.
 pub record Declares (ds : List Declaration) (k : Bool) (f n : ℕ) : Type 0 where
@@ -54,12 +55,12 @@ unfoldable mutual
 
 -- more declarations
 
--- a symbol stays declared
+-- A symbol stays declared when declarations are added.
 pub declares-more : (ds es : List Declaration) (k : Bool) (f n : ℕ) → Declares ds k f n → Declares (ds ++ es) k f n
 declares-more ds es k f n h =
     record { declaration = h .declaration; at = at-append ds es f (h .declaration) (h .at); kind = h .kind; arity = h .arity }
 
--- a term stays formed
+-- A term stays well-formed when declarations are added.
 mutual
   unfolding FormedTerm
 
@@ -71,11 +72,11 @@ mutual
   terms-more nil ds es h = tt
   terms-more (cons t ts) ds es h = (term-more t ds es (h .0), terms-more ts ds es (h .1))
 
--- an atom stays formed
+-- An atom stays well-formed when declarations are added.
 pub atom-more : (p : ℕ) (ts : Terms ℕ) (ds es : List Declaration) → FormedAtom p ts ds → FormedAtom p ts (ds ++ es)
 atom-more p ts ds es h = (declares-more ds es false p (count ts) (h .0), terms-more ts ds es (h .1))
 
--- goals and clauses stay formed
+-- Goals and clauses stay well-formed when declarations are added.
 mutual
   unfolding FormedGoal
 
@@ -96,12 +97,12 @@ mutual
 
 -- free names
 
--- one side of a test that is true
+-- If one of two tests holds, the first or the second does.
 either : (a b : Bool) → (a || b) ≡ true → (a ≡ true) ⊎ (b ≡ true)
 either true b h = inl refl
 either false b h = inr h
 
--- a name that stands free in a formed term is below 8
+-- A name that stands free in a well-formed term is below 8.
 mutual
   unfolding FormedTerm freeT
 
@@ -114,21 +115,26 @@ mutual
   free-terms (cons t ts) ds v h f =
       elim (either (freeT t v) (freeTs ts v) f) [ inl k ↦ free-term t ds v (h .0) k | inr k ↦ free-terms ts ds v (h .1) k ]
 
--- and so in goals and clauses
+-- A name that stands free in a well-formed goal or clause is below 8.
 mutual
   unfolding FormedGoal freeG
 
   pub free-goal : (g : Goal) (ds : List Declaration) (v : ℕ) → FormedGoal g ds → freeG g v ≡ true → v < variableNames
   free-goal (atom p ts) ds v h f = free-terms ts ds v (h .1) f
   free-goal truth ds v h f = absurd (true≢false (sym f))
-  free-goal (and a b) ds v h f = elim (either (freeG a v) (freeG b v) f) [ inl k ↦ free-goal a ds v (h .0) k | inr k ↦ free-goal b ds v (h .1) k ]
-  free-goal (or a b) ds v h f = elim (either (freeG a v) (freeG b v) f) [ inl k ↦ free-goal a ds v (h .0) k | inr k ↦ free-goal b ds v (h .1) k ]
-  free-goal (implies c g) ds v h f = elim (either (freeC c v) (freeG g v) f) [ inl k ↦ free-clause c ds v (h .0) k | inr k ↦ free-goal g ds v (h .1) k ]
+  free-goal (and a b) ds v h f =
+      elim (either (freeG a v) (freeG b v) f) [ inl k ↦ free-goal a ds v (h .0) k | inr k ↦ free-goal b ds v (h .1) k ]
+  free-goal (or a b) ds v h f =
+      elim (either (freeG a v) (freeG b v) f) [ inl k ↦ free-goal a ds v (h .0) k | inr k ↦ free-goal b ds v (h .1) k ]
+  free-goal (implies c g) ds v h f =
+      elim (either (freeC c v) (freeG g v) f) [ inl k ↦ free-clause c ds v (h .0) k | inr k ↦ free-goal g ds v (h .1) k ]
   free-goal (exists w g) ds v h f = free-goal g ds v (h .1) (and-parts (not (eqb w v)) (freeG g v) f .1)
   free-goal (forall w g) ds v h f = free-goal g ds v (h .1) (and-parts (not (eqb w v)) (freeG g v) f .1)
 
   pub free-clause : (c : Clause) (ds : List Declaration) (v : ℕ) → FormedClause c ds → freeC c v ≡ true → v < variableNames
   free-clause (fact p ts) ds v h f = free-terms ts ds v (h .1) f
-  free-clause (rule g p ts) ds v h f = elim (either (freeG g v) (freeTs ts v) f) [ inl k ↦ free-goal g ds v (h .0) k | inr k ↦ free-terms ts ds v (h .1 .1) k ]
-  free-clause (both a b) ds v h f = elim (either (freeC a v) (freeC b v) f) [ inl k ↦ free-clause a ds v (h .0) k | inr k ↦ free-clause b ds v (h .1) k ]
+  free-clause (rule g p ts) ds v h f =
+      elim (either (freeG g v) (freeTs ts v) f) [ inl k ↦ free-goal g ds v (h .0) k | inr k ↦ free-terms ts ds v (h .1 .1) k ]
+  free-clause (both a b) ds v h f =
+      elim (either (freeC a v) (freeC b v) f) [ inl k ↦ free-clause a ds v (h .0) k | inr k ↦ free-clause b ds v (h .1) k ]
   free-clause (each w c) ds v h f = free-clause c ds v (h .1) (and-parts (not (eqb w v)) (freeC c v) f .1)

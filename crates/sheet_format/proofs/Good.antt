@@ -17,9 +17,11 @@ use Rattle.sheet_format.specs.Limits.{maxArity, variableNames, maxSymbol
 use Rattle.sheet_format.specs.Bytes.{linesOf, isName}
 use Rattle.sheet_format.specs.SheetLines.{NodeLine, SheetLine, declareLine, nodeLine, clauseLine, goalLine, parseLine}
 use Rattle.sheet_format.specs.Nodes.{Declaration, Node, memberCount, nodeOf, isSomething}
-use Rattle.sheet_format.specs.Sheets.{Sheet, refusal, Read, sheet, refused, Table, Taken, next, stop, last, isDeclared, takeDeclaration, addNode, takeNode, anyFree, addClause, clauseAt, takeClause, lastGoal, goalAt, takeLine, atEnd, afterGoal, readFrom, readSheet}
+use Rattle.sheet_format.specs.Sheets.{Sheet, refusal, Read, sheet, refused, Table, Taken, next, stop, last, isDeclared}
+use Rattle.sheet_format.specs.Sheets.{takeDeclaration, addNode, takeNode, anyFree, addClause, clauseAt, takeClause, lastGoal, goalAt}
+use Rattle.sheet_format.specs.Sheets.{takeLine, atEnd, afterGoal, readFrom, readSheet}
 use Rattle.sheet_format.proofs.Options.{OnSome}
-use Rattle.sheet_format.proofs.Places.{at-some}
+use Rattle.sheet_format.proofs.Indexing.{at-some}
 use Rattle.sheet_format.proofs.Names.{Names, names-nil, names-snoc}
 use Rattle.sheet_format.proofs.Formed.{FormedGoal, FormedClause, clause-more, free-goal, free-clause}
 use Rattle.sheet_format.proofs.SheetLines.{FormedLine, FormedNodeLine, parseLine-some}
@@ -47,7 +49,7 @@ memberCount-members (each v c) = memberCount-members c ∙ sym (length-map (quan
 
 -- closed clauses
 
--- a name that stands free, of the n names from v on, is found
+-- A name that stands free, of the n names from v on, is found.
 free-any : (n v : ℕ) (c : Clause) (w : ℕ) → freeC c w ≡ true → v ≤ w → w < v + n → anyFree n v c ≡ true
 unfolding anyFree
 free-any zero v c w f l k = absurd (omega arith)
@@ -57,7 +59,7 @@ free-any (suc n) v c w f l k = go (eqb v w) refl (λ m. free-any n (suc v) c w f
     go true e ih = or-left (freeC c v) (anyFree n (suc v) c) (subst (λ (x : ℕ). freeC c x ≡ true) (sym (eqb-true v w e)) f)
     go false e ih = let d = eqb-false v w e in or-right (freeC c v) (anyFree n (suc v) c) (ih (omega arith))
 
--- a formed clause with none of the eight names free is closed
+-- A well-formed clause with none of the eight names free is closed.
 closed : (c : Clause) (ds : List Declaration) → FormedClause c ds → anyFree variableNames 0 c ≡ false → Closed c
 closed c ds h k v f = let l = free-clause c ds v h f in true≢false (sym (free-any variableNames 0 c v f (omega arith) (omega arith)) ∙ k)
 
@@ -71,19 +73,20 @@ record Invariant (t : Table) : Type 0 where
   clauses : All (λ c. FormedClause c (t .symbols)) (t .clauses)
   closedClauses : All Closed (t .clauses)
 
--- after a line
+-- After a line that is taken the invariant holds, and after a Q line the goal is well-formed.
 abbrev AfterLine : Table → Taken → Type 0
 AfterLine t (next u) = Invariant u
 AfterLine t (stop n) = Unit {0}
 AfterLine t (last g) = FormedGoal g (t .symbols)
 
--- of a test's two sides
+-- What holds after each result of a test holds after the one picked.
 cond-line : (t : Table) (b : Bool) (x y : Taken) → (b ≡ true → AfterLine t x) → (b ≡ false → AfterLine t y) → AfterLine t (cond b x y)
 cond-line t true x y h k = h refl
 cond-line t false x y h k = k refl
 
--- a declaration
-declaration-line : (t : Table) (d : Declaration) → Invariant t → isName (d .name) ≡ true → d .arity ≤ maxArity → AfterLine t (takeDeclaration t d)
+-- A declaration keeps the invariant.
+declaration-line : (t : Table) (d : Declaration) → Invariant t → isName (d .name) ≡ true → d .arity ≤ maxArity
+    → AfterLine t (takeDeclaration t d)
 unfolding takeDeclaration
 declaration-line t d i h a =
     cond-line t (not (ltb (length (t .symbols)) maxSymbols)) (stop 7) _ (λ e. tt)
@@ -91,13 +94,16 @@ declaration-line t d i h a =
     (λ q. record {
       names = names-snoc (t .symbols) d (i .names) h q;
       arities = all-append (λ x. x .arity ≤ maxArity) (t .symbols) (d ∷ []) (i .arities) (a, tt);
-      nodes = all-weaken (FormedNode (t .symbols)) (FormedNode (t .symbols ++ (d ∷ []))) (node-more (t .symbols) (d ∷ [])) (t .nodes) (i .nodes);
+      nodes =
+          all-weaken (FormedNode (t .symbols)) (FormedNode (t .symbols ++ (d ∷ []))) (node-more (t .symbols) (d ∷ [])) (t .nodes)
+          (i .nodes);
       clauses =
-          all-weaken (λ c. FormedClause c (t .symbols)) (λ c. FormedClause c (t .symbols ++ (d ∷ []))) (λ c k. clause-more c (t .symbols) (d ∷ []) k) (t .clauses) (i .clauses);
+          all-weaken (λ c. FormedClause c (t .symbols)) (λ c. FormedClause c (t .symbols ++ (d ∷ [])))
+          (λ c k. clause-more c (t .symbols) (d ∷ []) k) (t .clauses) (i .clauses);
       closedClauses = i .closedClauses;
     }))
 
--- a node is added
+-- Adding a well-formed node keeps the invariant.
 addNode-line : (t : Table) (o : Option Node) → Invariant t → OnSome (FormedNode (t .symbols)) o → AfterLine t (addNode t o)
 unfolding addNode
 addNode-line t none i h = tt
@@ -112,14 +118,14 @@ addNode-line t (some n) i h =
     })
     (λ e. tt)
 
--- a node line
+-- A node line keeps the invariant.
 node-line : (t : Table) (l : NodeLine) → Invariant t → FormedNodeLine l → AfterLine t (takeNode t l)
 unfolding takeNode
 node-line t l i h =
     cond-line t (not (ltb (length (t .nodes)) maxNodes)) (stop 7) (addNode t (nodeOf (t .symbols) (t .nodes) l)) (λ e. tt)
     (λ e. addNode-line t (nodeOf (t .symbols) (t .nodes) l) i (nodeOf-some (t .symbols) (t .nodes) l (i .nodes) h))
 
--- a clause is added
+-- Adding a well-formed clause keeps the invariant.
 addClause-line : (t : Table) (o : Option Clause) → Invariant t → OnSome (λ c. FormedClause c (t .symbols)) o → AfterLine t (addClause t o)
 unfolding addClause
 addClause-line t none i h = tt
@@ -133,32 +139,32 @@ addClause-line t (some c) i h =
       closedClauses = all-append Closed (t .clauses) (c ∷ []) (i .closedClauses) (closed c (t .symbols) h e, tt);
     })
 
--- from the node that is one
+-- Adding the clause that a well-formed node is keeps the invariant.
 clauseAt-line : (t : Table) (o : Option Node) → Invariant t → OnSome (FormedNode (t .symbols)) o → AfterLine t (clauseAt t o)
 unfolding clauseAt
 clauseAt-line t none i h = tt
 clauseAt-line t (some n) i h = addClause-line t (n .clause) i (h .clause)
 
--- a C line
+-- A C line keeps the invariant.
 clause-line : (t : Table) (n : ℕ) → Invariant t → AfterLine t (takeClause t n)
 unfolding takeClause
 clause-line t n i =
     cond-line t (not (ltb (length (t .clauses)) maxClauses)) (stop 7) (clauseAt t (getElem? (t .nodes) n)) (λ e. tt)
     (λ e. clauseAt-line t (getElem? (t .nodes) n) i (at-some (FormedNode (t .symbols)) (t .nodes) n (i .nodes)))
 
--- a goal ends the sheet
+-- The goal that ends the sheet is well-formed.
 lastGoal-line : (t : Table) (o : Option Goal) → OnSome (λ g. FormedGoal g (t .symbols)) o → AfterLine t (lastGoal o)
 unfolding lastGoal
 lastGoal-line t none h = tt
 lastGoal-line t (some g) h = h
 
--- from the node that is one
+-- The goal of a well-formed node, which ends the sheet, is well-formed.
 goalAt-line : (t : Table) (o : Option Node) → OnSome (FormedNode (t .symbols)) o → AfterLine t (goalAt o)
 unfolding goalAt
 goalAt-line t none h = tt
 goalAt-line t (some n) h = lastGoal-line t (n .goal) (h .goal)
 
--- any line
+-- After any line the invariant holds, or the goal is well-formed.
 takeLine-line : (t : Table) (o : Option SheetLine) → Invariant t → OnSome FormedLine o → AfterLine t (takeLine t o)
 unfolding takeLine
 takeLine-line t none i h = tt
@@ -174,24 +180,25 @@ abbrev GoodRead : Read → Type 0
 GoodRead (sheet s) = Good s
 GoodRead (refused r) = Unit {0}
 
--- after the Q line
+-- What is read after the Q line is good if the sheet is.
 afterGoal-good : (ls : List (List ℕ)) (r : List ℕ) (k : ℕ) (s : Sheet) → Good s → GoodRead (afterGoal ls r k s)
 unfolding afterGoal
 afterGoal-good [] [] k s h = h
 afterGoal-good [] (c ∷ cs) k s h = tt
 afterGoal-good (l ∷ ls) r k s h = tt
 
--- without a Q line
+-- Without a Q line no sheet is read.
 atEnd-good : (r : List ℕ) (k : ℕ) → GoodRead (atEnd r k)
 unfolding atEnd
 atEnd-good [] k = tt
 atEnd-good (c ∷ cs) k = tt
 
--- from any table that satisfies the invariant
+-- Reading on from any table that satisfies the invariant gives a good sheet, or a refusal.
 readFrom-good : (ls : List (List ℕ)) (r : List ℕ) (k : ℕ) (t : Table) → Invariant t → GoodRead (readFrom ls r k t)
 unfolding readFrom
 readFrom-good [] r k t i = atEnd-good r k
-readFrom-good (l ∷ ls) r k t i = go (takeLine t (parseLine l)) (takeLine-line t (parseLine l) i (parseLine-some l)) (λ u. readFrom-good ls r (suc k) u)
+readFrom-good (l ∷ ls) r k t i =
+    go (takeLine t (parseLine l)) (takeLine-line t (parseLine l) i (parseLine-some l)) (λ u. readFrom-good ls r (suc k) u)
   where
     go : (x : Taken) → AfterLine t x → ((u : Table) → Invariant u → GoodRead (readFrom ls r (suc k) u))
         → GoodRead (elim x [

@@ -1,7 +1,7 @@
 pub mod Computing
 pub mod Cases
 pub mod Options
-pub mod Places
+pub mod Indexing
 pub mod Bytes
 pub mod Numbers
 pub mod Formed

@@ -11,12 +11,15 @@ use Rattle.terms.specs.Lists.{All}
 use Rattle.terms.specs.Terms.{Term, app, Terms, size, count}
 use Rattle.formulas.specs.Formulas.{Goal, atom, truth, and, or, implies, exists, forall, Clause, both, each}
 use Rattle.sheet_format.specs.Limits.{maxTermSize, maxMembers}
-use Rattle.sheet_format.specs.SheetLines.{NodeLine, variableLine, applyLine, trueLine, andLine, orLine, impliesLine, someLine, everyLine}
-use Rattle.sheet_format.specs.Nodes.{Declaration, Node, neither, memberCount, consTerm, termsOf, sized, termNode, applied, applyNode, goals2, bothClauses, supposed, ruled, with1, with2, consNode, nodesAt, withSymbol, nodeOf}
+use Rattle.sheet_format.specs.SheetLines.{NodeLine, variableLine, applyLine, trueLine, andLine, orLine, impliesLine, someLine}
+use Rattle.sheet_format.specs.SheetLines.{everyLine}
+use Rattle.sheet_format.specs.Nodes.{Declaration, Node, neither, memberCount, consTerm, termsOf, sized, termNode, applied, applyNode}
+use Rattle.sheet_format.specs.Nodes.{goals2, bothClauses, supposed, ruled, with1, with2, consNode, nodesAt, withSymbol, nodeOf}
 use Rattle.sheet_format.proofs.Options.{OnSome, cond-some, map-some, some-weaken}
-use Rattle.sheet_format.proofs.Places.{at-some}
+use Rattle.sheet_format.proofs.Indexing.{at-some}
 use Rattle.sheet_format.proofs.SheetLines.{FormedNodeLine}
-use Rattle.sheet_format.proofs.Formed.{Declares, FormedTerm, FormedTerms, FormedGoal, FormedClause, term-more, goal-more, clause-more}
+use Rattle.sheet_format.proofs.Formed.{Declares, FormedTerm, FormedTerms, FormedGoal, FormedClause, term-more, goal-more}
+use Rattle.sheet_format.proofs.Formed.{clause-more}
 
 pub record FormedNode (ds : List Declaration) (n : Node) : Type 0 where
   pub term : OnSome (λ t. FormedTerm t ds) (n .term)
@@ -32,7 +35,7 @@ node-more ds es n h =
       clause = some-weaken (λ c. FormedClause c ds) (λ c. FormedClause c (ds ++ es)) (λ c k. clause-more c ds es k) (n .clause) (h .clause);
     }
 
--- a node that is nothing
+-- A node that is nothing is well-formed.
 neither-formed : (ds : List Declaration) → FormedNode ds neither
 unfolding neither
 neither-formed ds = record { term = tt; goal = tt; clause = tt }
@@ -43,27 +46,29 @@ neither-formed ds = record { term = tt; goal = tt; clause = tt }
 abbrev FormedList : List Declaration → ℕ → Terms ℕ → Type 0
 FormedList ds n ts = (count ts ≡ n) × FormedTerms ts ds
 
--- one term more
-consTerm-some : (ds : List Declaration) (n : ℕ) (o : Option (Term ℕ)) (p : Option (Terms ℕ)) → OnSome (λ t. FormedTerm t ds) o → OnSome (FormedList ds n) p
+-- One more well-formed term makes a well-formed list one term longer.
+consTerm-some : (ds : List Declaration) (n : ℕ) (o : Option (Term ℕ)) (p : Option (Terms ℕ)) → OnSome (λ t. FormedTerm t ds) o
+    → OnSome (FormedList ds n) p
     → OnSome (FormedList ds (suc n)) (consTerm o p)
 unfolding consTerm count FormedTerm
 consTerm-some ds n none p h k = tt
 consTerm-some ds n (some t) none h k = tt
 consTerm-some ds n (some t) (some ts) h k = (ap suc (k .0), (h, k .1))
 
--- the nodes as terms
+-- Well-formed nodes, as terms, are a well-formed list of as many terms.
 termsOf-some : (ds : List Declaration) (ns : List Node) → All (FormedNode ds) ns → OnSome (FormedList ds (length ns)) (termsOf ns)
 unfolding termsOf count FormedTerm
 termsOf-some ds [] h = (refl, tt)
 termsOf-some ds (n ∷ ns) h = consTerm-some ds (length ns) (n .term) (termsOf ns) (h .0 .term) (termsOf-some ds ns (h .1))
 
--- a term that is not too large
+-- A well-formed term that passes `sized` is well-formed.
 sized-some : (ds : List Declaration) (t : Term ℕ) → FormedTerm t ds → OnSome (λ u. FormedTerm u ds) (sized t)
 unfolding sized
 sized-some ds t h = cond-some (λ u. FormedTerm u ds) (leb (size t) maxTermSize) (some t) none (λ e. h) (λ e. tt)
 
--- a symbol with its arity of terms
-applied-formed : (ds : List Declaration) (k : Bool) (f n : ℕ) (o : Option (Terms ℕ)) → Declares ds k f n → OnSome (FormedList ds n) o → FormedNode ds (applied k f o)
+-- A declared symbol applied to its arity of well-formed terms is a well-formed node.
+applied-formed : (ds : List Declaration) (k : Bool) (f n : ℕ) (o : Option (Terms ℕ)) → Declares ds k f n → OnSome (FormedList ds n) o
+    → FormedNode ds (applied k f o)
 unfolding applied termNode FormedTerm FormedGoal
 applied-formed ds true f n none d h = neither-formed ds
 applied-formed ds true f n (some ts) d h =
@@ -73,8 +78,9 @@ applied-formed ds false f n (some ts) d h =
     let a : Declares ds false f (count ts) = subst (Declares ds false f) (sym (h .0)) d in
     record { term = tt; goal = (a, h .1); clause = (a, h .1) }
 
--- a symbol with the number of nodes that is its arity, or nothing
-applyNode-formed : (ds : List Declaration) (d : Declaration) (f : ℕ) (ns : List Node) → getElem? ds f ≡ some d → All (FormedNode ds) ns → FormedNode ds (applyNode d f ns)
+-- A declared symbol applied to as many nodes as its arity is a well-formed node, and else it is nothing.
+applyNode-formed : (ds : List Declaration) (d : Declaration) (f : ℕ) (ns : List Node) → getElem? ds f ≡ some d → All (FormedNode ds) ns
+    → FormedNode ds (applyNode d f ns)
 unfolding applyNode
 applyNode-formed ds d f ns h k = go (eqb (length ns) (d .arity)) refl
   where
@@ -84,21 +90,25 @@ applyNode-formed ds d f ns h k = go (eqb (length ns) (d .arity)) refl
         (record { declaration = d; at = h; kind = refl; arity = sym (eqb-true (length ns) (d .arity) e) }) (termsOf-some ds ns k)
     go false e = neither-formed ds
 
--- one node more
-consNode-some : (ds : List Declaration) (o : Option Node) (p : Option (List Node)) → OnSome (FormedNode ds) o → OnSome (All (FormedNode ds)) p → OnSome (All (FormedNode ds)) (consNode o p)
+-- One more well-formed node keeps a list of nodes well-formed.
+consNode-some : (ds : List Declaration) (o : Option Node) (p : Option (List Node)) → OnSome (FormedNode ds) o
+    → OnSome (All (FormedNode ds)) p → OnSome (All (FormedNode ds)) (consNode o p)
 unfolding consNode
 consNode-some ds none p h k = tt
 consNode-some ds (some n) none h k = tt
 consNode-some ds (some n) (some ns) h k = (h, k)
 
--- the nodes of those numbers
-nodesAt-some : (ds : List Declaration) (nodes : List Node) (is : List ℕ) → All (FormedNode ds) nodes → OnSome (All (FormedNode ds)) (nodesAt nodes is)
+-- The nodes of given numbers are well-formed if all nodes are.
+nodesAt-some : (ds : List Declaration) (nodes : List Node) (is : List ℕ) → All (FormedNode ds) nodes
+    → OnSome (All (FormedNode ds)) (nodesAt nodes is)
 unfolding nodesAt
 nodesAt-some ds nodes [] h = tt
-nodesAt-some ds nodes (i ∷ is) h = consNode-some ds (getElem? nodes i) (nodesAt nodes is) (at-some (FormedNode ds) nodes i h) (nodesAt-some ds nodes is h)
+nodesAt-some ds nodes (i ∷ is) h =
+    consNode-some ds (getElem? nodes i) (nodesAt nodes is) (at-some (FormedNode ds) nodes i h) (nodesAt-some ds nodes is h)
 
--- a declared symbol and nodes that are there
-withSymbol-some : (ds : List Declaration) (f : ℕ) (o : Option Declaration) (p : Option (List Node)) → getElem? ds f ≡ o → OnSome (All (FormedNode ds)) p
+-- A declared symbol and well-formed nodes that are there make a well-formed node.
+withSymbol-some : (ds : List Declaration) (f : ℕ) (o : Option Declaration) (p : Option (List Node)) → getElem? ds f ≡ o
+    → OnSome (All (FormedNode ds)) p
     → OnSome (FormedNode ds) (withSymbol f o p)
 unfolding withSymbol
 withSymbol-some ds f none p e h = tt
@@ -107,15 +117,16 @@ withSymbol-some ds f (some d) (some ns) e h = applyNode-formed ds d f ns e h
 
 -- connectives
 
--- a goal made of two
-goals2-some : (ds : List Declaration) (f : Goal → Goal → Goal) → ((a b : Goal) → FormedGoal a ds → FormedGoal b ds → FormedGoal (f a b) ds) → (o p : Option Goal)
+-- A goal made of two well-formed goals is well-formed.
+goals2-some : (ds : List Declaration) (f : Goal → Goal → Goal)
+    → ((a b : Goal) → FormedGoal a ds → FormedGoal b ds → FormedGoal (f a b) ds) → (o p : Option Goal)
     → OnSome (λ g. FormedGoal g ds) o → OnSome (λ g. FormedGoal g ds) p → OnSome (λ g. FormedGoal g ds) (goals2 f o p)
 unfolding goals2
 goals2-some ds f k none p h l = tt
 goals2-some ds f k (some a) none h l = tt
 goals2-some ds f k (some a) (some b) h l = k a b h l
 
--- two clauses
+-- A clause made of two well-formed clauses is well-formed.
 bothClauses-some : (ds : List Declaration) (o p : Option Clause) → OnSome (λ c. FormedClause c ds) o → OnSome (λ c. FormedClause c ds) p
     → OnSome (λ c. FormedClause c ds) (bothClauses o p)
 unfolding bothClauses FormedGoal
@@ -124,16 +135,18 @@ bothClauses-some ds (some c) none h k = tt
 bothClauses-some ds (some c) (some d) h k =
     cond-some (λ x. FormedClause x ds) (leb (memberCount c + memberCount d) maxMembers) (some (both c d)) none (λ e. (h, k)) (λ e. tt)
 
--- a clause implies a goal
-supposed-some : (ds : List Declaration) (o : Option Clause) (p : Option Goal) → OnSome (λ c. FormedClause c ds) o → OnSome (λ g. FormedGoal g ds) p
+-- A goal in which a well-formed clause implies a well-formed goal is well-formed.
+supposed-some : (ds : List Declaration) (o : Option Clause) (p : Option Goal) → OnSome (λ c. FormedClause c ds) o
+    → OnSome (λ g. FormedGoal g ds) p
     → OnSome (λ g. FormedGoal g ds) (supposed o p)
 unfolding supposed FormedGoal
 supposed-some ds none p h k = tt
 supposed-some ds (some c) none h k = tt
 supposed-some ds (some c) (some g) h k = (h, k)
 
--- a goal implies an atom
-ruled-some : (ds : List Declaration) (o p : Option Goal) → OnSome (λ g. FormedGoal g ds) o → OnSome (λ g. FormedGoal g ds) p → OnSome (λ c. FormedClause c ds) (ruled o p)
+-- A clause in which a well-formed goal implies a well-formed atom is well-formed.
+ruled-some : (ds : List Declaration) (o p : Option Goal) → OnSome (λ g. FormedGoal g ds) o → OnSome (λ g. FormedGoal g ds) p
+    → OnSome (λ c. FormedClause c ds) (ruled o p)
 unfolding ruled FormedGoal
 ruled-some ds none p h k = tt
 ruled-some ds (some g) none h k = tt
@@ -145,15 +158,17 @@ ruled-some ds (some g) (some (implies c a)) h k = tt
 ruled-some ds (some g) (some (exists v a)) h k = tt
 ruled-some ds (some g) (some (forall v a)) h k = tt
 
--- a node made from one
-with1-some : (ds : List Declaration) (f : Node → Node) → ((a : Node) → FormedNode ds a → FormedNode ds (f a)) → (o : Option Node) → OnSome (FormedNode ds) o
+-- A node made from one well-formed node is well-formed.
+with1-some : (ds : List Declaration) (f : Node → Node) → ((a : Node) → FormedNode ds a → FormedNode ds (f a)) → (o : Option Node)
+    → OnSome (FormedNode ds) o
     → OnSome (FormedNode ds) (with1 f o)
 unfolding with1
 with1-some ds f k none h = tt
 with1-some ds f k (some a) h = k a h
 
--- a node made from two
-with2-some : (ds : List Declaration) (f : Node → Node → Node) → ((a b : Node) → FormedNode ds a → FormedNode ds b → FormedNode ds (f a b)) → (o p : Option Node)
+-- A node made from two well-formed nodes is well-formed.
+with2-some : (ds : List Declaration) (f : Node → Node → Node) → ((a b : Node) → FormedNode ds a → FormedNode ds b → FormedNode ds (f a b))
+    → (o p : Option Node)
     → OnSome (FormedNode ds) o → OnSome (FormedNode ds) p → OnSome (FormedNode ds) (with2 f o p)
 unfolding with2
 with2-some ds f k none p h l = tt
@@ -161,7 +176,8 @@ with2-some ds f k (some a) none h l = tt
 with2-some ds f k (some a) (some b) h l = k a b h l
 
 -- The node of a line.
-pub nodeOf-some : (ds : List Declaration) (nodes : List Node) (l : NodeLine) → All (FormedNode ds) nodes → FormedNodeLine l → OnSome (FormedNode ds) (nodeOf ds nodes l)
+pub nodeOf-some : (ds : List Declaration) (nodes : List Node) (l : NodeLine) → All (FormedNode ds) nodes → FormedNodeLine l
+    → OnSome (FormedNode ds) (nodeOf ds nodes l)
 unfolding nodeOf termNode FormedTerm FormedGoal
 nodeOf-some ds nodes (variableLine v) h k = record { term = k; goal = tt; clause = tt }
 nodeOf-some ds nodes (applyLine f ns) h k = withSymbol-some ds f (getElem? ds f) (nodesAt nodes ns) refl (nodesAt-some ds nodes ns h)
@@ -174,7 +190,8 @@ nodeOf-some ds nodes (andLine n m) h k =
     })
     (getElem? nodes n) (getElem? nodes m) (at-some (FormedNode ds) nodes n h) (at-some (FormedNode ds) nodes m h)
 nodeOf-some ds nodes (orLine n m) h k =
-    with2-some ds _ (λ a b x y. record { term = tt; goal = goals2-some ds or (λ c d p q. (p, q)) (a .goal) (b .goal) (x .goal) (y .goal); clause = tt })
+    with2-some ds _
+    (λ a b x y. record { term = tt; goal = goals2-some ds or (λ c d p q. (p, q)) (a .goal) (b .goal) (x .goal) (y .goal); clause = tt })
     (getElem? nodes n) (getElem? nodes m) (at-some (FormedNode ds) nodes n h) (at-some (FormedNode ds) nodes m h)
 nodeOf-some ds nodes (impliesLine n m) h k =
     with2-some ds _ (λ a b x y. record {

@@ -11,7 +11,10 @@ use borrow.Author.Tests.{leb-true, ltb-true}
 use Rattle.formulas.proofs.Free.{and-parts}
 use Rattle.sheet_format.specs.Limits.{maxArity, variableNames}
 use Rattle.sheet_format.specs.Bytes.{isName, fields, number}
-use Rattle.sheet_format.specs.SheetLines.{NodeLine, variableLine, applyLine, trueLine, andLine, orLine, impliesLine, someLine, everyLine, SheetLine, declareLine, nodeLine, clauseLine, goalLine, numbers, declared, declaration, noNumber, oneNumber, twoNumbers, withVariable, application, lineOf, ofFields, parseLine}
+use Rattle.sheet_format.specs.SheetLines.{NodeLine, variableLine, applyLine, trueLine, andLine, orLine, impliesLine, someLine}
+use Rattle.sheet_format.specs.SheetLines.{everyLine, SheetLine, declareLine, nodeLine, clauseLine, goalLine, numbers, declared}
+use Rattle.sheet_format.specs.SheetLines.{declaration, noNumber, oneNumber, twoNumbers, withVariable, application, lineOf, ofFields}
+use Rattle.sheet_format.specs.SheetLines.{parseLine}
 use Rattle.sheet_format.proofs.Options.{OnSome, any-some, cond-some}
 
 -- A node line names a variable that there is.
@@ -34,7 +37,7 @@ FormedLine (goalLine n) = Unit {0}
 
 -- declarations
 
--- a name and an arity
+-- The line made of a name and an arity is well-formed.
 declared-some : (k : Bool) (n : List ℕ) (o : Option ℕ) → OnSome FormedLine (declared k n o)
 unfolding declared
 declared-some k n none = tt
@@ -42,7 +45,7 @@ declared-some k n (some a) =
     cond-some FormedLine (isName n && leb a maxArity) (some (declareLine k n a)) none
     (λ e. let p = and-parts (isName n) (leb a maxArity) e in (p .0, leb-true a maxArity (p .1))) (λ e. tt)
 
--- the two fields of a declaration
+-- The line made of the two fields of a declaration is well-formed.
 declaration-some : (k : Bool) (fs : List (List ℕ)) → OnSome FormedLine (declaration k fs)
 unfolding declaration
 declaration-some k [] = tt
@@ -52,23 +55,25 @@ declaration-some k (n ∷ a ∷ b ∷ fs) = tt
 
 -- numbers, of which P holds
 
--- no number
+-- A line with no number is well-formed.
 noNumber-some : (l : SheetLine) → FormedLine l → (o : Option (List ℕ)) → OnSome FormedLine (noNumber l o)
 unfolding noNumber
 noNumber-some l h none = tt
 noNumber-some l h (some []) = h
 noNumber-some l h (some (n ∷ ns)) = tt
 
--- one
-oneNumber-some : (P : List ℕ → Type 0) (l : ℕ → SheetLine) → ((n : ℕ) → P (n ∷ []) → FormedLine (l n)) → (o : Option (List ℕ)) → OnSome P o → OnSome FormedLine (oneNumber l o)
+-- A line made of one number is well-formed.
+oneNumber-some : (P : List ℕ → Type 0) (l : ℕ → SheetLine) → ((n : ℕ) → P (n ∷ []) → FormedLine (l n)) → (o : Option (List ℕ))
+    → OnSome P o → OnSome FormedLine (oneNumber l o)
 unfolding oneNumber
 oneNumber-some P l h none k = tt
 oneNumber-some P l h (some []) k = tt
 oneNumber-some P l h (some (n ∷ [])) k = h n k
 oneNumber-some P l h (some (n ∷ m ∷ ns)) k = tt
 
--- two
-twoNumbers-some : (P : List ℕ → Type 0) (l : ℕ → ℕ → SheetLine) → ((n m : ℕ) → P (n ∷ m ∷ []) → FormedLine (l n m)) → (o : Option (List ℕ)) → OnSome P o
+-- A line made of two numbers is well-formed.
+twoNumbers-some : (P : List ℕ → Type 0) (l : ℕ → ℕ → SheetLine) → ((n m : ℕ) → P (n ∷ m ∷ []) → FormedLine (l n m))
+    → (o : Option (List ℕ)) → OnSome P o
     → OnSome FormedLine (twoNumbers l o)
 unfolding twoNumbers
 twoNumbers-some P l h none k = tt
@@ -82,40 +87,45 @@ abbrev VariableFirst : List ℕ → Type 0
 VariableFirst [] = Unit {0}
 VariableFirst (v ∷ ns) = v < variableNames
 
--- the test for it
+-- Numbers that pass `withVariable` have the name of a variable first.
 withVariable-some : (o : Option (List ℕ)) → OnSome VariableFirst (withVariable o)
 unfolding withVariable
 withVariable-some none = tt
 withVariable-some (some []) = tt
-withVariable-some (some (v ∷ ns)) = cond-some VariableFirst (ltb v variableNames) (some (v ∷ ns)) none (λ e. ltb-true v variableNames e) (λ e. tt)
+withVariable-some (some (v ∷ ns)) =
+    cond-some VariableFirst (ltb v variableNames) (some (v ∷ ns)) none (λ e. ltb-true v variableNames e) (λ e. tt)
 
--- a symbol and its nodes
+-- The line made of a symbol and its nodes is well-formed.
 application-some : (o : Option (List ℕ)) → OnSome FormedLine (application o)
 unfolding application
 application-some none = tt
 application-some (some []) = tt
-application-some (some (f ∷ ns)) = cond-some FormedLine (leb (length ns) maxArity) (some (nodeLine (applyLine f ns))) none (λ e. tt) (λ e. tt)
+application-some (some (f ∷ ns)) =
+    cond-some FormedLine (leb (length ns) maxArity) (some (nodeLine (applyLine f ns))) none (λ e. tt) (λ e. tt)
 
 -- lines
 
--- the letter d, or the letters after it
+-- The line is well-formed if it is so for the letter d and for the letters after it.
 letter-some : (c d : ℕ) (x y : Option SheetLine) → OnSome FormedLine x → OnSome FormedLine y → OnSome FormedLine (cond (eqb c d) x y)
 letter-some c d x y h k = cond-some FormedLine (eqb c d) x y (λ e. h) (λ e. k)
 
--- every letter
+-- The line of every letter is well-formed.
 lineOf-some : (c : ℕ) (fs : List (List ℕ)) → OnSome FormedLine (lineOf c fs)
 unfolding lineOf
 lineOf-some c fs =
     letter-some c (code "F") _ _ (declaration-some true fs)
     (letter-some c (code "P") _ _ (declaration-some false fs)
-    (letter-some c (code "V") _ _ (oneNumber-some VariableFirst (λ v. nodeLine (variableLine v)) (λ v h. h) (withVariable (numbers fs)) (withVariable-some (numbers fs)))
+    (letter-some c (code "V") _ _ (oneNumber-some VariableFirst (λ v. nodeLine (variableLine v)) (λ v h. h) (withVariable (numbers fs))
+    (withVariable-some (numbers fs)))
     (letter-some c (code "A") _ _ (application-some (numbers fs))
     (letter-some c (code "Y") _ _ (noNumber-some (nodeLine trueLine) tt (numbers fs))
     (letter-some c (code "&") _ _ (two (λ n m. nodeLine (andLine n m)) (λ n m. tt))
     (letter-some c (code "|") _ _ (two (λ n m. nodeLine (orLine n m)) (λ n m. tt))
     (letter-some c (code ">") _ _ (two (λ n m. nodeLine (impliesLine n m)) (λ n m. tt))
-    (letter-some c (code "E") _ _ (twoNumbers-some VariableFirst (λ v n. nodeLine (someLine v n)) (λ v n h. h) (withVariable (numbers fs)) (withVariable-some (numbers fs)))
-    (letter-some c (code "U") _ _ (twoNumbers-some VariableFirst (λ v n. nodeLine (everyLine v n)) (λ v n h. h) (withVariable (numbers fs)) (withVariable-some (numbers fs)))
+    (letter-some c (code "E") _ _ (twoNumbers-some VariableFirst (λ v n. nodeLine (someLine v n)) (λ v n h. h) (withVariable (numbers fs))
+    (withVariable-some (numbers fs)))
+    (letter-some c (code "U") _ _ (twoNumbers-some VariableFirst (λ v n. nodeLine (everyLine v n)) (λ v n h. h)
+    (withVariable (numbers fs)) (withVariable-some (numbers fs)))
     (letter-some c (code "C") _ _ (one clauseLine (λ n. tt))
     (letter-some c (code "Q") _ _ (one goalLine (λ n. tt)) tt)))))))))))
   where
@@ -125,7 +135,7 @@ lineOf-some c fs =
     two : (l : ℕ → ℕ → SheetLine) → ((n m : ℕ) → FormedLine (l n m)) → OnSome FormedLine (twoNumbers l (numbers fs))
     two l h = twoNumbers-some (λ ns. Unit {0}) l (λ n m k. h n m) (numbers fs) (any-some (numbers fs))
 
--- the letter is a field
+-- The line made of fields, of which the first is the letter, is well-formed.
 ofFields-some : (fs : List (List ℕ)) → OnSome FormedLine (ofFields fs)
 unfolding ofFields
 ofFields-some [] = tt

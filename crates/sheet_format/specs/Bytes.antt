@@ -25,26 +25,26 @@ pub record Lines : Type 0 where
   pub whole : List (List ℕ)
   pub rest : List ℕ
 
-unfoldable pub onLine : ℕ → List (List ℕ) → List ℕ → Lines
-onLine c [] r = record { whole = []; rest = c ∷ r }
-onLine c (l ∷ ls) r = record { whole = (c ∷ l) ∷ ls; rest = r }
+unfoldable pub extendLine : ℕ → List (List ℕ) → List ℕ → Lines
+extendLine c [] r = record { whole = []; rest = c ∷ r }
+extendLine c (l ∷ ls) r = record { whole = (c ∷ l) ∷ ls; rest = r }
 
 unfoldable pub linesOf : List ℕ → Lines
 linesOf [] = record { whole = []; rest = [] }
 linesOf (c ∷ cs) =
     let r = linesOf cs in
-    elim (eqb c lf) [ true ↦ record { whole = [] ∷ r .whole; rest = r .rest } | false ↦ onLine c (r .whole) (r .rest) ]
+    elim (eqb c lf) [ true ↦ record { whole = [] ∷ r .whole; rest = r .rest } | false ↦ extendLine c (r .whole) (r .rest) ]
 
 -- The fields of a line: one more than it has tabs.
-unfoldable pub onField : ℕ → List (List ℕ) → List (List ℕ)
-onField c [] = (c ∷ []) ∷ []
-onField c (f ∷ fs) = (c ∷ f) ∷ fs
+unfoldable pub extendField : ℕ → List (List ℕ) → List (List ℕ)
+extendField c [] = (c ∷ []) ∷ []
+extendField c (f ∷ fs) = (c ∷ f) ∷ fs
 
 unfoldable pub fields : List ℕ → List (List ℕ)
 fields [] = [] ∷ []
-fields (c ∷ cs) = elim (eqb c tab) [ true ↦ [] ∷ fields cs | false ↦ onField c (fields cs) ]
+fields (c ∷ cs) = elim (eqb c tab) [ true ↦ [] ∷ fields cs | false ↦ extendField c (fields cs) ]
 
--- 0 to 9; a to z; a to z, 0 to 9 and `_`
+-- Digits are 0 to 9, letters a to z, and name bytes a to z, 0 to 9 and `_`.
 unfoldable pub isDigit : ℕ → Bool
 isDigit c = leb (code "0") c && leb c (code "9")
 

@@ -10,7 +10,7 @@ maxNumber = 65535
 abbrev pub maxName : ℕ
 maxName = 16
 
--- "arity 0 to 4"; the eight names of variables are in `formulas`
+-- "arity 0 to 4" fixes this number; the eight names of variables are in `formulas`.
 abbrev pub maxArity : ℕ
 maxArity = 4
 
@@ -32,7 +32,7 @@ maxNodes = 1024
 abbrev pub maxClauses : ℕ
 maxClauses = 128
 
--- Refusals 1 to 5 and 12
+-- The next five numbers are those of refusals 1 to 5 and 12.
 abbrev pub maxSheetBytes : ℕ
 maxSheetBytes = 16384
 

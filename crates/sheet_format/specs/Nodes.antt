@@ -9,7 +9,8 @@ use lib.ListN.{length, getElem?}
 use Rattle.terms.specs.Terms.{Term, leaf, app, Terms, nil, cons, size}
 use Rattle.formulas.specs.Formulas.{Goal, atom, truth, and, or, implies, exists, forall, Clause, fact, rule, both, each}
 use Rattle.sheet_format.specs.Limits.{maxTermSize, maxMembers}
-use Rattle.sheet_format.specs.SheetLines.{NodeLine, variableLine, applyLine, trueLine, andLine, orLine, impliesLine, someLine, everyLine}
+use Rattle.sheet_format.specs.SheetLines.{NodeLine, variableLine, applyLine, trueLine, andLine, orLine, impliesLine, someLine}
+use Rattle.sheet_format.specs.SheetLines.{everyLine}
 
 -- A symbol: is it a function symbol (F) or a predicate (P), its name, its arity.
 pub record Declaration : Type 0 where
@@ -119,11 +120,15 @@ nodeOf symbols nodes (variableLine v) = some (termNode (some (leaf v)))
 nodeOf symbols nodes (applyLine f ns) = withSymbol f (getElem? symbols f) (nodesAt nodes ns)
 nodeOf symbols nodes trueLine = some (record { term = none; goal = some truth; clause = none })
 nodeOf symbols nodes (andLine n m) =
-    with2 (λ a b. record { term = none; goal = goals2 and (a .goal) (b .goal); clause = bothClauses (a .clause) (b .clause) }) (getElem? nodes n) (getElem? nodes m)
-nodeOf symbols nodes (orLine n m) = with2 (λ a b. record { term = none; goal = goals2 or (a .goal) (b .goal); clause = none }) (getElem? nodes n) (getElem? nodes m)
+    with2 (λ a b. record { term = none; goal = goals2 and (a .goal) (b .goal); clause = bothClauses (a .clause) (b .clause) })
+    (getElem? nodes n) (getElem? nodes m)
+nodeOf symbols nodes (orLine n m) =
+    with2 (λ a b. record { term = none; goal = goals2 or (a .goal) (b .goal); clause = none }) (getElem? nodes n) (getElem? nodes m)
 nodeOf symbols nodes (impliesLine n m) =
-    with2 (λ a b. record { term = none; goal = supposed (a .clause) (b .goal); clause = ruled (a .goal) (b .goal) }) (getElem? nodes n) (getElem? nodes m)
-nodeOf symbols nodes (someLine v n) = with1 (λ a. record { term = none; goal = Option·map (exists v) (a .goal); clause = none }) (getElem? nodes n)
+    with2 (λ a b. record { term = none; goal = supposed (a .clause) (b .goal); clause = ruled (a .goal) (b .goal) }) (getElem? nodes n)
+    (getElem? nodes m)
+nodeOf symbols nodes (someLine v n) =
+    with1 (λ a. record { term = none; goal = Option·map (exists v) (a .goal); clause = none }) (getElem? nodes n)
 nodeOf symbols nodes (everyLine v n) =
     with1 (λ a. record { term = none; goal = Option·map (forall v) (a .goal); clause = Option·map (each v) (a .clause) }) (getElem? nodes n)
 

@@ -46,30 +46,32 @@ unfoldable pub isDeclared : List ℕ → List Declaration → Bool
 isDeclared n [] = false
 isDeclared n (d ∷ ds) = sameBytes n (d .name) || isDeclared n ds
 
--- 7, then 8
+-- A declaration is refused with 7 or 8, tried in this order.
 unfoldable pub takeDeclaration : Table → Declaration → Taken
 takeDeclaration t d =
     cond (not (ltb (length (t .symbols)) maxSymbols)) (stop 7)
     (cond (isDeclared (d .name) (t .symbols)) (stop 8)
     (next (record { symbols = t .symbols ++ (d ∷ []); nodes = t .nodes; clauses = t .clauses })))
 
--- 7, then 8, then 9
+-- A node line is refused with 7 (in `takeNode`), 8 or 9, tried in this order.
 unfoldable pub addNode : Table → Option Node → Taken
 addNode t none = stop 8
-addNode t (some n) = cond (isSomething n) (next (record { symbols = t .symbols; nodes = t .nodes ++ (n ∷ []); clauses = t .clauses })) (stop 9)
+addNode t (some n) =
+    cond (isSomething n) (next (record { symbols = t .symbols; nodes = t .nodes ++ (n ∷ []); clauses = t .clauses })) (stop 9)
 
 unfoldable pub takeNode : Table → NodeLine → Taken
 takeNode t l = cond (not (ltb (length (t .nodes)) maxNodes)) (stop 7) (addNode t (nodeOf (t .symbols) (t .nodes) l))
 
--- "clauses on C lines have none": some of the n names from v on stands free
+-- "clauses on C lines have none": the test is that some of the n names from v on stands free.
 unfoldable pub anyFree : ℕ → ℕ → Clause → Bool
 anyFree zero v c = false
 anyFree (suc n) v c = freeC c v || anyFree n (suc v) c
 
--- 7, then 8, then 9, then 10
+-- A C line is refused with 7 (in `takeClause`), 8 (in `clauseAt`), 9 or 10, tried in this order.
 unfoldable pub addClause : Table → Option Clause → Taken
 addClause t none = stop 9
-addClause t (some c) = cond (anyFree variableNames 0 c) (stop 10) (next (record { symbols = t .symbols; nodes = t .nodes; clauses = t .clauses ++ (c ∷ []) }))
+addClause t (some c) =
+    cond (anyFree variableNames 0 c) (stop 10) (next (record { symbols = t .symbols; nodes = t .nodes; clauses = t .clauses ++ (c ∷ []) }))
 
 unfoldable pub clauseAt : Table → Option Node → Taken
 clauseAt t none = stop 8
@@ -78,7 +80,7 @@ clauseAt t (some n) = addClause t (n .clause)
 unfoldable pub takeClause : Table → ℕ → Taken
 takeClause t n = cond (not (ltb (length (t .clauses)) maxClauses)) (stop 7) (clauseAt t (getElem? (t .nodes) n))
 
--- 8, then 9
+-- A Q line is refused with 8 (in `goalAt`) or 9, tried in this order.
 unfoldable pub lastGoal : Option Goal → Taken
 lastGoal none = stop 9
 lastGoal (some g) = last g
@@ -87,7 +89,7 @@ unfoldable pub goalAt : Option Node → Taken
 goalAt none = stop 8
 goalAt (some n) = lastGoal (n .goal)
 
--- 6, then the rest
+-- A malformed line is refused with 6, before all other tests.
 unfoldable pub takeLine : Table → Option SheetLine → Taken
 takeLine t none = stop 6
 takeLine t (some (declareLine k n a)) = takeDeclaration t (record { function = k; name = n; arity = a })

@@ -20,8 +20,9 @@ use Rattle.node_table.specs.Decoding.{decodeSheet}
 use Rattle.node_table.specs.WellMade.{WellMade, Named}
 use Rattle.table_builder.specs.declared.node_info.Counts.{Counts}
 use Rattle.table_builder.specs.declared.node_info.Taken.the-variants.{Stop}
-use Rattle.table_builder.specs.Making.{Made, made, takeVariable, takeTrue, takeAnd, takeOr, takeImplies, takeExists, takeForall, takeClause, takeGoal}
-use Rattle.table_builder.specs.Symbols.{takeApplication, takeDeclaration}
+use Rattle.table_builder.specs.Nodes.{Made, made, insertVariable, insertTrue, insertAnd, insertOr, insertImplies, insertExists}
+use Rattle.table_builder.specs.Nodes.{insertForall, insertClause, checkGoal}
+use Rattle.table_builder.specs.Symbols.{insertApplication, insertDeclaration}
 use Rattle.sheet_reader.specs.declared.sheet_lines.Read.{Read}
 use Rattle.sheet_reader.specs.declared.sheet_lines.Read.the-variants.{Done, Refused}
 
@@ -103,14 +104,14 @@ FormedNode (Exists v n) = v < variableNames
 FormedNode (Forall v n) = v < variableNames
 
 unfoldable pub takeNode : List ℕ → Counts → NodeLine → Made
-takeNode t k (Variable v) = takeVariable t k v
-takeNode t k (Apply f ns) = takeApplication t k f (ns .count) (ns .a) (ns .b) (ns .c) (ns .d)
-takeNode t k True = takeTrue t k
-takeNode t k (And n m) = takeAnd t k n m
-takeNode t k (Or n m) = takeOr t k n m
-takeNode t k (Implies n m) = takeImplies t k n m
-takeNode t k (Exists v n) = takeExists t k v n
-takeNode t k (Forall v n) = takeForall t k v n
+takeNode t k (Variable v) = insertVariable t k v
+takeNode t k (Apply f ns) = insertApplication t k f (ns .count) (ns .a) (ns .b) (ns .c) (ns .d)
+takeNode t k True = insertTrue t k
+takeNode t k (And n m) = insertAnd t k n m
+takeNode t k (Or n m) = insertOr t k n m
+takeNode t k (Implies n m) = insertImplies t k n m
+takeNode t k (Exists v n) = insertExists t k v n
+takeNode t k (Forall v n) = insertForall t k v n
 
 -- The line that starts at `at`: a declared name lies within the sheet.
 unfoldable pub FormedLine : List ℕ → ℕ → Line → Type 0
@@ -121,10 +122,10 @@ FormedLine s at (Goal n) = Unit {0}
 FormedLine s at Malformed = Unit {0}
 
 unfoldable pub takeLine : List ℕ → List ℕ → Counts → ℕ → Line → Made
-takeLine s t k at (Declare function n arity) = takeDeclaration s t k function (at + 2) n arity
+takeLine s t k at (Declare function n arity) = insertDeclaration s t k function (at + 2) n arity
 takeLine s t k at (Node l) = takeNode t k l
-takeLine s t k at (Clause n) = takeClause t k n
-takeLine s t k at (Goal n) = made t (takeGoal t k n)
+takeLine s t k at (Clause n) = insertClause t k n
+takeLine s t k at (Goal n) = made t (checkGoal t k n)
 takeLine s t k at Malformed = made t (Stop 6)
 
 -- The line from `at` up to `end`.

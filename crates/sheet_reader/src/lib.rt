@@ -14,7 +14,7 @@ ghost use lib.ListN.{length};
 ghost use Rattle.sheet_format.specs.Limits.{maxSheetBytes, tableNumbers};
 ghost use Rattle.sheet_reader.specs.Reader.{refusedRead, finished, ReadContract};
 
-fn refused(number: u32, line: u32) -> Read
+fn refused_read(number: u32, line: u32) -> Read
     ensures { λ r. ⌜ r ≡ refusedRead number line ⌝ }
 {
     Read::Refused(Refusal { number, line })
@@ -25,7 +25,7 @@ fn finish(sheet: &[u8], k: Counts, goal: u32, at: usize, line: u32) -> Read
     ensures { λ r. ⌜ r ≡ finished (now (sheet .entry)) k goal at line ⌝ }
 {
     if at < sheet.len() {
-        return refused(refusals::NO_GOAL, line);
+        return refused_read(refusals::NO_GOAL, line);
     }
     Read::Done(k, goal)
 }
@@ -45,16 +45,16 @@ pub fn read_sheet(sheet: &[u8], t: &mut [u32]) -> Read
     while at < sheet.len() {
         let end = line_end(sheet, at);
         if end == sheet.len() {
-            return refused(refusals::MALFORMED, line);
+            return refused_read(refusals::MALFORMED, line);
         }
         let taken = read_at(sheet, t, k, at, end);
         match taken {
             Taken::Next(more) => k = more,
-            Taken::Stop(number) => return refused(number, line),
+            Taken::Stop(number) => return refused_read(number, line),
             Taken::Last(goal) => return finish(sheet, k, goal, end + 1, line + 1),
         }
         at = end + 1;
         line += 1;
     }
-    refused(refusals::NO_GOAL, line)
+    refused_read(refusals::NO_GOAL, line)
 }

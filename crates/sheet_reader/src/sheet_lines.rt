@@ -3,19 +3,19 @@ use line_parser::lines::Line;
 use line_parser::lines::NodeLine;
 use outcomes::Refusal;
 use outcomes::refusals;
+use table_builder::applications::Arguments;
+use table_builder::applications::insert_application;
 use table_builder::node_info::Counts;
 use table_builder::node_info::Taken;
 ghost use mathlib.Core.Path.{_≡_};
 ghost use Prim.Native.Nat.{_≤_};
 ghost use lib.ListN.{length};
 ghost use Rattle.sheet_format.specs.Limits.{maxSheetBytes};
-ghost use Rattle.table_builder.specs.Making.{made};
+ghost use Rattle.table_builder.specs.Nodes.{made};
 ghost use Rattle.sheet_reader.specs.Reader.{lineEnd, FormedNode, takeNode, FormedLine, takeLine, lineTaken};
-use table_builder::applications::Arguments;
-use table_builder::applications::take_application;
 
 pub enum Read {
-    // how many symbols, nodes and clauses there are, and the goal's node
+    // The numbers of symbols, nodes and clauses, and the goal's node.
     Done(Counts, u32),
     Refused(Refusal),
 }
@@ -40,7 +40,7 @@ fn take_node(t: &mut [u32], k: Counts, l: NodeLine) -> Taken
     ensures { λ r. ⌜ made (now (t .exit)) r ≡ takeNode (now (t .entry)) k l ⌝ }
 {
     match l {
-        NodeLine::Variable(v) => table_builder::node_lines::take_variable(t, k, v),
+        NodeLine::Variable(v) => table_builder::node_lines::insert_variable(t, k, v),
         NodeLine::Apply(f, ns) => {
             let args = Arguments {
                 count: ns.count,
@@ -49,14 +49,14 @@ fn take_node(t: &mut [u32], k: Counts, l: NodeLine) -> Taken
                 third: ns.c,
                 fourth: ns.d,
             };
-            take_application(t, k, f, args)
+            insert_application(t, k, f, args)
         }
-        NodeLine::True => table_builder::node_lines::take_true(t, k),
-        NodeLine::And(n, m) => table_builder::node_lines::take_and(t, k, n, m),
-        NodeLine::Or(n, m) => table_builder::node_lines::take_or(t, k, n, m),
-        NodeLine::Implies(n, m) => table_builder::node_lines::take_implies(t, k, n, m),
-        NodeLine::Exists(v, n) => table_builder::node_lines::take_exists(t, k, v, n),
-        NodeLine::Forall(v, n) => table_builder::node_lines::take_forall(t, k, v, n),
+        NodeLine::True => table_builder::node_lines::insert_true(t, k),
+        NodeLine::And(n, m) => table_builder::node_lines::insert_and(t, k, n, m),
+        NodeLine::Or(n, m) => table_builder::node_lines::insert_or(t, k, n, m),
+        NodeLine::Implies(n, m) => table_builder::node_lines::insert_implies(t, k, n, m),
+        NodeLine::Exists(v, n) => table_builder::node_lines::insert_exists(t, k, v, n),
+        NodeLine::Forall(v, n) => table_builder::node_lines::insert_forall(t, k, v, n),
     }
 }
 
@@ -66,7 +66,7 @@ fn take_line(sheet: &[u8], t: &mut [u32], k: Counts, at: usize, l: Line) -> Take
     ensures { λ r. ⌜ made (now (t .exit)) r ≡ takeLine (now (sheet .entry)) (now (t .entry)) k at l ⌝ }
 {
     match l {
-        Line::Declare(function, n, arity) => table_builder::symbols::take_declaration(
+        Line::Declare(function, n, arity) => table_builder::symbols::insert_declaration(
             sheet,
             t,
             k,
@@ -76,8 +76,8 @@ fn take_line(sheet: &[u8], t: &mut [u32], k: Counts, at: usize, l: Line) -> Take
             arity,
         ),
         Line::Node(node) => take_node(t, k, node),
-        Line::Clause(n) => table_builder::node_lines::take_clause(t, k, n),
-        Line::Goal(n) => table_builder::node_lines::take_goal(t, k, n),
+        Line::Clause(n) => table_builder::node_lines::insert_clause(t, k, n),
+        Line::Goal(n) => table_builder::node_lines::check_goal(t, k, n),
         Line::Malformed => Taken::Stop(refusals::MALFORMED),
     }
 }

@@ -2,7 +2,7 @@
 // number and line of the refusal. A sheet of more bytes than it reads has over 16,384 of them, so refusal 1 is told all the same.
 use libc::STDIN_FILENO;
 use libc::STDOUT_FILENO;
-use memory::wide;
+use memory::widen;
 use outcomes::Outcome;
 use sheet_format::limits;
 
@@ -27,7 +27,7 @@ fn main() {
     let mut work = [0u32; WORK_NUMBERS];
     let mut answer = [0u8; ANSWER_BYTES];
     let r = engine::run(&sheet[..n], UNITS, &mut table, &mut work, &mut answer);
-    let length = wide(r.length);
+    let length = widen(r.length);
     let outcome = r.outcome;
     match outcome {
         Outcome::Refused(f) => print_refusal(f.number, f.line),

@@ -1,4 +1,4 @@
 -- The nodes, clauses and the goal that lines make in the table.
-pub mod Making
+pub mod Nodes
 -- Symbols: declaring them, and applying them.
 pub mod Symbols

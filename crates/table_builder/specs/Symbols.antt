@@ -7,10 +7,11 @@ use lib.Bits.{bitOr}
 use lib.Dec.{ltb, leb, eqb}
 use lib.ListN.{length, take, drop, getD, set}
 use Rattle.sheet_format.specs.Limits.{maxTermSize, maxSymbols, maxNodes}
-use Rattle.node_table.specs.Layout.{symbolAt, maskOf, sizeOf, packInfo, nameStart, nameLength, isFunctionBit, arityOf, applicationKind, atomKind, nameStartField, nameLengthField, arityField, childUnit}
+use Rattle.node_table.specs.Layout.{symbolAt, maskOf, sizeOf, packInfo, nameStart, nameLength, isFunctionBit, arityOf, applicationKind}
+use Rattle.node_table.specs.Layout.{atomKind, nameStartField, nameLengthField, arityField, childUnit}
 use Rattle.table_builder.specs.declared.node_info.Counts.{Counts}
 use Rattle.table_builder.specs.declared.node_info.Taken.the-variants.{Next, Stop}
-use Rattle.table_builder.specs.Making.{Made, made, counts, nodeRecord, addNode}
+use Rattle.table_builder.specs.Nodes.{Made, made, counts, nodeRecord, addNode}
 
 -- Arguments: all there, all terms; their sizes added to s, their masks united with m.
 unfoldable pub allThere : ℕ → List ℕ → Bool
@@ -37,7 +38,7 @@ unfoldable pub appliedInfo : List ℕ → ℕ → List ℕ → ℕ
 appliedInfo t f args =
     cond (eqb (isFunctionBit t f) 1) (termInfo (masksFrom t 0 args) (sizesFrom t 1 args)) (packInfo (masksFrom t 0 args) 1 1 0)
 
--- 0 where it is nothing
+-- What an application is, as one number, is 0 where it is nothing.
 unfoldable pub applicationInfo : List ℕ → ℕ → List ℕ → ℕ
 applicationInfo t f args = cond (eqb (arityOf t f) (length args)) (cond (allTerms t args) (appliedInfo t f args) 0) 0
 
@@ -47,8 +48,8 @@ appliedKind t f = cond (eqb (isFunctionBit t f) 1) applicationKind atomKind
 abbrev pub firstOf : ℕ → ℕ → ℕ → ℕ → ℕ → List ℕ
 firstOf count a b c d = take count (a ∷ b ∷ c ∷ d ∷ [])
 
-unfoldable pub takeApplication : List ℕ → Counts → ℕ → ℕ → ℕ → ℕ → ℕ → ℕ → Made
-takeApplication t k f count a b c d =
+unfoldable pub insertApplication : List ℕ → Counts → ℕ → ℕ → ℕ → ℕ → ℕ → ℕ → Made
+insertApplication t k f count a b c d =
     cond (leb maxNodes (k .nodes)) (made t (Stop 7))
     (cond (leb (k .symbols) f) (made t (Stop 8))
     (cond (allThere (k .nodes) (firstOf count a b c d))
@@ -71,13 +72,14 @@ unfoldable pub findName : List ℕ → List ℕ → ℕ → List ℕ → Bool
 findName sheet t count name = findFrom count sheet t 0 name
 
 unfoldable pub symbolWritten : List ℕ → ℕ → ℕ → ℕ → ℕ → List ℕ
-symbolWritten t i start len word = set (set (set t (symbolAt i nameStartField) start) (symbolAt i nameLengthField) len) (symbolAt i arityField) word
+symbolWritten t i start len word =
+    set (set (set t (symbolAt i nameStartField) start) (symbolAt i nameLengthField) len) (symbolAt i arityField) word
 
 unfoldable pub symbolWord : Bool → ℕ → ℕ
 symbolWord function arity = cond function (2 * arity + 1) (2 * arity)
 
-unfoldable pub takeDeclaration : List ℕ → List ℕ → Counts → Bool → ℕ → ℕ → ℕ → Made
-takeDeclaration sheet t k function start len arity =
+unfoldable pub insertDeclaration : List ℕ → List ℕ → Counts → Bool → ℕ → ℕ → ℕ → Made
+insertDeclaration sheet t k function start len arity =
     cond (leb maxSymbols (k .symbols)) (made t (Stop 7))
     (cond (findName sheet t (k .symbols) (take len (drop start sheet))) (made t (Stop 8))
     (made (symbolWritten t (k .symbols) start len (symbolWord function arity)) (Next (counts (k .symbols + 1) (k .nodes) (k .clauses)))))

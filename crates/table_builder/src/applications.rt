@@ -6,14 +6,14 @@ use super::node_info::Counts;
 use super::node_info::NodeRecord;
 use super::node_info::Taken;
 use super::nodes::add_node;
-use memory::wide;
+use memory::widen;
 use node_table::layout;
 use outcomes::refusals;
 use sheet_format::limits;
 ghost use mathlib.Core.Path.{_≡_};
 ghost use Prim.Native.Nat.{_+_, _*_, _<_, _≤_};
-ghost use Rattle.table_builder.specs.Making.{made};
-ghost use Rattle.table_builder.specs.Symbols.{takeApplication};
+ghost use Rattle.table_builder.specs.Nodes.{made};
+ghost use Rattle.table_builder.specs.Symbols.{insertApplication};
 
 // The nodes of the arguments, the first `count` of the four.
 pub struct Arguments {
@@ -25,9 +25,10 @@ pub struct Arguments {
 }
 
 // A symbol and its arguments.
-pub fn take_application(t: &mut [u32], k: Counts, f: u32, a: Arguments) -> Taken
+pub fn insert_application(t: &mut [u32], k: Counts, f: u32, a: Arguments) -> Taken
     requires { ⌜ a .count ≤ 4 ⌝ }
-    ensures { λ r. ⌜ made (now (t .exit)) r ≡ takeApplication (now (t .entry)) k f (a .count) (a .first) (a .second) (a .third) (a .fourth) ⌝ }
+    ensures { λ r. ⌜ made (now (t .exit)) r ≡ insertApplication (now (t .entry)) k f (a .count) (a .first) (a .second) (a .third)
+        (a .fourth) ⌝ }
 {
     if limits::MAX_NODES <= k.nodes {
         return Taken::Stop(refusals::TOO_MANY);
@@ -36,7 +37,7 @@ pub fn take_application(t: &mut [u32], k: Counts, f: u32, a: Arguments) -> Taken
         return Taken::Stop(refusals::UNKNOWN);
     }
     let args = [a.first, a.second, a.third, a.fourth];
-    let n = wide(a.count);
+    let n = widen(a.count);
     if all_there(k.nodes, &args[..n]) {
         let info = application_info(t, f, &args[..n]);
         let head = applied_kind(t, f) + layout::CHILD_UNIT * a.count;

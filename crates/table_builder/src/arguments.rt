@@ -1,6 +1,6 @@
 // The arguments of an A line: whether all are there and terms, and what the node that they make is.
 use super::node_info::pack_info;
-use memory::wide;
+use memory::widen;
 use node_table::arity;
 use node_table::is_function;
 use node_table::kinds;
@@ -10,7 +10,8 @@ use sheet_format::limits;
 ghost use mathlib.Core.Path.{_≡_};
 ghost use Prim.Native.Nat.{_+_, _<_, _≤_};
 ghost use lib.ListN.{length};
-ghost use Rattle.table_builder.specs.Symbols.{allThere, allTerms, sizesFrom, masksFrom, termInfo, appliedInfo, applicationInfo, appliedKind};
+ghost use Rattle.table_builder.specs.Symbols.{allThere, allTerms, sizesFrom, masksFrom, termInfo, appliedInfo, applicationInfo};
+ghost use Rattle.table_builder.specs.Symbols.{appliedKind};
 
 // Whether all are numbers of nodes that are there.
 pub fn all_there(n: u32, args: &[u32]) -> bool
@@ -99,7 +100,7 @@ pub fn application_info(t: &[u32], f: u32, args: &[u32]) -> u32
     requires { ⌜ length (now args) ≤ 4 ⌝ }
     ensures { λ r. ⌜ r ≡ applicationInfo (now (t .entry)) f (now (args .entry)) ⌝ }
 {
-    let n = wide(arity(t, f));
+    let n = widen(arity(t, f));
     if n != args.len() {
         return 0;
     }

@@ -1,5 +1,5 @@
 // What a node is, from what its children are: a goal?, how many members as a clause, its free variables. No tree is walked.
-use memory::wide;
+use memory::widen;
 use node_table::goal_bit;
 use node_table::is_goal;
 use node_table::kind;
@@ -11,7 +11,8 @@ use sheet_format::limits;
 ghost use mathlib.Core.Path.{_≡_};
 ghost use Prim.Native.Nat.{_<_, _≤_};
 ghost use Rattle.node_table.specs.Layout.{maskOf, packInfo};
-ghost use Rattle.table_builder.specs.Making.{onlyBit, withoutBit, bothGoals, sumMembers, supposedGoal, ruledMembers, unitedMask, andInfo, orInfo, impliesInfo, existsInfo, forallInfo};
+ghost use Rattle.table_builder.specs.Nodes.{onlyBit, withoutBit, bothGoals, sumMembers, supposedGoal, ruledMembers, unitedMask};
+ghost use Rattle.table_builder.specs.Nodes.{andInfo, orInfo, impliesInfo, existsInfo, forallInfo};
 
 // How many symbols, nodes and clauses there are.
 pub struct Counts {
@@ -52,7 +53,7 @@ pub fn only_bit(v: u32) -> u32
     ensures { λ r. ⌜ (r ≡ onlyBit v) × (r < 256) ⌝ }
 {
     let bits: [u32; 8] = [1, 2, 4, 8, 16, 32, 64, 128];
-    let i = wide(v);
+    let i = widen(v);
     bits[i]
 }
 

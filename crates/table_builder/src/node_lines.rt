@@ -14,7 +14,7 @@ use super::nodes::add_node;
 use super::nodes::add_one;
 use super::nodes::add_two;
 use memory::put;
-use memory::wide;
+use memory::widen;
 use node_table::is_goal;
 use node_table::kinds;
 use node_table::layout;
@@ -24,12 +24,13 @@ use outcomes::refusals;
 use sheet_format::limits;
 ghost use mathlib.Core.Path.{_≡_};
 ghost use Prim.Native.Nat.{_<_};
-ghost use Rattle.table_builder.specs.Making.{made, takeVariable, takeTrue, takeAnd, takeOr, takeImplies, takeExists, takeForall, takeClause, takeGoal};
+ghost use Rattle.table_builder.specs.Nodes.{made, insertVariable, insertTrue, insertAnd, insertOr, insertImplies, insertExists};
+ghost use Rattle.table_builder.specs.Nodes.{insertForall, insertClause, checkGoal};
 
-// V v
-pub fn take_variable(t: &mut [u32], k: Counts, v: u32) -> Taken
+// Inserts the node of a line V v.
+pub fn insert_variable(t: &mut [u32], k: Counts, v: u32) -> Taken
     requires { ⌜ v < 8 ⌝ }
-    ensures { λ r. ⌜ made (now (t .exit)) r ≡ takeVariable (now (t .entry)) k v ⌝ }
+    ensures { λ r. ⌜ made (now (t .exit)) r ≡ insertVariable (now (t .entry)) k v ⌝ }
 {
     if limits::MAX_NODES <= k.nodes {
         return Taken::Stop(refusals::TOO_MANY);
@@ -50,9 +51,9 @@ pub fn take_variable(t: &mut [u32], k: Counts, v: u32) -> Taken
     )
 }
 
-// Y
-pub fn take_true(t: &mut [u32], k: Counts) -> Taken
-    ensures { λ r. ⌜ made (now (t .exit)) r ≡ takeTrue (now (t .entry)) k ⌝ }
+// Inserts the node of a line Y.
+pub fn insert_true(t: &mut [u32], k: Counts) -> Taken
+    ensures { λ r. ⌜ made (now (t .exit)) r ≡ insertTrue (now (t .entry)) k ⌝ }
 {
     if limits::MAX_NODES <= k.nodes {
         return Taken::Stop(refusals::TOO_MANY);
@@ -72,49 +73,49 @@ pub fn take_true(t: &mut [u32], k: Counts) -> Taken
     )
 }
 
-// & a b
-pub fn take_and(t: &mut [u32], k: Counts, a: u32, b: u32) -> Taken
-    ensures { λ r. ⌜ made (now (t .exit)) r ≡ takeAnd (now (t .entry)) k a b ⌝ }
+// Inserts the node of a line & a b.
+pub fn insert_and(t: &mut [u32], k: Counts, a: u32, b: u32) -> Taken
+    ensures { λ r. ⌜ made (now (t .exit)) r ≡ insertAnd (now (t .entry)) k a b ⌝ }
 {
     let info = and_info(t, a, b);
     add_two(t, k, kinds::AND, a, b, info)
 }
 
-// | a b
-pub fn take_or(t: &mut [u32], k: Counts, a: u32, b: u32) -> Taken
-    ensures { λ r. ⌜ made (now (t .exit)) r ≡ takeOr (now (t .entry)) k a b ⌝ }
+// Inserts the node of a line | a b.
+pub fn insert_or(t: &mut [u32], k: Counts, a: u32, b: u32) -> Taken
+    ensures { λ r. ⌜ made (now (t .exit)) r ≡ insertOr (now (t .entry)) k a b ⌝ }
 {
     let info = or_info(t, a, b);
     add_two(t, k, kinds::OR, a, b, info)
 }
 
-// > a b
-pub fn take_implies(t: &mut [u32], k: Counts, a: u32, b: u32) -> Taken
-    ensures { λ r. ⌜ made (now (t .exit)) r ≡ takeImplies (now (t .entry)) k a b ⌝ }
+// Inserts the node of a line > a b.
+pub fn insert_implies(t: &mut [u32], k: Counts, a: u32, b: u32) -> Taken
+    ensures { λ r. ⌜ made (now (t .exit)) r ≡ insertImplies (now (t .entry)) k a b ⌝ }
 {
     let info = implies_info(t, a, b);
     add_two(t, k, kinds::IMPLIES, a, b, info)
 }
 
-// E v a
-pub fn take_exists(t: &mut [u32], k: Counts, v: u32, a: u32) -> Taken
-    ensures { λ r. ⌜ made (now (t .exit)) r ≡ takeExists (now (t .entry)) k v a ⌝ }
+// Inserts the node of a line E v a.
+pub fn insert_exists(t: &mut [u32], k: Counts, v: u32, a: u32) -> Taken
+    ensures { λ r. ⌜ made (now (t .exit)) r ≡ insertExists (now (t .entry)) k v a ⌝ }
 {
     let info = exists_info(t, v, a);
     add_one(t, k, kinds::EXISTS, v, a, info)
 }
 
-// U v a
-pub fn take_forall(t: &mut [u32], k: Counts, v: u32, a: u32) -> Taken
-    ensures { λ r. ⌜ made (now (t .exit)) r ≡ takeForall (now (t .entry)) k v a ⌝ }
+// Inserts the node of a line U v a.
+pub fn insert_forall(t: &mut [u32], k: Counts, v: u32, a: u32) -> Taken
+    ensures { λ r. ⌜ made (now (t .exit)) r ≡ insertForall (now (t .entry)) k v a ⌝ }
 {
     let info = forall_info(t, v, a);
     add_one(t, k, kinds::FORALL, v, a, info)
 }
 
-// C n
-pub fn take_clause(t: &mut [u32], k: Counts, n: u32) -> Taken
-    ensures { λ r. ⌜ made (now (t .exit)) r ≡ takeClause (now (t .entry)) k n ⌝ }
+// Inserts the clause of a line C n.
+pub fn insert_clause(t: &mut [u32], k: Counts, n: u32) -> Taken
+    ensures { λ r. ⌜ made (now (t .exit)) r ≡ insertClause (now (t .entry)) k n ⌝ }
 {
     if limits::MAX_CLAUSES <= k.clauses {
         return Taken::Stop(refusals::TOO_MANY);
@@ -127,7 +128,7 @@ pub fn take_clause(t: &mut [u32], k: Counts, n: u32) -> Taken
     }
     if mask(t, n) == 0 {
         let i = k.clauses;
-        let w = wide(i);
+        let w = widen(i);
         put(t, layout::FIRST_CLAUSE + w, n);
         return Taken::Next(Counts {
             symbols: k.symbols,
@@ -138,9 +139,9 @@ pub fn take_clause(t: &mut [u32], k: Counts, n: u32) -> Taken
     Taken::Stop(refusals::FREE_VARIABLE)
 }
 
-// Q n
-pub fn take_goal(t: &[u32], k: Counts, n: u32) -> Taken
-    ensures { λ r. ⌜ r ≡ takeGoal (now (t .entry)) k n ⌝ }
+// Checks the goal of a line Q n.
+pub fn check_goal(t: &[u32], k: Counts, n: u32) -> Taken
+    ensures { λ r. ⌜ r ≡ checkGoal (now (t .entry)) k n ⌝ }
 {
     if k.nodes <= n {
         return Taken::Stop(refusals::UNKNOWN);

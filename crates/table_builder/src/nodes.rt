@@ -3,7 +3,7 @@ use super::node_info::Counts;
 use super::node_info::NodeRecord;
 use super::node_info::Taken;
 use memory::put;
-use memory::wide;
+use memory::widen;
 use node_table::kind;
 use node_table::layout;
 use outcomes::refusals;
@@ -13,7 +13,7 @@ ghost use Prim.Native.Nat.{_<_};
 ghost use lib.ListN.{set};
 ghost use Rattle.sheet_format.specs.Limits.{maxNodes};
 ghost use Rattle.node_table.specs.Layout.{nodeAt};
-ghost use Rattle.table_builder.specs.Making.{made, nodeWritten, addNode, addTwo, addOne};
+ghost use Rattle.table_builder.specs.Nodes.{made, nodeWritten, addNode, addTwo, addOne};
 
 // What two children add to the head of a node.
 const TWO_CHILDREN: u32 = 2 * layout::CHILD_UNIT;
@@ -22,7 +22,7 @@ fn put_node_field(t: &mut [u32], n: u32, f: usize, x: u32)
     requires { ⌜ f < 7 ⌝ }
     ensures { λ _. ⌜ now (t .exit) ≡ set (now (t .entry)) (nodeAt n f) x ⌝ }
 {
-    let w = wide(n);
+    let w = widen(n);
     put(t, layout::FIRST_NODE + (layout::NODE_NUMBERS * w + f), x);
 }
 

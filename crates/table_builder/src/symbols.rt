@@ -3,7 +3,7 @@ use super::node_info::Counts;
 use super::node_info::Taken;
 use memory::byte;
 use memory::put;
-use memory::wide;
+use memory::widen;
 use node_table::arity;
 use node_table::layout;
 use node_table::name_length;
@@ -14,18 +14,18 @@ ghost use mathlib.Core.Path.{_≡_};
 ghost use Prim.Native.Nat.{_+_, _*_, _<_, _≤_};
 ghost use lib.ListN.{length, set};
 ghost use Rattle.node_table.specs.Layout.{symbolAt};
-ghost use Rattle.table_builder.specs.Making.{made};
-ghost use Rattle.table_builder.specs.Symbols.{symbolWritten, sameAt, nameIs, findName, symbolWord, takeDeclaration};
+ghost use Rattle.table_builder.specs.Nodes.{made};
+ghost use Rattle.table_builder.specs.Symbols.{symbolWritten, sameAt, nameIs, findName, symbolWord, insertDeclaration};
 
 fn put_symbol_field(t: &mut [u32], i: u32, f: usize, x: u32)
     requires { ⌜ f < 3 ⌝ }
     ensures { λ _. ⌜ now (t .exit) ≡ set (now (t .entry)) (symbolAt i f) x ⌝ }
 {
-    let w = wide(i);
+    let w = widen(i);
     put(t, layout::SYMBOL_NUMBERS * w + f, x);
 }
 
-fn write_symbol(t: &mut [u32], i: u32, start: u32, len: u32, word: u32)
+fn put_symbol(t: &mut [u32], i: u32, start: u32, len: u32, word: u32)
     ensures { λ _. ⌜ now (t .exit) ≡ symbolWritten (now (t .entry)) i start len word ⌝ }
 {
     put_symbol_field(t, i, layout::NAME_START, start);
@@ -53,11 +53,11 @@ fn same_at(sheet: &[u8], at: usize, name: &[u8]) -> bool
 fn name_is(sheet: &[u8], t: &[u32], i: u32, name: &[u8]) -> bool
     ensures { λ r. ⌜ r ≡ nameIs (now (sheet .entry)) (now (t .entry)) i (now (name .entry)) ⌝ }
 {
-    let n = wide(name_length(t, i));
+    let n = widen(name_length(t, i));
     if n != name.len() {
         return false;
     }
-    same_at(sheet, wide(name_start(t, i)), name)
+    same_at(sheet, widen(name_start(t, i)), name)
 }
 
 // Whether one of the first `count` symbols has the name.
@@ -86,7 +86,7 @@ fn symbol_word(function: bool, arity: u32) -> u32
 }
 
 // A number that fits 32 bits.
-fn narrow(x: usize) -> u32
+fn to_u32(x: usize) -> u32
     requires { ⌜ x < 4294967296 ⌝ }
     ensures { λ r. ⌜ r ≡ x ⌝ }
 {
@@ -94,7 +94,7 @@ fn narrow(x: usize) -> u32
 }
 
 // F or P: the name is the `len` bytes of the sheet at `start`.
-pub fn take_declaration(
+pub fn insert_declaration(
     sheet: &[u8],
     t: &mut [u32],
     k: Counts,
@@ -104,7 +104,7 @@ pub fn take_declaration(
     arity: u32,
 ) -> Taken
     requires { ⌜ (start + len ≤ length (now sheet)) × (length (now sheet) ≤ 65535) × (arity ≤ 4) ⌝ }
-    ensures { λ r. ⌜ made (now (t .exit)) r ≡ takeDeclaration (now (sheet .entry)) (now (t .entry)) k function start len arity ⌝ }
+    ensures { λ r. ⌜ made (now (t .exit)) r ≡ insertDeclaration (now (sheet .entry)) (now (t .entry)) k function start len arity ⌝ }
 {
     if limits::MAX_SYMBOLS <= k.symbols {
         return Taken::Stop(refusals::TOO_MANY);
@@ -114,7 +114,7 @@ pub fn take_declaration(
         return Taken::Stop(refusals::UNKNOWN);
     }
     let word = symbol_word(function, arity);
-    write_symbol(t, i, narrow(start), narrow(len), word);
+    put_symbol(t, i, to_u32(start), to_u32(len), word);
     Taken::Next(Counts {
         symbols: i + 1,
         nodes: k.nodes,

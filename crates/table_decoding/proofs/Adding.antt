@@ -17,20 +17,21 @@ use Rattle.sheet_format.specs.Sheets.{addNode as sheetAddNode}
 use Rattle.node_table.specs.Layout.{kindOf, labelOf, infoOf, goalBit, membersOf, sizeOf, clauseNode, applicationKind, atomKind}
 use Rattle.node_table.specs.Decoding.{termAt, goalAt, clauseAtNode, declarationAt, declarationsFrom, clausesFrom}
 use Rattle.node_table.specs.WellMade.{IsTerm, IsGoal, IsClause, TermNode, GoalNode, ClauseNode}
-use Rattle.node_table.proofs.Same.{Same, same-kind, same-label, same-start, same-length, same-function, same-arity, same-goal, same-members, same-size}
+use Rattle.node_table.proofs.Same.{Same, same-kind, same-label, same-start, same-length, same-function, same-arity, same-goal, same-members}
+use Rattle.node_table.proofs.Same.{same-size}
 use Rattle.node_table.proofs.Decoding.{Nodes, termAt-same, goalAt-same, clauseAt-same}
 use Rattle.node_table.proofs.Nodes.{is-term-back, is-goal-back, is-clause-back, is-clause-same, term-same, goal-same, clause-same}
 use Rattle.table_builder.specs.declared.node_info.Counts.{Counts}
 use Rattle.table_builder.specs.declared.node_info.NodeRecord.{NodeRecord}
 use Rattle.table_builder.specs.declared.node_info.Taken.the-variants.{Next, Stop}
-use Rattle.table_builder.specs.Making.{made, counts, nodeWritten, addNode}
-use Rattle.table_decoding.specs.Standing.{nodeRead, nodesFrom, tableOf, Stands, Agrees, Follows}
+use Rattle.table_builder.specs.Nodes.{made, counts, nodeWritten, addNode}
+use Rattle.table_decoding.specs.Decoding.{nodeRead, nodesFrom, tableOf, Decodes, Agrees, Follows}
 use Rattle.table_decoding.proofs.Writing.{Rest, rest-node, same-before, clause-kept, read-info}
 use Rattle.table_decoding.proofs.Sequences.{from-more, from-agree, declarations-list, nodes-list, clauses-list}
 
 -- the same trees
 
--- equal parts
+-- Tables and nodes with equal parts are equal.
 pub table-agree : (s s′ : List Declaration) (n n′ : List Node) (c c′ : List Clause) → s ≡ s′ → n ≡ n′ → c ≡ c′
     → _≡_ {A = Table} (record { symbols = s; nodes = n; clauses = c }) (record { symbols = s′; nodes = n′; clauses = c′ })
 table-agree s s′ n n′ c c′ p q r = rw (p, q, r)
@@ -39,7 +40,7 @@ pub node-agree : (t t′ : Option (Term ℕ)) (g g′ : Option Goal) (c c′ : O
     → _≡_ {A = Node} (record { term = t; goal = g; clause = c }) (record { term = t′; goal = g′; clause = c′ })
 node-agree t t′ g g′ c c′ p q r = rw (p, q, r)
 
--- what a test picks, where the test is the same and the trees are where it holds
+-- Equal tests pick equal options if the trees are equal where the test holds.
 cond-agree : {A : Type 0} (b b′ : Bool) (x x′ : A) → b ≡ b′ → (b′ ≡ true → x ≡ x′) → cond b (some x) none ≡ cond b′ (some x′) none
 cond-agree b true x x′ e h = rw e (ap some (h refl))
 cond-agree b false x x′ e h = rw e
@@ -47,11 +48,18 @@ cond-agree b false x x′ e h = rw e
 module _ (bytes t u : List ℕ) (symbols nodes : ℕ) (s : Same t u symbols nodes) where
   declaration-same : (i : ℕ) → i < symbols → declarationAt bytes u i ≡ declarationAt bytes t i
   unfolding declarationAt
-  declaration-same i h = rw (same-start t u symbols nodes s i h, same-length t u symbols nodes s i h, same-function t u symbols nodes s i h, same-arity t u symbols nodes s i h)
+  declaration-same i h =
+      rw (
+        same-start t u symbols nodes s i h,
+        same-length t u symbols nodes s i h,
+        same-function t u symbols nodes s i h,
+        same-arity t u symbols nodes s i h,
+      )
 
   pub symbols-same : declarationsFrom bytes u symbols 0 ≡ declarationsFrom bytes t symbols 0
   symbols-same =
-      declarations-list bytes u symbols 0 ∙ from-agree (declarationAt bytes u) (declarationAt bytes t) symbols 0 (λ j k l. declaration-same j (omega arith))
+      declarations-list bytes u symbols 0
+      ∙ from-agree (declarationAt bytes u) (declarationAt bytes t) symbols 0 (λ j k l. declaration-same j (omega arith))
       ∙ sym (declarations-list bytes t symbols 0)
 
   module _ (m : Nodes t nodes) where
@@ -61,15 +69,20 @@ module _ (bytes t u : List ℕ) (symbols nodes : ℕ) (s : Same t u symbols node
         node-agree _ _ _ _ _ _
         (cond-agree (leb 1 (sizeOf u n)) (leb 1 (sizeOf t n)) (termAt u n) (termAt t n) (ap (leb 1) (same-size t u symbols nodes s n h))
         (λ e. termAt-same t u symbols nodes s m n h (leb-true 1 (sizeOf t n) e)))
-        (cond-agree (eqb (goalBit u n) 1) (eqb (goalBit t n) 1) (goalAt u n) (goalAt t n) (ap (λ (x : ℕ). eqb x 1) (same-goal t u symbols nodes s n h))
+        (cond-agree (eqb (goalBit u n) 1) (eqb (goalBit t n) 1) (goalAt u n) (goalAt t n)
+        (ap (λ (x : ℕ). eqb x 1) (same-goal t u symbols nodes s n h))
         (λ e. goalAt-same t u symbols nodes s m n h (eqb-true (goalBit t n) 1 e)))
-        (cond-agree (leb 1 (membersOf u n)) (leb 1 (membersOf t n)) (clauseAtNode u n) (clauseAtNode t n) (ap (leb 1) (same-members t u symbols nodes s n h))
+        (cond-agree (leb 1 (membersOf u n)) (leb 1 (membersOf t n)) (clauseAtNode u n) (clauseAtNode t n)
+        (ap (leb 1) (same-members t u symbols nodes s n h))
         (λ e. clauseAt-same t u symbols nodes s m n h (leb-true 1 (membersOf t n) e)))
 
     pub nodes-same : nodesFrom u nodes 0 ≡ nodesFrom t nodes 0
-    nodes-same = nodes-list u nodes 0 ∙ from-agree (nodeRead u) (nodeRead t) nodes 0 (λ j k l. node-same j (omega arith)) ∙ sym (nodes-list t nodes 0)
+    nodes-same =
+        nodes-list u nodes 0 ∙ from-agree (nodeRead u) (nodeRead t) nodes 0 (λ j k l. node-same j (omega arith))
+        ∙ sym (nodes-list t nodes 0)
 
-    pub clauses-same : (c : ℕ) → ((i : ℕ) → i < c → (clauseNode t i < nodes) × IsClause t (clauseNode t i)) → ((i : ℕ) → i < c → clauseNode u i ≡ clauseNode t i)
+    pub clauses-same : (c : ℕ) → ((i : ℕ) → i < c → (clauseNode t i < nodes) × IsClause t (clauseNode t i))
+        → ((i : ℕ) → i < c → clauseNode u i ≡ clauseNode t i)
         → clausesFrom u c 0 ≡ clausesFrom t c 0
     clauses-same c h k =
         clauses-list u c 0
@@ -88,10 +101,10 @@ pub record NewNode (u : List ℕ) (n symbols : ℕ) : Type 0 where
   pub goal : IsGoal u n → GoalNode u n
   pub clause : IsClause u n → ClauseNode u n
 
-pub nodes-of-stands : (bytes t : List ℕ) (k : Counts) → Stands bytes t k → Nodes t (k .nodes)
+pub nodes-of-stands : (bytes t : List ℕ) (k : Counts) → Decodes bytes t k → Nodes t (k .nodes)
 nodes-of-stands bytes t k st = record { term = st .term; goal = st .goal; clause = st .clause }
 
--- one of the numbers below n + 1 is below n, or n
+-- What holds of all numbers below n, and of n, holds of all numbers below n + 1.
 pub below-more : (R : ℕ → Type 0) (n : ℕ) → ((m : ℕ) → m < n → R m) → R n → (m : ℕ) → m < n + 1 → R m
 below-more R n f r m h = go (eqb m n) refl
   where
@@ -99,7 +112,7 @@ below-more R n f r m h = go (eqb m n) refl
     go true e = subst R (sym (eqb-true m n e)) r
     go false e = let d = eqb-false m n e in f m (omega arith)
 
-module _ (bytes t : List ℕ) (k : Counts) (st : Stands bytes t k) (h : k .nodes < 1024) (r : NodeRecord) where
+module _ (bytes t : List ℕ) (k : Counts) (st : Decodes bytes t k) (h : k .nodes < 1024) (r : NodeRecord) where
   abbrev n : ℕ
   n = k .nodes
 
@@ -112,7 +125,7 @@ module _ (bytes t : List ℕ) (k : Counts) (st : Stands bytes t k) (h : k .nodes
   pub same : Same t u (k .symbols) n
   same = same-before t n r (k .symbols) (st .fewSymbols)
 
-  stands-node : NewNode u n (k .symbols) → Stands bytes u k′
+  stands-node : NewNode u n (k .symbols) → Decodes bytes u k′
   unfolding Rest
   stands-node new =
       let m = nodes-of-stands bytes t k st in
@@ -144,7 +157,8 @@ module _ (bytes t : List ℕ) (k : Counts) (st : Stands bytes t k) (h : k .nodes
             (λ i l p. clause-same t u (k .symbols) n same m (st .named) i l (is-clause-back t u (k .symbols) n same i l p)) (new .clause);
         clauses = λ i l.
             let c = st .clauses i l in
-            subst (λ (j : ℕ). (j < n + 1) × IsClause u j) (sym (clause-kept t n r i h)) (omega arith, is-clause-same t u (k .symbols) n same (clauseNode t i) (c .0) (c .1));
+            subst (λ (j : ℕ). (j < n + 1) × IsClause u j) (sym (clause-kept t n r i h))
+            (omega arith, is-clause-same t u (k .symbols) n same (clauseNode t i) (c .0) (c .1));
       }
 
   table-node : tableOf bytes u k′ ≡ record {
@@ -157,16 +171,17 @@ module _ (bytes t : List ℕ) (k : Counts) (st : Stands bytes t k) (h : k .nodes
       let m = nodes-of-stands bytes t k st in
       table-agree _ _ _ _ _ _ (symbols-same bytes t u (k .symbols) n same)
       (ap (λ (c : ℕ). nodesFrom u c 0) (add-one n) ∙ nodes-list u (suc n) 0 ∙ from-more (nodeRead u) n 0
-      ∙ ap₂ (λ (l : List Node) (x : ℕ). l ++ (nodeRead u x ∷ [])) (sym (nodes-list u n 0) ∙ nodes-same bytes t u (k .symbols) n same m) (let e : 0 + n ≡ n = omega arith in e))
+      ∙ ap₂ (λ (l : List Node) (x : ℕ). l ++ (nodeRead u x ∷ [])) (sym (nodes-list u n 0) ∙ nodes-same bytes t u (k .symbols) n same m)
+      (let e : 0 + n ≡ n = omega arith in e))
       (clauses-same bytes t u (k .symbols) n same m (k .clauses) (st .clauses) (λ i l. clause-kept t n r i h))
 
-  -- it is a term, a goal or a clause exactly if its number is not small
+  -- An option picked by a test has a value exactly if the test holds.
   picked : {A : Type 0} (b : Bool) (a : A) → isSome (cond b (some a) none) ≡ b
   unfolding isSome
   picked true a = refl
   picked false a = refl
 
-  -- of i / 256
+  -- The number q, which is i / 256, is not 0 exactly if its part for a term, a goal or a clause is not 0.
   three : (q : ℕ) → (leb 1 (q / 256) || eqb (q % 2) 1 || leb 1 (q / 2 % 128)) ≡ not (eqb q 0)
   three q = go (eqb q 0) refl
     where
@@ -188,17 +203,23 @@ module _ (bytes t : List ℕ) (k : Counts) (st : Stands bytes t k) (h : k .nodes
 
   parts : (i : ℕ) → (leb 1 (i / 65536) || eqb (i / 256 % 2) 1 || leb 1 (i / 512 % 128)) ≡ not (eqb (i / 256) 0)
   parts i =
-      ap₂ (λ (x y : ℕ). leb 1 x || eqb (i / 256 % 2) 1 || leb 1 (y % 128)) (sym (div-div-eq-div-mul i 256 256)) (sym (div-div-eq-div-mul i 256 2))
+      ap₂ (λ (x y : ℕ). leb 1 x || eqb (i / 256 % 2) 1 || leb 1 (y % 128)) (sym (div-div-eq-div-mul i 256 256))
+      (sym (div-div-eq-div-mul i 256 2))
       ∙ three (i / 256)
 
   something : isSomething (nodeRead u n) ≡ not (eqb (r .info / 256) 0)
   unfolding isSomething nodeRead sizeOf goalBit membersOf infoOf
   something =
-      rw (picked (leb 1 (sizeOf u n)) (termAt u n), picked (eqb (goalBit u n) 1) (goalAt u n), picked (leb 1 (membersOf u n)) (clauseAtNode u n))
+      rw (
+        picked (leb 1 (sizeOf u n)) (termAt u n),
+        picked (eqb (goalBit u n) 1) (goalAt u n),
+        picked (leb 1 (membersOf u n)) (clauseAtNode u n),
+      )
       (parts (infoOf u n) ∙ ap (λ (x : ℕ). not (eqb (x / 256) 0)) (read-info t n r (st .long) h))
 
   -- A node that is nothing is refused, any other is added.
-  pub added : (node : Node) → nodeRead u n ≡ node → NewNode u n (k .symbols) → Follows bytes t k (addNode t k r) (sheetAddNode (tableOf bytes t k) (some node))
+  pub added : (node : Node) → nodeRead u n ≡ node → NewNode u n (k .symbols)
+      → Follows bytes t k (addNode t k r) (sheetAddNode (tableOf bytes t k) (some node))
   unfolding addNode sheetAddNode Agrees Rest
   added node e new = go (eqb (r .info / 256) 0) refl
     where
@@ -207,12 +228,25 @@ module _ (bytes t : List ℕ) (k : Counts) (st : Stands bytes t k) (h : k .nodes
 
       go : (b : Bool) → eqb (r .info / 256) 0 ≡ b
           → Follows bytes t k (cond b (made t (Stop 9)) (made u (Next k′)))
-          (cond (isSomething node) (next (record { symbols = tableOf bytes t k .symbols; nodes = tableOf bytes t k .nodes ++ (node ∷ []); clauses = tableOf bytes t k .clauses })) (stop 9))
+          (cond (isSomething node)
+          (next (record {
+            symbols = tableOf bytes t k .symbols;
+            nodes = tableOf bytes t k .nodes ++ (node ∷ []);
+            clauses = tableOf bytes t k .clauses;
+          })) (stop 9))
       go true f = rw (is, f) (record { agrees = refl; long = refl; rest = refl })
       go false f =
           let rest = rest-node t n r h in
           rw (is, f) (record {
-            agrees = (ap next (sym (table-node ∙ ap (λ (x : Node). record { symbols = tableOf bytes t k .symbols; nodes = tableOf bytes t k .nodes ++ (x ∷ []); clauses = tableOf bytes t k .clauses }) e)), stands-node new);
+            agrees = (
+              ap next (sym (table-node
+                  ∙ ap (λ (x : Node). record {
+                    symbols = tableOf bytes t k .symbols;
+                    nodes = tableOf bytes t k .nodes ++ (x ∷ []);
+                    clauses = tableOf bytes t k .clauses;
+                  }) e)),
+              stands-node new,
+            );
             long = rest .0;
             rest = rest .1;
           })

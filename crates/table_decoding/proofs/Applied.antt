@@ -24,18 +24,21 @@ use Rattle.node_table.proofs.Decoding.{termBy-application, goalBy-atom, clauseB
 use Rattle.node_table.proofs.Nodes.{is-term-same}
 use Rattle.table_builder.specs.declared.node_info.Counts.{Counts}
 use Rattle.table_builder.specs.declared.node_info.NodeRecord.{NodeRecord}
-use Rattle.table_builder.specs.Making.{nodeRecord, nodeWritten, addNode}
-use Rattle.table_builder.specs.Symbols.{allThere, allTerms, sizesFrom, masksFrom, termInfo, appliedInfo, applicationInfo, appliedKind, firstOf}
+use Rattle.table_builder.specs.Nodes.{nodeRecord, nodeWritten, addNode}
+use Rattle.table_builder.specs.Symbols.{allThere, allTerms, sizesFrom, masksFrom, termInfo, appliedInfo, applicationInfo, appliedKind}
+use Rattle.table_builder.specs.Symbols.{firstOf}
 use Rattle.table_builder.proofs.symbols.Laws.{first-length}
-use Rattle.table_decoding.specs.Standing.{nodeRead, tableOf, Stands, Agrees, Follows}
+use Rattle.table_decoding.specs.Decoding.{nodeRead, tableOf, Decodes, Agrees, Follows}
 use Rattle.table_decoding.proofs.Bits.{bit-none}
 use Rattle.table_decoding.proofs.Writing.{NodeIs, written}
 use Rattle.table_decoding.proofs.Adding.{node-agree, NewNode, nodes-of-stands, same, added}
 use Rattle.table_decoding.proofs.NodeKinds.{an-application, a-goal-atom, a-fact}
 use Rattle.table_decoding.proofs.Under.{term-under}
-use Rattle.table_decoding.proofs.Arguments.{termsBy, terms-agree, children-first, child-first, all-at, Argument, terms-read, all-arguments, sizes-are, masks-below, masks-are}
+use Rattle.table_decoding.proofs.Arguments.{termsBy, terms-agree, children-first, child-first, all-at, Argument, terms-read}
+use Rattle.table_decoding.proofs.Arguments.{all-arguments, sizes-are, masks-below, masks-are}
 
-module _ (bytes t : List ℕ) (k : Counts) (st : Stands bytes t k) (h : k .nodes < 1024) (f count a b c d : ℕ) (lf : f < k .symbols) (few : count ≤ 4) where
+module _ (bytes t : List ℕ) (k : Counts) (st : Decodes bytes t k) (h : k .nodes < 1024) (f count a b c d : ℕ) (lf : f < k .symbols)
+    (few : count ≤ 4) where
   abbrev n : ℕ
   n = k .nodes
 
@@ -45,13 +48,13 @@ module _ (bytes t : List ℕ) (k : Counts) (st : Stands bytes t k) (h : k .nodes
   abbrev terms : Terms ℕ
   terms = termsBy (termAt t) args
 
-  -- all arguments are there and are terms, as many as the arity
+  -- In this module all arguments are there and are terms, as many as the arity.
   module _ (all : All (Argument bytes t k st) args) (agree : arityOf t f ≡ count) (kind mask goal members size : ℕ) (r : NodeRecord)
       (is : NodeIs (nodeWritten t (k .nodes) r) (k .nodes) kind count f a b c d mask goal members size) where
     abbrev u : List ℕ
     u = nodeWritten t n r
 
-    -- the terms as the new table reads them
+    -- The new table reads the arguments as the same terms.
     arguments-are : argumentsAt u n ≡ terms
     unfolding argumentsAt
     arguments-are =
@@ -83,12 +86,14 @@ module _ (bytes t : List ℕ) (k : Counts) (st : Stands bytes t k) (h : k .nodes
         at : (j : ℕ) → j < count → (childOf u n j < n) × IsTerm u (childOf u n j)
         at j p =
             let x = all-at (Argument bytes t k st) args j all (let q = first-length count count a b c d few refl in omega arith) in
-            subst (λ (y : ℕ). (y < n) × IsTerm u y) (sym (child-first u n a b c d (is .first) (is .second) (is .third) (is .fourth) j count p few))
+            subst (λ (y : ℕ). (y < n) × IsTerm u y)
+            (sym (child-first u n a b c d (is .first) (is .second) (is .third) (is .fourth) j count p few))
             (x .0, is-term-same t u (k .symbols) n (same bytes t k st h r) (getD args j 0) (x .0) (x .1))
 
     masked : mask ≡ masksFrom t 0 args → (v : ℕ) → v < 8 → eqb (bitOf (maskOf u n) v) 1 ≡ freeTs terms v
     masked q v l =
-        ap (λ (m : ℕ). eqb (bitOf m v) 1) (is .mask ∙ q) ∙ masks-are bytes t k st 0 args v l all ∙ ap (λ (x : ℕ). eqb x 1 || freeTs terms v) (bit-none v)
+        ap (λ (m : ℕ). eqb (bitOf m v) 1) (is .mask ∙ q) ∙ masks-are bytes t k st 0 args v l all
+        ∙ ap (λ (x : ℕ). eqb x 1 || freeTs terms v) (bit-none v)
 
     named : labelOf u n < k .symbols
     named = let l = is .label in omega arith
@@ -117,7 +122,8 @@ module _ (bytes t : List ℕ) (k : Counts) (st : Stands bytes t k) (h : k .nodes
     term-term : termAt termTable n ≡ app f terms
     unfolding termAt
     term-term =
-        termBy-application n termTable n (term-is .kind) ∙ ap₂ app (term-is .label) (under-are all agree 1 mask 0 0 total termRecord term-is)
+        termBy-application n termTable n (term-is .kind)
+        ∙ ap₂ app (term-is .label) (under-are all agree 1 mask 0 0 total termRecord term-is)
 
     pub total-is : total ≡ size (app f terms)
     unfolding size
@@ -127,7 +133,8 @@ module _ (bytes t : List ℕ) (k : Counts) (st : Stands bytes t k) (h : k .nodes
     unfolding nodeRead termNode size
     term-read =
         let s = total-is in
-        node-agree _ _ _ _ _ _ (rw (term-is .size, le-leb 1 total (omega arith)) (ap some term-term)) (rw (term-is .goal)) (rw (term-is .members))
+        node-agree _ _ _ _ _ _ (rw (term-is .size, le-leb 1 total (omega arith)) (ap some term-term)) (rw (term-is .goal))
+        (rw (term-is .members))
 
     term-new : NewNode termTable n (k .symbols)
     unfolding freeT
@@ -169,7 +176,8 @@ module _ (bytes t : List ℕ) (k : Counts) (st : Stands bytes t k) (h : k .nodes
 
     atom-read : nodeRead atomTable n ≡ record { term = none; goal = some (atom f terms); clause = some (fact f terms) }
     unfolding nodeRead
-    atom-read = node-agree _ _ _ _ _ _ (rw (atom-is .size)) (rw (atom-is .goal) (ap some atom-goal)) (rw (atom-is .members) (ap some atom-clause))
+    atom-read =
+        node-agree _ _ _ _ _ _ (rw (atom-is .size)) (rw (atom-is .goal) (ap some atom-goal)) (rw (atom-is .members) (ap some atom-clause))
 
     atom-new : NewNode atomTable n (k .symbols)
     unfolding freeG freeC members
@@ -179,11 +187,13 @@ module _ (bytes t : List ℕ) (k : Counts) (st : Stands bytes t k) (h : k .nodes
           named = λ p q. named all agree 2 mask 1 1 0 atomRecord atom-is;
           term = λ i. let s = atom-is .size in absurd (omega arith);
           goal = λ i.
-              a-goal-atom atomTable n (λ v l. masked all agree 2 mask 1 1 0 atomRecord atom-is refl v l ∙ ap (λ (x : Goal). freeG x v) (sym atom-goal)) (atom-is .kind)
+              a-goal-atom atomTable n (λ v l. masked all agree 2 mask 1 1 0 atomRecord atom-is refl v l
+              ∙ ap (λ (x : Goal). freeG x v) (sym atom-goal)) (atom-is .kind)
               (arguments-there all agree 2 mask 1 1 0 atomRecord atom-is);
           clause = λ i.
               a-fact atomTable n (omega arith) (m ∙ ap (λ (x : Clause). length (members x)) (sym atom-clause))
-              (λ v l. masked all agree 2 mask 1 1 0 atomRecord atom-is refl v l ∙ ap (λ (x : Clause). freeC x v) (sym atom-clause)) (atom-is .kind)
+              (λ v l. masked all agree 2 mask 1 1 0 atomRecord atom-is refl v l ∙ ap (λ (x : Clause). freeC x v) (sym atom-clause))
+              (atom-is .kind)
               (arguments-there all agree 2 mask 1 1 0 atomRecord atom-is);
         }
 
@@ -193,8 +203,9 @@ module _ (bytes t : List ℕ) (k : Counts) (st : Stands bytes t k) (h : k .nodes
 
   -- any application
 
-  -- a node that is nothing
-  nothing : (r : NodeRecord) (node : Node) → r .info ≡ 0 → isSomething node ≡ false → Follows bytes t k (addNode t k r) (sheetAddNode (tableOf bytes t k) (some node))
+  -- A node that is nothing is refused as in the definitions.
+  nothing : (r : NodeRecord) (node : Node) → r .info ≡ 0 → isSomething node ≡ false
+      → Follows bytes t k (addNode t k r) (sheetAddNode (tableOf bytes t k) (some node))
   unfolding addNode sheetAddNode Agrees
   nothing r node e s = rw (e, s) (record { agrees = refl; long = refl; rest = refl })
 
@@ -204,7 +215,7 @@ module _ (bytes t : List ℕ) (k : Counts) (st : Stands bytes t k) (h : k .nodes
   abbrev anyRecord : NodeRecord
   anyRecord = nodeRecord (appliedKind t f + 16 * count) f a b c d (applicationInfo t f args)
 
-  -- where the arity agrees and all are terms
+  -- Where the arity agrees and all arguments are terms, the node is added as in the definitions.
   of-terms : All (Argument bytes t k st) args → arityOf t f ≡ count
       → Follows bytes t k (addNode t k (nodeRecord (appliedKind t f + 16 * count) f a b c d (appliedInfo t f args)))
       (sheetAddNode (tableOf bytes t k) (some (applied (eqb (isFunctionBit t f) 1) f (some terms))))
@@ -218,7 +229,9 @@ module _ (bytes t : List ℕ) (k : Counts) (st : Stands bytes t k) (h : k .nodes
       bounded false p = nothing (nodeRecord (1 + 16 * count) f a b c d 0) (termNode none) refl refl
 
       go : (x : Bool) → eqb (isFunctionBit t f) 1 ≡ x
-          → Follows bytes t k (addNode t k (nodeRecord (cond x 1 2 + 16 * count) f a b c d (cond x (cond (leb (sizesFrom t 1 args) 1024) (packInfo mask 0 0 (sizesFrom t 1 args)) 0) (packInfo mask 1 1 0))))
+          → Follows bytes t k
+          (addNode t k (nodeRecord (cond x 1 2 + 16 * count) f a b c d
+          (cond x (cond (leb (sizesFrom t 1 args) 1024) (packInfo mask 0 0 (sizesFrom t 1 args)) 0) (packInfo mask 1 1 0))))
           (sheetAddNode (tableOf bytes t k) (some (applied x f (some terms))))
       go true p =
           rw (← total-is all agree) (bounded (leb (sizesFrom t 1 args) 1024) refl)
@@ -242,11 +255,15 @@ module _ (bytes t : List ℕ) (k : Counts) (st : Stands bytes t k) (h : k .nodes
           → Follows bytes t k (addNode t k (nodeRecord (appliedKind t f + 16 * count) f a b c d (cond x (appliedInfo t f args) 0)))
           (sheetAddNode (tableOf bytes t k) (some (applied (eqb (isFunctionBit t f) 1) f (cond x (some terms) none))))
       go₂ e true p = of-terms (all-arguments bytes t k st args there p) e
-      go₂ e false p = nothing (nodeRecord (appliedKind t f + 16 * count) f a b c d 0) (applied (eqb (isFunctionBit t f) 1) f none) refl (none-applied (eqb (isFunctionBit t f) 1))
+      go₂ e false p =
+          nothing (nodeRecord (appliedKind t f + 16 * count) f a b c d 0) (applied (eqb (isFunctionBit t f) 1) f none) refl
+          (none-applied (eqb (isFunctionBit t f) 1))
 
       go : (x : Bool) → eqb (arityOf t f) (length args) ≡ x
-          → Follows bytes t k (addNode t k (nodeRecord (appliedKind t f + 16 * count) f a b c d (cond x (cond (allTerms t args) (appliedInfo t f args) 0) 0)))
-          (sheetAddNode (tableOf bytes t k) (some (cond x (applied (eqb (isFunctionBit t f) 1) f (termsOf (map (nodeRead t) args))) neither)))
+          → Follows bytes t k
+          (addNode t k (nodeRecord (appliedKind t f + 16 * count) f a b c d (cond x (cond (allTerms t args) (appliedInfo t f args) 0) 0)))
+          (sheetAddNode (tableOf bytes t k)
+          (some (cond x (applied (eqb (isFunctionBit t f) 1) f (termsOf (map (nodeRead t) args))) neither)))
       go true p =
           let e = eqb-true (arityOf t f) (length args) p in
           let q = first-length count count a b c d few refl in

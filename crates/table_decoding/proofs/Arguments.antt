@@ -18,7 +18,7 @@ use Rattle.node_table.specs.Decoding.{childrenBy, termAt}
 use Rattle.node_table.specs.WellMade.{IsTerm}
 use Rattle.table_builder.specs.declared.node_info.Counts.{Counts}
 use Rattle.table_builder.specs.Symbols.{allThere, allTerms, sizesFrom, masksFrom, firstOf}
-use Rattle.table_decoding.specs.Standing.{nodeRead, nodesFrom, tableOf, Stands}
+use Rattle.table_decoding.specs.Decoding.{nodeRead, nodesFrom, tableOf, Decodes}
 use Rattle.table_decoding.proofs.Bits.{bit-or}
 use Rattle.table_decoding.proofs.Sequences.{nodes-list, from-at, from-none}
 use Rattle.table_decoding.proofs.Under.{mask-below}
@@ -35,7 +35,8 @@ terms-agree r s (a ∷ l) h = ap₂ cons (h .0) (terms-agree r s l (h .1))
 
 -- the children of a node, of which the first four are known
 
-module _ (u : List ℕ) (n a b c d : ℕ) (e₀ : childOf u n 0 ≡ a) (e₁ : childOf u n 1 ≡ b) (e₂ : childOf u n 2 ≡ c) (e₃ : childOf u n 3 ≡ d) where
+module _ (u : List ℕ) (n a b c d : ℕ) (e₀ : childOf u n 0 ≡ a) (e₁ : childOf u n 1 ≡ b) (e₂ : childOf u n 2 ≡ c)
+    (e₃ : childOf u n 3 ≡ d) where
   pub children-first : (r : ℕ → Term ℕ) (count : ℕ) → count ≤ 4 → childrenBy r u n count 0 ≡ termsBy r (firstOf count a b c d)
   unfolding childrenBy termsBy
   children-first r zero h = refl
@@ -67,19 +68,20 @@ all-at P [] j h k = absurd (omega arith)
 all-at P (a ∷ l) zero h k = h .0
 all-at P (a ∷ l) (suc j) h k = all-at P l j (h .1) (omega arith)
 
-module _ (bytes t : List ℕ) (k : Counts) (st : Stands bytes t k) where
+module _ (bytes t : List ℕ) (k : Counts) (st : Decodes bytes t k) where
   -- A node that is there and a term.
   abbrev pub Argument : ℕ → Type 0
   Argument a = (a < k .nodes) × IsTerm t a
 
   there-at : (a : ℕ) → a < k .nodes → getElem? (nodesFrom t (k .nodes) 0) a ≡ some (nodeRead t a)
   there-at a h =
-      ap (λ (l : List Node). getElem? l a) (nodes-list t (k .nodes) 0) ∙ from-at (nodeRead t) (k .nodes) 0 a h ∙ ap (λ (x : ℕ). some (nodeRead t x)) (let e : 0 + a ≡ a = omega arith in e)
+      ap (λ (l : List Node). getElem? l a) (nodes-list t (k .nodes) 0) ∙ from-at (nodeRead t) (k .nodes) 0 a h
+      ∙ ap (λ (x : ℕ). some (nodeRead t x)) (let e : 0 + a ≡ a = omega arith in e)
 
   missing-at : (a : ℕ) → k .nodes ≤ a → getElem? (nodesFrom t (k .nodes) 0) a ≡ none
   missing-at a h = ap (λ (l : List Node). getElem? l a) (nodes-list t (k .nodes) 0) ∙ from-none (nodeRead t) (k .nodes) 0 a h
 
-  -- a node of the table, or none
+  -- The table has a node at each number below their count, and none from there on.
   pub node-there : (a : ℕ) → a < k .nodes → getElem? (tableOf bytes t k .nodes) a ≡ some (nodeRead t a)
   unfolding tableOf
   node-there a h = there-at a h
@@ -93,12 +95,15 @@ module _ (bytes t : List ℕ) (k : Counts) (st : Stands bytes t k) where
   nodes-read [] = refl
   nodes-read (a ∷ l) = go (ltb a (k .nodes)) refl (nodes-read l)
     where
-      join : (b : Bool) → consNode (some (nodeRead t a)) (cond b (some (map (nodeRead t) l)) none) ≡ cond b (some (nodeRead t a ∷ map (nodeRead t) l)) none
+      join : (b : Bool) → consNode (some (nodeRead t a)) (cond b (some (map (nodeRead t) l)) none) ≡ cond b
+          (some (nodeRead t a ∷ map (nodeRead t) l)) none
       join true = refl
       join false = refl
 
-      go : (b : Bool) → ltb a (k .nodes) ≡ b → nodesAt (tableOf bytes t k .nodes) l ≡ cond (allThere (k .nodes) l) (some (map (nodeRead t) l)) none
-          → consNode (getElem? (tableOf bytes t k .nodes) a) (nodesAt (tableOf bytes t k .nodes) l) ≡ cond (cond b (allThere (k .nodes) l) false) (some (nodeRead t a ∷ map (nodeRead t) l)) none
+      go : (b : Bool) → ltb a (k .nodes) ≡ b
+          → nodesAt (tableOf bytes t k .nodes) l ≡ cond (allThere (k .nodes) l) (some (map (nodeRead t) l)) none
+          → consNode (getElem? (tableOf bytes t k .nodes) a) (nodesAt (tableOf bytes t k .nodes) l) ≡ cond
+          (cond b (allThere (k .nodes) l) false) (some (nodeRead t a ∷ map (nodeRead t) l)) none
       go true e ih = rw (node-there a (ltb-true a (k .nodes) e), ih) (join (allThere (k .nodes) l))
       go false e ih = rw (node-missing a (ltb-false a (k .nodes) e))
 
@@ -107,7 +112,8 @@ module _ (bytes t : List ℕ) (k : Counts) (st : Stands bytes t k) where
   terms-read [] = refl
   terms-read (a ∷ l) = go (eqb (sizeOf t a) 0) refl (terms-read l)
     where
-      join : (b : Bool) → consTerm (some (termAt t a)) (cond b (some (termsBy (termAt t) l)) none) ≡ cond b (some (cons (termAt t a) (termsBy (termAt t) l))) none
+      join : (b : Bool) → consTerm (some (termAt t a)) (cond b (some (termsBy (termAt t) l)) none) ≡ cond b
+          (some (cons (termAt t a) (termsBy (termAt t) l))) none
       join true = refl
       join false = refl
 
@@ -117,13 +123,14 @@ module _ (bytes t : List ℕ) (k : Counts) (st : Stands bytes t k) where
       go true e ih = let z = eqb-true (sizeOf t a) 0 e in rw (lt-leb 1 (sizeOf t a) (omega arith))
       go false e ih = let z = eqb-false (sizeOf t a) 0 e in rw (le-leb 1 (sizeOf t a) (omega arith), ih) (join (allTerms t l))
 
-  -- all are there and terms
+  -- Nodes that are all there and all terms are arguments.
   pub all-arguments : (l : List ℕ) → allThere (k .nodes) l ≡ true → allTerms t l ≡ true → All Argument l
   unfolding allThere allTerms
   all-arguments [] h j = tt
   all-arguments (a ∷ l) h j = go (ltb a (k .nodes)) refl (eqb (sizeOf t a) 0) refl h j (all-arguments l)
     where
-      go : (x : Bool) → ltb a (k .nodes) ≡ x → (y : Bool) → eqb (sizeOf t a) 0 ≡ y → cond x (allThere (k .nodes) l) false ≡ true → cond y false (allTerms t l) ≡ true
+      go : (x : Bool) → ltb a (k .nodes) ≡ x → (y : Bool) → eqb (sizeOf t a) 0 ≡ y → cond x (allThere (k .nodes) l) false ≡ true
+          → cond y false (allTerms t l) ≡ true
           → (allThere (k .nodes) l ≡ true → allTerms t l ≡ true → All Argument l) → Argument a × All Argument l
       go true e true f p q ih = absurd (true≢false (sym q))
       go true e false f p q ih = let z = eqb-false (sizeOf t a) 0 f in ((ltb-true a (k .nodes) e, omega arith), ih p q)

@@ -7,9 +7,9 @@ use lib.Bits.{bitOr, or-step}
 use lib.Dec.{eqb}
 use borrow.Author.Tests.{eqb-true, eqb-false, eq-eqb, ne-eqb}
 use Rattle.node_table.specs.Layout.{bitOf}
-use Rattle.table_builder.specs.Making.{onlyBit, withoutBit}
+use Rattle.table_builder.specs.Nodes.{onlyBit, withoutBit}
 
--- a bit is 0 or 1
+-- A bit is 0 or 1.
 pub bit-below : (v m : ℕ) → bitOf m v < 2
 unfolding bitOf
 bit-below zero m = omega arith
@@ -76,7 +76,8 @@ unfolding bitOf onlyBit
 bit-only zero zero h = refl
 bit-only zero (suc w) h = ap (λ (x : ℕ). eqb x 1) (bit-none w) ∙ sym (ne-eqb 0 (suc w) (λ e. omega arith))
 bit-only (suc v) zero h =
-    ap (λ (x : ℕ). eqb (x % 2) 1) (only-double v (omega arith)) ∙ ap (λ (x : ℕ). eqb x 1) (twice-odd (onlyBit v)) ∙ sym (ne-eqb (suc v) 0 (λ e. omega arith))
+    ap (λ (x : ℕ). eqb (x % 2) 1) (only-double v (omega arith)) ∙ ap (λ (x : ℕ). eqb x 1) (twice-odd (onlyBit v))
+    ∙ sym (ne-eqb (suc v) 0 (λ e. omega arith))
 bit-only (suc v) (suc w) h =
     ap (λ (x : ℕ). eqb (bitOf (x / 2) w) 1) (only-double v (omega arith)) ∙ ap (λ (x : ℕ). eqb (bitOf x w) 1) (twice-half (onlyBit v))
     ∙ bit-only v w (omega arith) ∙ sym (eqb-suc v w)
@@ -122,7 +123,7 @@ none-left m = go (eqb (m % 2) 1) refl (eqb (m / 2) 0) refl
     go false p true q = let d = eqb-false (m % 2) 1 p in let e = eqb-true (m / 2) 0 q in sym (ap not (eq-eqb m 0 (omega arith)))
     go false p false q = let e = eqb-false (m / 2) 0 q in sym (ap not (ne-eqb m 0 (λ z. e (omega arith))))
 
--- one of the n bits from v on
+-- The test f holds of one of the n numbers from v on.
 unfoldable pub anyOf : ℕ → ℕ → (ℕ → Bool) → Bool
 anyOf zero v f = false
 anyOf (suc n) v f = f v || anyOf n (suc v) f
@@ -132,10 +133,11 @@ unfolding Ends anyOf bitOf
 any-bits zero v m f h k = sym (ap not (eq-eqb m 0 h))
 any-bits (suc n) v m f h k =
     let e : v + 0 ≡ v = omega arith in
-    ap₂ _||_ (ap f (sym e) ∙ k 0 (omega arith)) (any-bits n (suc v) (m / 2) f h (λ w l. let d : suc v + w ≡ v + suc w = omega arith in ap f d ∙ k (suc w) (omega arith)))
+    ap₂ _||_ (ap f (sym e) ∙ k 0 (omega arith))
+    (any-bits n (suc v) (m / 2) f h (λ w l. let d : suc v + w ≡ v + suc w = omega arith in ap f d ∙ k (suc w) (omega arith)))
     ∙ none-left m
 
--- a mask of eight bits has one exactly if it is not 0
+-- A mask of eight bits has one that is set exactly if it is not 0.
 pub any-bit : (m : ℕ) (f : ℕ → Bool) → m < 256 → ((w : ℕ) → w < 8 → f w ≡ eqb (bitOf m w) 1) → anyOf 8 0 f ≡ not (eqb m 0)
 unfolding Ends
 any-bit m f h k = any-bits 8 0 m f (omega arith) (λ w l. let e : 0 + w ≡ w = omega arith in ap f e ∙ k w l)

@@ -22,17 +22,19 @@ use Rattle.node_table.proofs.Same.{Same, same-kind, same-label, same-start, sam
 use Rattle.node_table.proofs.Nodes.{is-term-back, is-goal-back, is-clause-back, is-clause-same, term-same, goal-same, clause-same}
 use Rattle.table_builder.specs.declared.node_info.Counts.{Counts}
 use Rattle.table_builder.specs.declared.node_info.Taken.the-variants.{Next, Stop}
-use Rattle.table_builder.specs.Making.{made, counts}
-use Rattle.table_builder.specs.Symbols.{sameAt, nameIs, findFrom, findName, symbolWord, symbolWritten, takeDeclaration}
-use Rattle.table_decoding.specs.Standing.{tableOf, Stands, Agrees, Follows}
-use Rattle.table_decoding.proofs.Writing.{Rest, rest-symbol, same-but-symbol, clause-kept-symbol, written-start, written-length, written-function, written-arity}
+use Rattle.table_builder.specs.Nodes.{made, counts}
+use Rattle.table_builder.specs.Symbols.{sameAt, nameIs, findFrom, findName, symbolWord, symbolWritten, insertDeclaration}
+use Rattle.table_decoding.specs.Decoding.{tableOf, Decodes, Agrees, Follows}
+use Rattle.table_decoding.proofs.Writing.{Rest, rest-symbol, same-but-symbol, clause-kept-symbol, written-start, written-length}
+use Rattle.table_decoding.proofs.Writing.{written-function, written-arity}
 use Rattle.table_decoding.proofs.Sequences.{from-length, from-more, declarations-list}
 use Rattle.table_decoding.proofs.Adding.{table-agree, nodes-of-stands, symbols-same, nodes-same, clauses-same, below-more}
 
 -- names
 
--- the bytes on the sheet are those of the name
-same-is : (bytes : List ℕ) (at : ℕ) (name : List ℕ) → at + length name ≤ length bytes → sameAt bytes at name ≡ sameBytes name (take (length name) (drop at bytes))
+-- The code finds the name at `at` on the sheet exactly if the bytes there are those of the name.
+same-is : (bytes : List ℕ) (at : ℕ) (name : List ℕ) → at + length name ≤ length bytes
+    → sameAt bytes at name ≡ sameBytes name (take (length name) (drop at bytes))
 unfolding sameAt sameBytes
 same-is bytes at [] h = refl
 same-is bytes at (b ∷ l) h =
@@ -41,15 +43,17 @@ same-is bytes at (b ∷ l) h =
     ∙ ap₂ _&&_ (eqb-comm (getD bytes at 0) b) (ap (λ (x : ℕ). sameAt bytes x l) (add-one at) ∙ same-is bytes (suc at) l (omega arith))
     ∙ ap (λ (x : List ℕ). sameBytes (b ∷ l) (take (suc (length l)) x)) (sym (drop-cons bytes at 0 k))
 
--- symbol i has the name
+-- The code finds that symbol i has the name exactly if the symbol's bytes are those of the name.
 name-is : (bytes t : List ℕ) (i : ℕ) (name : List ℕ) → nameStart t i + nameLength t i ≤ length bytes
     → nameIs bytes t i name ≡ sameBytes name (take (nameLength t i) (drop (nameStart t i) bytes))
 unfolding nameIs
 name-is bytes t i name h = go (eqb (nameLength t i) (length name)) refl
   where
-    other : (b : Bool) → (nameLength t i ≡ length name → ⊥) → sameBytes name (take (nameLength t i) (drop (nameStart t i) bytes)) ≡ b → false ≡ b
+    other : (b : Bool) → (nameLength t i ≡ length name → ⊥) → sameBytes name (take (nameLength t i) (drop (nameStart t i) bytes)) ≡ b
+        → false ≡ b
     other true d e =
-        absurd (d (sym (length-take-le (nameLength t i) (drop (nameStart t i) bytes) (simp length-drop (omega arith))) ∙ ap length (sym (same-equal name _ e))))
+        absurd (d (sym (length-take-le (nameLength t i) (drop (nameStart t i) bytes) (simp length-drop (omega arith)))
+        ∙ ap length (sym (same-equal name _ e))))
     other false d e = refl
 
     go : (b : Bool) → eqb (nameLength t i) (length name) ≡ b
@@ -57,13 +61,14 @@ name-is bytes t i name h = go (eqb (nameLength t i) (length name)) refl
     go true e =
         let q = eqb-true (nameLength t i) (length name) e in
         same-is bytes (nameStart t i) name (omega arith) ∙ ap (λ (x : ℕ). sameBytes name (take x (drop (nameStart t i) bytes))) (sym q)
-    go false e = other (sameBytes name (take (nameLength t i) (drop (nameStart t i) bytes))) (eqb-false (nameLength t i) (length name) e) refl
+    go false e =
+        other (sameBytes name (take (nameLength t i) (drop (nameStart t i) bytes))) (eqb-false (nameLength t i) (length name) e) refl
 
 cond-or : (x y : Bool) → cond x true y ≡ (x || y)
 cond-or true y = refl
 cond-or false y = refl
 
--- a name is found among the symbols exactly if it is declared
+-- A name is found among the symbols exactly if it is declared.
 found : (bytes t : List ℕ) (c i : ℕ) (name : List ℕ) → ((j : ℕ) → i ≤ j → j < i + c → nameStart t j + nameLength t j ≤ length bytes)
     → findFrom c bytes t i name ≡ isDeclared name (declarationsFrom bytes t c i)
 unfolding findFrom isDeclared declarationsFrom declarationAt
@@ -85,7 +90,8 @@ unfolding symbolWord
 word-arity true arity = omega arith
 word-arity false arity = omega arith
 
-module _ (bytes t : List ℕ) (k : Counts) (st : Stands bytes t k) (function : Bool) (start len arity : ℕ) (fits : start + len ≤ length bytes) where
+module _ (bytes t : List ℕ) (k : Counts) (st : Decodes bytes t k) (function : Bool) (start len arity : ℕ)
+    (fits : start + len ≤ length bytes) where
   abbrev i : ℕ
   i = k .symbols
 
@@ -114,7 +120,7 @@ module _ (bytes t : List ℕ) (k : Counts) (st : Stands bytes t k) (function : B
           word-arity function arity,
         )
 
-    stands-symbol : Stands bytes u k′
+    stands-symbol : Decodes bytes u k′
     unfolding Rest
     stands-symbol =
         let m = nodes-of-stands bytes t k st in
@@ -158,34 +164,51 @@ module _ (bytes t : List ℕ) (k : Counts) (st : Stands bytes t k) (function : B
     table-symbol =
         let m = nodes-of-stands bytes t k st in
         table-agree _ _ _ _ _ _
-        (ap (λ (c : ℕ). declarationsFrom bytes u c 0) (add-one i) ∙ declarations-list bytes u (suc i) 0 ∙ from-more (declarationAt bytes u) i 0
-        ∙ ap₂ (λ (x : List Declaration) (d : Declaration). x ++ (d ∷ [])) (sym (declarations-list bytes u i 0) ∙ symbols-same bytes t u i (k .nodes) same-table)
+        (ap (λ (c : ℕ). declarationsFrom bytes u c 0) (add-one i) ∙ declarations-list bytes u (suc i) 0
+        ∙ from-more (declarationAt bytes u) i 0
+        ∙ ap₂ (λ (x : List Declaration) (d : Declaration). x ++ (d ∷ [])) (sym (declarations-list bytes u i 0)
+        ∙ symbols-same bytes t u i (k .nodes) same-table)
         (let e : 0 + i ≡ i = omega arith in ap (declarationAt bytes u) e ∙ new-declaration))
         (nodes-same bytes t u i (k .nodes) same-table m)
-        (clauses-same bytes t u i (k .nodes) same-table m (k .clauses) (st .clauses) (λ j p. clause-kept-symbol t i start len (symbolWord function arity) l j))
+        (clauses-same bytes t u i (k .nodes) same-table m (k .clauses) (st .clauses)
+        (λ j p. clause-kept-symbol t i start len (symbolWord function arity) l j))
 
   symbols-length : length (tableOf bytes t k .symbols) ≡ k .symbols
   unfolding tableOf
   symbols-length = ap length (declarations-list bytes t (k .symbols) 0) ∙ from-length (declarationAt bytes t) (k .symbols) 0
 
-  is-found : findName bytes t (k .symbols) (take len (drop start bytes)) ≡ isDeclared (take len (drop start bytes)) (tableOf bytes t k .symbols)
+  is-found : findName bytes t (k .symbols) (take len (drop start bytes)) ≡ isDeclared (take len (drop start bytes))
+      (tableOf bytes t k .symbols)
   unfolding findName tableOf
   is-found = found bytes t (k .symbols) 0 (take len (drop start bytes)) (λ j p q. st .names j (omega arith))
 
-  pub declaration-follows : Follows bytes t k (takeDeclaration bytes t k function start len arity) (sheetTakeDeclaration (tableOf bytes t k) declared)
-  unfolding takeDeclaration sheetTakeDeclaration Agrees Rest
+  pub declaration-follows : Follows bytes t k (insertDeclaration bytes t k function start len arity)
+      (sheetTakeDeclaration (tableOf bytes t k) declared)
+  unfolding insertDeclaration sheetTakeDeclaration Agrees Rest
   declaration-follows = rw (symbols-length, ← is-found) (room (leb 256 i) refl)
     where
       name : (x : Bool) → i < 256
           → Follows bytes t k (cond x (made t (Stop 8)) (made u (Next k′)))
-          (cond x (stop 8) (next (record { symbols = tableOf bytes t k .symbols ++ (declared ∷ []); nodes = tableOf bytes t k .nodes; clauses = tableOf bytes t k .clauses })))
+          (cond x (stop 8)
+          (next (record {
+            symbols = tableOf bytes t k .symbols ++ (declared ∷ []);
+            nodes = tableOf bytes t k .nodes;
+            clauses = tableOf bytes t k .clauses;
+          })))
       name true l = record { agrees = refl; long = refl; rest = refl }
       name false l =
           let rest = rest-symbol t i start len (symbolWord function arity) l in
           record { agrees = (ap next (sym (table-symbol l)), stands-symbol l); long = rest .0; rest = rest .1 }
 
       room : (x : Bool) → leb 256 i ≡ x
-          → Follows bytes t k (cond x (made t (Stop 7)) (cond (findName bytes t i (take len (drop start bytes))) (made t (Stop 8)) (made u (Next k′))))
-          (cond (not (ltb i 256)) (stop 7) (cond (findName bytes t i (take len (drop start bytes))) (stop 8) (next (record { symbols = tableOf bytes t k .symbols ++ (declared ∷ []); nodes = tableOf bytes t k .nodes; clauses = tableOf bytes t k .clauses }))))
+          → Follows bytes t k
+          (cond x (made t (Stop 7)) (cond (findName bytes t i (take len (drop start bytes))) (made t (Stop 8)) (made u (Next k′))))
+          (cond (not (ltb i 256)) (stop 7)
+          (cond (findName bytes t i (take len (drop start bytes))) (stop 8)
+          (next (record {
+            symbols = tableOf bytes t k .symbols ++ (declared ∷ []);
+            nodes = tableOf bytes t k .nodes;
+            clauses = tableOf bytes t k .clauses;
+          }))))
       room true e = let p = leb-true 256 i e in rw (le-ltb i 256 p) (record { agrees = refl; long = refl; rest = refl })
       room false e = let p = leb-false 256 i e in rw (lt-ltb i 256 p) (name (findName bytes t i (take len (drop start bytes))) p)

@@ -9,9 +9,9 @@ use borrow.Author.Tests.{eqb-true, eqb-false, le-leb, lt-leb, leb-true}
 use Rattle.terms.specs.Terms.{Terms}
 use Rattle.formulas.specs.Formulas.{Goal, atom, implies, Clause, rule, both}
 use Rattle.sheet_format.specs.Nodes.{memberCount, goals2, bothClauses, supposed, ruled}
-use Rattle.table_builder.specs.Making.{sumMembers}
+use Rattle.table_builder.specs.Nodes.{sumMembers}
 
--- both bits
+-- If the bit made of two is 1, both bits are 1.
 pub both-one : (x y : ℕ) → cond (eqb x 1) y 0 ≡ 1 → (x ≡ 1) × (y ≡ 1)
 both-one x y h = go (eqb x 1) refl h
   where
@@ -46,7 +46,8 @@ pub summed : (m n : ℕ) → 1 ≤ sumMembers m n → Summed m n
 unfolding sumMembers
 summed m n h = go (eqb m 0) refl (eqb n 0) refl (leb (m + n) 64) refl h
   where
-    go : (a : Bool) → eqb m 0 ≡ a → (b : Bool) → eqb n 0 ≡ b → (c : Bool) → leb (m + n) 64 ≡ c → 1 ≤ cond a 0 (cond b 0 (cond c (m + n) 0)) → Summed m n
+    go : (a : Bool) → eqb m 0 ≡ a → (b : Bool) → eqb n 0 ≡ b → (c : Bool) → leb (m + n) 64 ≡ c
+        → 1 ≤ cond a 0 (cond b 0 (cond c (m + n) 0)) → Summed m n
     go true p b q c r k = absurd (omega arith)
     go false p true q c r k = absurd (omega arith)
     go false p false q false r k = absurd (omega arith)
@@ -67,18 +68,19 @@ sum-below m n = go (eqb m 0) (eqb n 0) (leb (m + n) 64) refl
 
 -- goals and clauses
 
--- both are goals
+-- The goal read from two nodes is the one that `goals2` makes of both.
 pub goals2-read : (f : Goal → Goal → Goal) (x y z : ℕ) (g h w : Goal) → z ≡ cond (eqb x 1) y 0 → (x ≡ 1 → y ≡ 1 → w ≡ f g h)
     → cond (eqb z 1) (some w) none ≡ goals2 f (cond (eqb x 1) (some g) none) (cond (eqb y 1) (some h) none)
 unfolding goals2
 goals2-read f x y z g h w e k = rw e (go (eqb x 1) refl (eqb y 1) refl)
   where
-    go : (a : Bool) → eqb x 1 ≡ a → (b : Bool) → eqb y 1 ≡ b → cond (eqb (cond a y 0) 1) (some w) none ≡ goals2 f (cond a (some g) none) (cond b (some h) none)
+    go : (a : Bool) → eqb x 1 ≡ a → (b : Bool) → eqb y 1 ≡ b
+        → cond (eqb (cond a y 0) 1) (some w) none ≡ goals2 f (cond a (some g) none) (cond b (some h) none)
     go true p true q = rw q (ap some (k (eqb-true x 1 p) (eqb-true y 1 q)))
     go true p false q = rw q
     go false p b q = refl
 
--- a clause and a goal
+-- The goal read from a clause and a goal is the one that `supposed` makes of them.
 pub supposed-read : (m y z : ℕ) (c : Clause) (g w : Goal) → z ≡ cond (eqb m 0) 0 y → (1 ≤ m → y ≡ 1 → w ≡ implies c g)
     → cond (eqb z 1) (some w) none ≡ supposed (cond (leb 1 m) (some c) none) (cond (eqb y 1) (some g) none)
 unfolding supposed
@@ -90,14 +92,16 @@ supposed-read m y z c g w e k = rw e (go (eqb m 0) refl (eqb y 1) refl)
     go false p true q = let d = eqb-false m 0 p in let l : 1 ≤ m = omega arith in rw (q, le-leb 1 m l) (ap some (k l (eqb-true y 1 q)))
     go false p false q = let d = eqb-false m 0 p in let l : 1 ≤ m = omega arith in rw (q, le-leb 1 m l)
 
--- two clauses of at most 64 members
-pub both-read : (m n z : ℕ) (c d w : Clause) → z ≡ sumMembers m n → (1 ≤ m → memberCount c ≡ m) → (1 ≤ n → memberCount d ≡ n) → (1 ≤ m → 1 ≤ n → w ≡ both c d)
+-- The clause read from two clauses is the one that `bothClauses` makes, of at most 64 members.
+pub both-read : (m n z : ℕ) (c d w : Clause) → z ≡ sumMembers m n → (1 ≤ m → memberCount c ≡ m) → (1 ≤ n → memberCount d ≡ n)
+    → (1 ≤ m → 1 ≤ n → w ≡ both c d)
     → cond (leb 1 z) (some w) none ≡ bothClauses (cond (leb 1 m) (some c) none) (cond (leb 1 n) (some d) none)
 unfolding bothClauses sumMembers
 both-read m n z c d w e p q k = rw e (go (eqb m 0) refl (eqb n 0) refl (leb (m + n) 64) refl)
   where
     go : (x : Bool) → eqb m 0 ≡ x → (y : Bool) → eqb n 0 ≡ y → (v : Bool) → leb (m + n) 64 ≡ v
-        → cond (leb 1 (cond x 0 (cond y 0 (cond v (m + n) 0)))) (some w) none ≡ bothClauses (cond (leb 1 m) (some c) none) (cond (leb 1 n) (some d) none)
+        → cond (leb 1 (cond x 0 (cond y 0 (cond v (m + n) 0)))) (some w) none ≡ bothClauses (cond (leb 1 m) (some c) none)
+        (cond (leb 1 n) (some d) none)
     go true a y b v r = let i = eqb-true m 0 a in rw (lt-leb 1 m (omega arith))
     go false a true b v r =
         let i = eqb-false m 0 a in
@@ -116,7 +120,7 @@ both-read m n z c d w e p q k = rw e (go (eqb m 0) refl (eqb n 0) refl (leb (m +
         let y : 1 ≤ n = omega arith in
         rw (le-leb 1 m x, le-leb 1 n y, p x, q y, r)
 
--- a goal and an atom, which is of kind 2
+-- The clause read from a goal and an atom, which is of kind 2, is the one that `ruled` makes of them.
 pub ruled-read : (j x y z : ℕ) (g h : Goal) (w : Clause) (p : ℕ) (ts : Terms ℕ) → y ≤ 1 → z ≡ cond (eqb j 2) (cond (eqb x 1) y 0) 0
     → (j ≡ 2 → y ≡ 1 → h ≡ atom p ts) → ((j ≡ 2 → ⊥) → y ≡ 1 → ruled (some g) (some h) ≡ none) → (j ≡ 2 → x ≡ 1 → y ≡ 1 → w ≡ rule g p ts)
     → cond (leb 1 z) (some w) none ≡ ruled (cond (eqb x 1) (some g) none) (cond (eqb y 1) (some h) none)
@@ -135,15 +139,17 @@ ruled-read j x y z g h w p ts s e k l m = rw e (go (eqb j 2) refl (eqb x 1) refl
     go false u true v false o = refl
     go false u false v c o = refl
 
--- one goal, one clause
-pub map-read : (f : Goal → Goal) (x z : ℕ) (g w : Goal) → z ≡ x → (x ≡ 1 → w ≡ f g) → cond (eqb z 1) (some w) none ≡ Option·map f (cond (eqb x 1) (some g) none)
+-- The goal read from one goal, or the clause from one clause, is the mapped one.
+pub map-read : (f : Goal → Goal) (x z : ℕ) (g w : Goal) → z ≡ x → (x ≡ 1 → w ≡ f g)
+    → cond (eqb z 1) (some w) none ≡ Option·map f (cond (eqb x 1) (some g) none)
 map-read f x z g w e k = rw e (go (eqb x 1) refl)
   where
     go : (a : Bool) → eqb x 1 ≡ a → cond a (some w) none ≡ Option·map f (cond a (some g) none)
     go true p = ap some (k (eqb-true x 1 p))
     go false p = refl
 
-pub map-clause : (f : Clause → Clause) (x z : ℕ) (c w : Clause) → z ≡ x → (1 ≤ x → w ≡ f c) → cond (leb 1 z) (some w) none ≡ Option·map f (cond (leb 1 x) (some c) none)
+pub map-clause : (f : Clause → Clause) (x z : ℕ) (c w : Clause) → z ≡ x → (1 ≤ x → w ≡ f c)
+    → cond (leb 1 z) (some w) none ≡ Option·map f (cond (leb 1 x) (some c) none)
 map-clause f x z c w e k = rw e (go (leb 1 x) refl)
   where
     go : (a : Bool) → leb 1 x ≡ a → cond a (some w) none ≡ Option·map f (cond a (some c) none)

@@ -8,7 +8,8 @@ use lib.ListN.{length}
 use Rattle.terms.specs.Terms.{size}
 use Rattle.formulas.specs.Formulas.{freeT, freeG, freeC}
 use Rattle.formulas.specs.Members.{members}
-use Rattle.node_table.specs.Layout.{kindOf, labelOf, childOf, maskOf, bitOf, membersOf, sizeOf, forallKind, impliesKind, atomKind, andKind, existsKind, orKind, trueKind, applicationKind, variableKind}
+use Rattle.node_table.specs.Layout.{kindOf, labelOf, childOf, maskOf, bitOf, membersOf, sizeOf, forallKind, impliesKind, atomKind, andKind}
+use Rattle.node_table.specs.Layout.{existsKind, orKind, trueKind, applicationKind, variableKind}
 use Rattle.node_table.specs.Decoding.{termAt, goalAt, clauseAtNode}
 use Rattle.node_table.specs.WellMade.{IsGoal, IsClause, Arguments, TermNode, GoalNode, ClauseNode}
 
@@ -156,7 +157,8 @@ module _ (u : List ℕ) (n : ℕ) where
           free = f;
         }
 
-    pub a-rule : kindOf u n ≡ impliesKind → GoalChild u n 0 → (childOf u n 1 < n) × (kindOf u (childOf u n 1) ≡ atomKind) × Arguments u (childOf u n 1) → ClauseNode u n
+    pub a-rule : kindOf u n ≡ impliesKind → GoalChild u n 0 → (childOf u n 1 < n) × (kindOf u (childOf u n 1) ≡ atomKind)
+        × Arguments u (childOf u n 1) → ClauseNode u n
     a-rule e x y =
         record {
           kind = λ p q r. absurd (r e);
@@ -169,7 +171,8 @@ module _ (u : List ℕ) (n : ℕ) where
           free = f;
         }
 
-    pub a-quantified : kindOf u n ≡ forallKind → labelOf u n < 8 → ClauseChild u n 0 → membersOf u n ≡ membersOf u (childOf u n 0) → ClauseNode u n
+    pub a-quantified : kindOf u n ≡ forallKind → labelOf u n < 8 → ClauseChild u n 0 → membersOf u n ≡ membersOf u (childOf u n 0)
+        → ClauseNode u n
     a-quantified e h x s =
         record {
           kind = λ p q r. e;

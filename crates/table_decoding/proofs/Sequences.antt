@@ -1,4 +1,4 @@
--- The lists that a table is read back as: their lengths, what stands at a place, one element more, and when two are equal.
+-- The lists that a table is read back as: their lengths, what stands at a position, one element more, and when two are equal.
 use Prim.Native.Nat.{ℕ, zero, suc, _+_, _<_, _≤_}
 use native.Mathlib.Omega.{arith}
 use mathlib.Core.Path.{_≡_, refl, ap, ap₂, _∙_}
@@ -9,9 +9,9 @@ use Rattle.formulas.specs.Formulas.{Clause}
 use Rattle.sheet_format.specs.Nodes.{Declaration, Node}
 use Rattle.node_table.specs.Layout.{clauseNode}
 use Rattle.node_table.specs.Decoding.{clauseAtNode, declarationAt, declarationsFrom, clausesFrom}
-use Rattle.table_decoding.specs.Standing.{nodeRead, nodesFrom}
+use Rattle.table_decoding.specs.Decoding.{nodeRead, nodesFrom}
 
--- f of the c numbers from i on
+-- The list has f of each of the c numbers from i on.
 unfoldable pub listFrom : {A : Type 0} → (ℕ → A) → ℕ → ℕ → List A
 listFrom f zero i = []
 listFrom f (suc c) i = f i ∷ listFrom f c (suc i)
@@ -25,7 +25,8 @@ pub from-at : {A : Type 0} (f : ℕ → A) (c i a : ℕ) → a < c → getElem? 
 unfolding listFrom
 from-at f zero i a h = absurd (omega arith)
 from-at f (suc c) i zero h = let e : i ≡ i + 0 = omega arith in ap (λ (x : ℕ). some (f x)) e
-from-at f (suc c) i (suc a) h = let e : suc i + a ≡ i + suc a = omega arith in from-at f c (suc i) a (omega arith) ∙ ap (λ (x : ℕ). some (f x)) e
+from-at f (suc c) i (suc a) h =
+    let e : suc i + a ≡ i + suc a = omega arith in from-at f c (suc i) a (omega arith) ∙ ap (λ (x : ℕ). some (f x)) e
 
 pub from-none : {A : Type 0} (f : ℕ → A) (c i a : ℕ) → c ≤ a → getElem? (listFrom f c i) a ≡ none
 unfolding listFrom

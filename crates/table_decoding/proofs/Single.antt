@@ -20,9 +20,9 @@ use Rattle.node_table.proofs.Same.{same-members}
 use Rattle.node_table.proofs.Decoding.{termBy-variable, goalBy-true, goalBy-exists, goalBy-forall, clauseBy-each}
 use Rattle.table_builder.specs.declared.node_info.Counts.{Counts}
 use Rattle.table_builder.specs.declared.node_info.NodeRecord.{NodeRecord}
-use Rattle.table_builder.specs.Making.{nodeRecord, nodeWritten, addNode, onlyBit, withoutBit, existsInfo, forallInfo}
+use Rattle.table_builder.specs.Nodes.{nodeRecord, nodeWritten, addNode, onlyBit, withoutBit, existsInfo, forallInfo}
 use Rattle.table_builder.proofs.node_info.Laws.{only-below}
-use Rattle.table_decoding.specs.Standing.{nodeRead, tableOf, Stands, Follows}
+use Rattle.table_decoding.specs.Decoding.{nodeRead, tableOf, Decodes, Follows}
 use Rattle.table_decoding.proofs.Bits.{bit-none, bit-only, bit-without, without-le}
 use Rattle.table_decoding.proofs.Writing.{NodeIs, written}
 use Rattle.table_decoding.proofs.Adding.{node-agree, NewNode, same, added}
@@ -30,7 +30,7 @@ use Rattle.table_decoding.proofs.NodeKinds.{a-variable, a-goal-true, a-
 use Rattle.table_decoding.proofs.Flags.{map-read, map-clause}
 use Rattle.table_decoding.proofs.Under.{mask-below, goal-le, members-below, goal-under, clause-under, goal-there, clause-there}
 
-module _ (bytes t : List ℕ) (k : Counts) (st : Stands bytes t k) (h : k .nodes < 1024) where
+module _ (bytes t : List ℕ) (k : Counts) (st : Decodes bytes t k) (h : k .nodes < 1024) where
   abbrev n : ℕ
   n = k .nodes
 
@@ -63,11 +63,13 @@ module _ (bytes t : List ℕ) (k : Counts) (st : Stands bytes t k) (h : k .nodes
         term = λ i. let s = true-is .size in absurd (omega arith);
         goal = λ i.
             a-goal-true trueTable n
-            (λ v l. ap (λ (m : ℕ). eqb (bitOf m v) 1) (true-is .mask) ∙ ap (λ (x : ℕ). eqb x 1) (bit-none v) ∙ ap (λ (g : Goal). freeG g v) (sym true-goal)) e;
+            (λ v l. ap (λ (m : ℕ). eqb (bitOf m v) 1) (true-is .mask) ∙ ap (λ (x : ℕ). eqb x 1) (bit-none v)
+            ∙ ap (λ (g : Goal). freeG g v) (sym true-goal)) e;
         clause = λ i. let m = true-is .members in absurd (omega arith);
       }
 
-  pub true-added : Follows bytes t k (addNode t k trueRecord) (sheetAddNode (tableOf bytes t k) (some (record { term = none; goal = some truth; clause = none })))
+  pub true-added : Follows bytes t k (addNode t k trueRecord)
+      (sheetAddNode (tableOf bytes t k) (some (record { term = none; goal = some truth; clause = none })))
   true-added = added bytes t k st h trueRecord _ true-read true-new
 
   module _ (v : ℕ) (lv : v < 8) where
@@ -88,7 +90,8 @@ module _ (bytes t : List ℕ) (k : Counts) (st : Stands bytes t k) (h : k .nodes
 
     variable-read : nodeRead variableTable n ≡ termNode (some (leaf v))
     unfolding nodeRead termNode
-    variable-read = node-agree _ _ _ _ _ _ (rw (variable-is .size) (ap some variable-term)) (rw (variable-is .goal)) (rw (variable-is .members))
+    variable-read =
+        node-agree _ _ _ _ _ _ (rw (variable-is .size) (ap some variable-term)) (rw (variable-is .goal)) (rw (variable-is .members))
 
     variable-new : NewNode variableTable n (k .symbols)
     unfolding freeT size
@@ -99,7 +102,8 @@ module _ (bytes t : List ℕ) (k : Counts) (st : Stands bytes t k) (h : k .nodes
           named = λ p q. absurd (omega arith);
           term = λ i.
               a-variable variableTable n e (omega arith) (variable-is .size ∙ ap (λ (x : Term ℕ). size x) (sym variable-term))
-              (λ w l. ap (λ (m : ℕ). eqb (bitOf m w) 1) (variable-is .mask) ∙ bit-only v w lv ∙ ap (λ (x : Term ℕ). freeT x w) (sym variable-term));
+              (λ w l. ap (λ (m : ℕ). eqb (bitOf m w) 1) (variable-is .mask) ∙ bit-only v w lv
+              ∙ ap (λ (x : Term ℕ). freeT x w) (sym variable-term));
           goal = λ i. let g = variable-is .goal in absurd (omega arith);
           clause = λ i. let m = variable-is .members in absurd (omega arith);
         }
@@ -108,11 +112,12 @@ module _ (bytes t : List ℕ) (k : Counts) (st : Stands bytes t k) (h : k .nodes
     variable-added = added bytes t k st h variableRecord _ variable-read variable-new
 
     module _ (a : ℕ) (la : a < k .nodes) where
-      -- the mask without v
+      -- The mask without v is below 256.
       without-below : withoutBit v (maskOf t a) < 256
       without-below = let x = without-le v (maskOf t a) in let y = mask-below t a in omega arith
 
-      without-free : (m : ℕ) (f : ℕ → Bool) (w : ℕ) → m ≡ withoutBit v (maskOf t a) → eqb (bitOf (maskOf t a) w) 1 ≡ f w → eqb (bitOf m w) 1 ≡ (not (eqb v w) && f w)
+      without-free : (m : ℕ) (f : ℕ → Bool) (w : ℕ) → m ≡ withoutBit v (maskOf t a) → eqb (bitOf (maskOf t a) w) 1 ≡ f w
+          → eqb (bitOf m w) 1 ≡ (not (eqb v w) && f w)
       without-free m f w e p = ap (λ (x : ℕ). eqb (bitOf x w) 1) e ∙ bit-without v (maskOf t a) w ∙ ap (λ (b : Bool). not (eqb v w) && b) p
 
       -- E
@@ -125,7 +130,9 @@ module _ (bytes t : List ℕ) (k : Counts) (st : Stands bytes t k) (h : k .nodes
 
       exists-is : NodeIs existsTable n 7 1 v a 0 0 0 (withoutBit v (maskOf t a)) (goalBit t a) 0 0
       unfolding existsInfo
-      exists-is = written t n 7 1 v a 0 0 0 (withoutBit v (maskOf t a)) (goalBit t a) 0 0 (st .long) h (omega arith) without-below (goal-le t a) (omega arith)
+      exists-is =
+          written t n 7 1 v a 0 0 0 (withoutBit v (maskOf t a)) (goalBit t a) 0 0 (st .long) h (omega arith) without-below (goal-le t a)
+          (omega arith)
 
       exists-goal : IsGoal t a → goalAt existsTable n ≡ exists v (goalAt t a)
       unfolding goalAt
@@ -137,7 +144,8 @@ module _ (bytes t : List ℕ) (k : Counts) (st : Stands bytes t k) (h : k .nodes
       unfolding nodeRead
       exists-read =
           node-agree _ _ _ _ _ _ (rw (exists-is .size))
-          (map-read (exists v) (goalBit t a) (goalBit existsTable n) (goalAt t a) (goalAt existsTable n) (exists-is .goal) exists-goal) (rw (exists-is .members))
+          (map-read (exists v) (goalBit t a) (goalBit existsTable n) (goalAt t a) (goalAt existsTable n) (exists-is .goal) exists-goal)
+          (rw (exists-is .members))
 
       exists-new : NewNode existsTable n (k .symbols)
       unfolding freeG
@@ -150,7 +158,8 @@ module _ (bytes t : List ℕ) (k : Counts) (st : Stands bytes t k) (h : k .nodes
             goal = λ i.
                 let p = sym (exists-is .goal) ∙ i in
                 a-goal-exists existsTable n
-                (λ w l. without-free (maskOf existsTable n) (freeG (goalAt t a)) w (exists-is .mask) (st .goal a la p .free w l) ∙ ap (λ (g : Goal). freeG g w) (sym (exists-goal p)))
+                (λ w l. without-free (maskOf existsTable n) (freeG (goalAt t a)) w (exists-is .mask) (st .goal a la p .free w l)
+                ∙ ap (λ (g : Goal). freeG g w) (sym (exists-goal p)))
                 e (omega arith) (goal-there bytes t k st h existsRecord a la 0 (exists-is .first) p);
             clause = λ i. let m = exists-is .members in absurd (omega arith);
           }
@@ -170,7 +179,8 @@ module _ (bytes t : List ℕ) (k : Counts) (st : Stands bytes t k) (h : k .nodes
       forall-is : NodeIs forallTable n 8 1 v a 0 0 0 (withoutBit v (maskOf t a)) (goalBit t a) (membersOf t a) 0
       unfolding forallInfo
       forall-is =
-          written t n 8 1 v a 0 0 0 (withoutBit v (maskOf t a)) (goalBit t a) (membersOf t a) 0 (st .long) h (omega arith) without-below (goal-le t a) (members-below t a)
+          written t n 8 1 v a 0 0 0 (withoutBit v (maskOf t a)) (goalBit t a) (membersOf t a) 0 (st .long) h (omega arith) without-below
+          (goal-le t a) (members-below t a)
 
       forall-goal : IsGoal t a → goalAt forallTable n ≡ forall v (goalAt t a)
       unfolding goalAt
@@ -190,7 +200,8 @@ module _ (bytes t : List ℕ) (k : Counts) (st : Stands bytes t k) (h : k .nodes
       forall-read =
           node-agree _ _ _ _ _ _ (rw (forall-is .size))
           (map-read (forall v) (goalBit t a) (goalBit forallTable n) (goalAt t a) (goalAt forallTable n) (forall-is .goal) forall-goal)
-          (map-clause (each v) (membersOf t a) (membersOf forallTable n) (clauseAtNode t a) (clauseAtNode forallTable n) (forall-is .members) forall-clause)
+          (map-clause (each v) (membersOf t a) (membersOf forallTable n) (clauseAtNode t a) (clauseAtNode forallTable n)
+          (forall-is .members) forall-clause)
 
       forall-new : NewNode forallTable n (k .symbols)
       unfolding freeG freeC members
@@ -203,7 +214,8 @@ module _ (bytes t : List ℕ) (k : Counts) (st : Stands bytes t k) (h : k .nodes
             goal = λ i.
                 let p = sym (forall-is .goal) ∙ i in
                 a-goal-forall forallTable n
-                (λ w l. without-free (maskOf forallTable n) (freeG (goalAt t a)) w (forall-is .mask) (st .goal a la p .free w l) ∙ ap (λ (g : Goal). freeG g w) (sym (forall-goal p)))
+                (λ w l. without-free (maskOf forallTable n) (freeG (goalAt t a)) w (forall-is .mask) (st .goal a la p .free w l)
+                ∙ ap (λ (g : Goal). freeG g w) (sym (forall-goal p)))
                 e (omega arith) (goal-there bytes t k st h forallRecord a la 0 (forall-is .first) p);
             clause = λ i.
                 let m = forall-is .members in
@@ -211,10 +223,13 @@ module _ (bytes t : List ℕ) (k : Counts) (st : Stands bytes t k) (h : k .nodes
                 let x = st .clause a la p in
                 let few = x .few in
                 a-quantified forallTable n (omega arith)
-                (m ∙ x .members ∙ sym (length-map (quantify v) (members (clauseAtNode t a))) ∙ ap (λ (c : Clause). length (members c)) (sym (forall-clause p)))
-                (λ w l. without-free (maskOf forallTable n) (freeC (clauseAtNode t a)) w (forall-is .mask) (x .free w l) ∙ ap (λ (c : Clause). freeC c w) (sym (forall-clause p)))
+                (m ∙ x .members ∙ sym (length-map (quantify v) (members (clauseAtNode t a)))
+                ∙ ap (λ (c : Clause). length (members c)) (sym (forall-clause p)))
+                (λ w l. without-free (maskOf forallTable n) (freeC (clauseAtNode t a)) w (forall-is .mask) (x .free w l)
+                ∙ ap (λ (c : Clause). freeC c w) (sym (forall-clause p)))
                 e (omega arith) (clause-there bytes t k st h forallRecord a la 0 (forall-is .first) p)
-                (m ∙ sym (ap (membersOf forallTable) (forall-is .first) ∙ same-members t forallTable (k .symbols) n (same bytes t k st h forallRecord) a la));
+                (m ∙ sym (ap (membersOf forallTable) (forall-is .first)
+                ∙ same-members t forallTable (k .symbols) n (same bytes t k st h forallRecord) a la));
           }
 
       pub forall-added : Follows bytes t k (addNode t k forallRecord) (sheetAddNode (tableOf bytes t k) (some

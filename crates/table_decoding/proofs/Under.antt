@@ -13,12 +13,12 @@ use Rattle.node_table.proofs.Decoding.{term-agree, goal-agree, clause-agree}
 use Rattle.node_table.proofs.Nodes.{is-goal-same, is-clause-same}
 use Rattle.table_builder.specs.declared.node_info.Counts.{Counts}
 use Rattle.table_builder.specs.declared.node_info.NodeRecord.{NodeRecord}
-use Rattle.table_builder.specs.Making.{nodeWritten, unitedMask}
-use Rattle.table_decoding.specs.Standing.{Stands}
+use Rattle.table_builder.specs.Nodes.{nodeWritten, unitedMask}
+use Rattle.table_decoding.specs.Decoding.{Decodes}
 use Rattle.table_decoding.proofs.Adding.{nodes-of-stands, same}
 use Rattle.table_decoding.proofs.NodeKinds.{GoalChild, ClauseChild}
 
--- bounds of what a word holds
+-- The mask that a word holds is below 256.
 pub mask-below : (t : List ℕ) (n : ℕ) → maskOf t n < 256
 unfolding maskOf
 mask-below t n = omega arith
@@ -35,8 +35,8 @@ pub united-below : (t : List ℕ) (a b : ℕ) → unitedMask t a b < 256
 unfolding unitedMask
 united-below t a b = or-lt 8 (maskOf t a) (maskOf t b) (mask-below t a) (mask-below t b)
 
-module _ (bytes t : List ℕ) (k : Counts) (st : Stands bytes t k) where
-  -- the members of a clause that is there
+module _ (bytes t : List ℕ) (k : Counts) (st : Decodes bytes t k) where
+  -- A clause that is there has as many members as the table counts.
   pub members-are : (a : ℕ) → a < k .nodes → 1 ≤ membersOf t a → memberCount (clauseAtNode t a) ≡ membersOf t a
   members-are a l i = memberCount-members (clauseAtNode t a) ∙ sym (st .clause a l i .members)
 
@@ -47,20 +47,26 @@ module _ (bytes t : List ℕ) (k : Counts) (st : Stands bytes t k) where
     pub term-under : IsTerm t a → termBy (k .nodes) u a ≡ termAt t a
     unfolding termAt
     term-under i =
-        term-agree t u (k .symbols) (k .nodes) (same bytes t k st h r) (nodes-of-stands bytes t k st) (k .nodes) (suc a) a l (omega arith) l i
+        term-agree t u (k .symbols) (k .nodes) (same bytes t k st h r) (nodes-of-stands bytes t k st) (k .nodes) (suc a) a l
+        (omega arith) l i
 
     pub goal-under : IsGoal t a → goalBy (k .nodes) u a ≡ goalAt t a
     unfolding goalAt
     goal-under i =
-        goal-agree t u (k .symbols) (k .nodes) (same bytes t k st h r) (nodes-of-stands bytes t k st) (k .nodes) (suc a) a l (omega arith) l i
+        goal-agree t u (k .symbols) (k .nodes) (same bytes t k st h r) (nodes-of-stands bytes t k st) (k .nodes) (suc a) a l
+        (omega arith) l i
 
     pub clause-under : IsClause t a → clauseBy (k .nodes) u a ≡ clauseAtNode t a
     unfolding clauseAtNode
     clause-under i =
-        clause-agree t u (k .symbols) (k .nodes) (same bytes t k st h r) (nodes-of-stands bytes t k st) (k .nodes) (suc a) a l (omega arith) l i
+        clause-agree t u (k .symbols) (k .nodes) (same bytes t k st h r) (nodes-of-stands bytes t k st) (k .nodes) (suc a) a l
+        (omega arith) l i
 
     pub goal-there : (j : ℕ) → childOf u (k .nodes) j ≡ a → IsGoal t a → GoalChild u (k .nodes) j
-    goal-there j e i = subst (λ (c : ℕ). (c < k .nodes) × IsGoal u c) (sym e) (l, is-goal-same t u (k .symbols) (k .nodes) (same bytes t k st h r) a l i)
+    goal-there j e i =
+        subst (λ (c : ℕ). (c < k .nodes) × IsGoal u c) (sym e) (l, is-goal-same t u (k .symbols) (k .nodes) (same bytes t k st h r) a l i)
 
     pub clause-there : (j : ℕ) → childOf u (k .nodes) j ≡ a → IsClause t a → ClauseChild u (k .nodes) j
-    clause-there j e i = subst (λ (c : ℕ). (c < k .nodes) × IsClause u c) (sym e) (l, is-clause-same t u (k .symbols) (k .nodes) (same bytes t k st h r) a l i)
+    clause-there j e i =
+        subst (λ (c : ℕ). (c < k .nodes) × IsClause u c) (sym e)
+        (l, is-clause-same t u (k .symbols) (k .nodes) (same bytes t k st h r) a l i)

@@ -5,10 +5,11 @@ use mathlib.Core.Path.{_≡_, refl, ap, _∙_}
 use mathlib.Core.List.{List}
 use lib.ListN.{length, getD, set, drop, length-set}
 use lib.Seq.{getD-set-same, getD-set-other, drop-set-lt}
-use Rattle.node_table.specs.Layout.{symbolAt, nodeAt, clauseAt, kindOf, childCount, labelOf, childOf, infoOf, maskOf, goalBit, membersOf, sizeOf, packInfo, nameStart, nameLength, isFunctionBit, arityOf, clauseNode}
+use Rattle.node_table.specs.Layout.{symbolAt, nodeAt, clauseAt, kindOf, childCount, labelOf, childOf, infoOf, maskOf, goalBit, membersOf}
+use Rattle.node_table.specs.Layout.{sizeOf, packInfo, nameStart, nameLength, isFunctionBit, arityOf, clauseNode}
 use Rattle.node_table.proofs.Same.{Same}
 use Rattle.table_builder.specs.declared.node_info.NodeRecord.{NodeRecord}
-use Rattle.table_builder.specs.Making.{nodeRecord, nodeWritten}
+use Rattle.table_builder.specs.Nodes.{nodeRecord, nodeWritten}
 use Rattle.table_builder.specs.Symbols.{symbolWritten}
 
 -- one write
@@ -27,7 +28,7 @@ rest-set t u i x h r = (length-set u i x ∙ r .0, drop-set-lt 8192 u i x h ∙ 
 -- nodes
 
 module _ (t : List ℕ) (n : ℕ) (r : NodeRecord) where
-  -- the table after each of the seven writes
+  -- These are the tables after each of the seven writes.
   abbrev after0 : List ℕ
   after0 = set t (nodeAt n 0) (r .head)
 
@@ -49,7 +50,7 @@ module _ (t : List ℕ) (n : ℕ) (r : NodeRecord) where
   abbrev after6 : List ℕ
   after6 = set after5 (nodeAt n 6) (r .info)
 
-  -- what is read below the fields that come later
+  -- A read below the fields that are written later is not changed by them.
   below5 : (j : ℕ) → j < nodeAt n 6 → getD after6 j 0 ≡ getD after5 j 0
   below5 j h = getD-set-other after5 (nodeAt n 6) j (r .info) 0 (λ e. omega arith)
 
@@ -100,9 +101,14 @@ module _ (t : List ℕ) (n : ℕ) (r : NodeRecord) where
   pub rest-node : n < 1024 → Rest t (nodeWritten t n r)
   unfolding nodeWritten
   rest-node h =
-      rest-set t after5 (nodeAt n 6) (r .info) (omega arith) (rest-set t after4 (nodeAt n 5) (r .fourth) (omega arith) (rest-set t after3 (nodeAt n 4) (r .third) (omega arith) (rest-set t after2 (nodeAt n 3) (r .second) (omega arith) (rest-set t after1 (nodeAt n 2) (r .first) (omega arith) (rest-set t after0 (nodeAt n 1) (r .label) (omega arith) (rest-set t t (nodeAt n 0) (r .head) (omega arith) (rest-refl t)))))))
+      rest-set t after5 (nodeAt n 6) (r .info) (omega arith)
+      (rest-set t after4 (nodeAt n 5) (r .fourth) (omega arith)
+      (rest-set t after3 (nodeAt n 4) (r .third) (omega arith)
+      (rest-set t after2 (nodeAt n 3) (r .second) (omega arith)
+      (rest-set t after1 (nodeAt n 2) (r .first) (omega arith)
+      (rest-set t after0 (nodeAt n 1) (r .label) (omega arith) (rest-set t t (nodeAt n 0) (r .head) (omega arith) (rest-refl t)))))))
 
-  -- what is not of the node: before it, and after it
+  -- What stands before the node, or after it, is as it was.
   node-before : (j : ℕ) → j < nodeAt n 0 → getD (nodeWritten t n r) j 0 ≡ getD t j 0
   unfolding nodeWritten
   node-before j h = below0 j (omega arith) ∙ getD-set-other t (nodeAt n 0) j (r .head) 0 (λ e. omega arith)
@@ -118,12 +124,12 @@ module _ (t : List ℕ) (n : ℕ) (r : NodeRecord) where
       ∙ getD-set-other after0 (nodeAt n 1) j (r .label) 0 (λ e. omega arith)
       ∙ getD-set-other t (nodeAt n 0) j (r .head) 0 (λ e. omega arith)
 
-  -- symbols and nodes before it
+  -- Writing a node keeps the symbols and the nodes before it.
   pub same-before : (symbols : ℕ) → symbols ≤ 256 → Same t (nodeWritten t n r) symbols n
   same-before symbols h =
       record { symbol = λ i f k l. node-before (symbolAt i f) (omega arith); node = λ i f k l. node-before (nodeAt i f) (omega arith) }
 
-  -- clauses
+  -- Writing a node keeps the clauses.
   pub clause-kept : (i : ℕ) → n < 1024 → clauseNode (nodeWritten t n r) i ≡ clauseNode t i
   unfolding clauseNode
   clause-kept i h = node-after (clauseAt i) (omega arith)
@@ -142,7 +148,7 @@ pub record NodeIs (u : List ℕ) (n k m l a b c d f g o s : ℕ) : Type 0 where
   pub members : membersOf u n ≡ o
   pub size : sizeOf u n ≡ s
 
--- what is packed is unpacked
+-- What is packed is unpacked.
 module _ (mask goal members size : ℕ) (l : mask < 256) (m : goal ≤ 1) (o : members < 128) where
   pub packed-mask : packInfo mask goal members size % 256 ≡ mask
   unfolding packInfo
@@ -160,8 +166,10 @@ module _ (mask goal members size : ℕ) (l : mask < 256) (m : goal ≤ 1) (o : m
   unfolding packInfo
   packed-size = omega arith
 
-pub written : (t : List ℕ) (n kind count label a b c d mask goal members size : ℕ) → 8192 ≤ length t → n < 1024 → kind < 16 → mask < 256 → goal ≤ 1 → members < 128
-    → NodeIs (nodeWritten t n (nodeRecord (kind + 16 * count) label a b c d (packInfo mask goal members size))) n kind count label a b c d mask goal members size
+pub written : (t : List ℕ) (n kind count label a b c d mask goal members size : ℕ) → 8192 ≤ length t → n < 1024 → kind < 16 → mask < 256
+    → goal ≤ 1 → members < 128
+    → NodeIs (nodeWritten t n (nodeRecord (kind + 16 * count) label a b c d (packInfo mask goal members size))) n kind count label a b c d
+    mask goal members size
 unfolding kindOf childCount labelOf childOf maskOf goalBit membersOf sizeOf infoOf
 written t n kind count label a b c d mask goal members size h k p q v w =
     let r = nodeRecord (kind + 16 * count) label a b c d (packInfo mask goal members size) in
@@ -193,7 +201,9 @@ module _ (t : List ℕ) (i start len word : ℕ) (k : i < 256) where
 
   pub rest-symbol : Rest t (symbolWritten t i start len word)
   unfolding symbolWritten
-  rest-symbol = rest-set t put1 (symbolAt i 2) word (omega arith) (rest-set t put0 (symbolAt i 1) len (omega arith) (rest-set t t (symbolAt i 0) start (omega arith) (rest-refl t)))
+  rest-symbol =
+      rest-set t put1 (symbolAt i 2) word (omega arith)
+      (rest-set t put0 (symbolAt i 1) len (omega arith) (rest-set t t (symbolAt i 0) start (omega arith) (rest-refl t)))
 
   symbol-other : (j : ℕ) → ((f : ℕ) → f < 3 → j ≡ symbolAt i f → ⊥) → getD (symbolWritten t i start len word) j 0 ≡ getD t j 0
   unfolding symbolWritten
@@ -201,7 +211,7 @@ module _ (t : List ℕ) (i start len word : ℕ) (k : i < 256) where
       getD-set-other put1 (symbolAt i 2) j word 0 (h 2 (omega arith)) ∙ getD-set-other put0 (symbolAt i 1) j len 0 (h 1 (omega arith))
       ∙ getD-set-other t (symbolAt i 0) j start 0 (h 0 (omega arith))
 
-  -- nodes, and symbols before it
+  -- Writing a symbol keeps the nodes and the symbols before it.
   pub same-but-symbol : (nodes : ℕ) → Same t (symbolWritten t i start len word) i nodes
   same-but-symbol nodes =
       record {
@@ -217,7 +227,8 @@ module _ (t : List ℕ) (i start len word : ℕ) (k : i < 256) where
     pub written-start : nameStart (symbolWritten t i start len word) i ≡ start
     unfolding nameStart symbolWritten
     written-start =
-        getD-set-other put1 (symbolAt i 2) (symbolAt i 0) word 0 (λ e. omega arith) ∙ getD-set-other put0 (symbolAt i 1) (symbolAt i 0) len 0 (λ e. omega arith)
+        getD-set-other put1 (symbolAt i 2) (symbolAt i 0) word 0 (λ e. omega arith)
+        ∙ getD-set-other put0 (symbolAt i 1) (symbolAt i 0) len 0 (λ e. omega arith)
         ∙ getD-set-same t (symbolAt i 0) start 0 (omega arith)
 
     pub written-length : nameLength (symbolWritten t i start len word) i ≡ len
@@ -238,7 +249,7 @@ module _ (t : List ℕ) (i start len word : ℕ) (k : i < 256) where
     unfolding arityOf
     written-arity = ap (λ (x : ℕ). x / 2) written-word
 
--- clauses
+-- Writing a node keeps the clauses.
 
 module _ (t : List ℕ) (i n : ℕ) where
   pub rest-clause : i < 128 → Rest t (set t (clauseAt i) n)

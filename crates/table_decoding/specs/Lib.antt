@@ -1,2 +1,2 @@
 -- What the table stands for while it is being made.
-pub mod Standing
+pub mod Decoding

@@ -1,1 +1,1 @@
-// The table that is being made stands for what the lines so far have made: see specs/ and proofs/.
+// The table that is being made decodes to what the lines so far have made: see specs/ and proofs/.

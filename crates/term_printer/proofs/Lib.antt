@@ -1,2 +1,2 @@
-pub mod Grown
+pub mod PositionsRise
 pub mod Laws

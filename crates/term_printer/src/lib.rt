@@ -10,29 +10,29 @@ use cursor::AT;
 use cursor::LIMIT;
 use cursor::NUMBERS;
 use cursor::TURNS;
+use cursor::cursor_in;
 use cursor::emit_in;
-use cursor::pen_in;
 use cursor::separator;
-use cursor::show_constant_in;
-use cursor::show_variable_in;
+use cursor::write_constant_in;
 use cursor::write_name_in;
+use cursor::write_variable_in;
 use machine::tags;
+use machine_memory::words::deref;
 use machine_memory::words::frame_of;
+use machine_memory::words::increment;
 use machine_memory::words::name_of;
 use machine_memory::words::node_of;
 use machine_memory::words::tag_of;
-use machine_memory::words::up;
 use machine_memory::words::word_of;
 use node_table::child;
 use node_table::child_count;
 use node_table::label;
-use printing::Pen;
+use printing::Cursor;
 ghost use mathlib.Core.Path.{_≡_};
 ghost use Prim.Native.Nat.{_≤_};
-ghost use Rattle.printing.specs.Marks.{page};
+ghost use Rattle.printing.specs.Numbering.{printer};
 ghost use Rattle.printing.specs.WriteTerms.{separator, writeTerm, termTo};
-ghost use Rattle.term_printer.specs.State.{penIn, boundsIn};
-use machine_memory::words::deref;
+ghost use Rattle.term_printer.specs.State.{cursorIn, boundsIn};
 
 // How many bindings are looked through at a time, and the last position that is written.
 pub struct Bounds {
@@ -52,7 +52,11 @@ pub fn write_term(
     a: u32,
 )
     requires { ⌜ boundsIn (now s) .limit ≤ 65535 ⌝ }
-    ensures { λ _. ⌜ (page (now (w .exit)) (now (out .exit)) (penIn (now (s .exit))) ≡ writeTerm rank (now (now (sheet .entry))) (now (now (t .entry))) (boundsIn (now (s .entry)) .turns) (boundsIn (now (s .entry)) .limit) (page (now (w .entry)) (now (out .entry)) (penIn (now (s .entry)))) a) × (boundsIn (now (s .exit)) ≡ boundsIn (now (s .entry))) ⌝ }
+    ensures { λ _.
+        ⌜ (printer (now (w .exit)) (now (out .exit)) (cursorIn (now (s .exit))) ≡ writeTerm rank (now (now (sheet .entry)))
+        (now (now (t .entry))) (boundsIn (now (s .entry)) .turns) (boundsIn (now (s .entry)) .limit)
+        (printer (now (w .entry)) (now (out .entry)) (cursorIn (now (s .entry)))) a)
+        × (boundsIn (now (s .exit)) ≡ boundsIn (now (s .entry))) ⌝ }
 {
     if rank == 0 {
         return;
@@ -63,11 +67,11 @@ pub fn write_term(
     let b = deref(s[TURNS], w, a);
     let tag = tag_of(b);
     if tag == tags::VARIABLE {
-        show_variable_in(w, out, s, name_of(b));
+        write_variable_in(w, out, s, name_of(b));
         return;
     }
     if tag == tags::CONSTANT {
-        show_constant_in(w, out, s, name_of(b));
+        write_constant_in(w, out, s, name_of(b));
         return;
     }
     let n = node_of(b);
@@ -94,13 +98,14 @@ pub fn term_to(
     bounds: Bounds,
     w: &mut [u32],
     out: &mut [u8],
-    p: Pen,
+    p: Cursor,
     a: u32,
-) -> Pen
+) -> Cursor
     requires { ⌜ bounds .limit ≤ 65535 ⌝ }
-    ensures { λ q. ⌜ page (now (w .exit)) (now (out .exit)) q ≡ termTo (now (sheet .entry)) (now (t .entry)) (bounds .turns) (bounds .limit) (page (now (w .entry)) (now (out .entry)) p) a ⌝ }
+    ensures { λ q. ⌜ printer (now (w .exit)) (now (out .exit)) q ≡ termTo (now (sheet .entry)) (now (t .entry)) (bounds .turns)
+        (bounds .limit) (printer (now (w .entry)) (now (out .entry)) p) a ⌝ }
 {
     let mut s = [p.at, p.variables, p.constants, bounds.turns, bounds.limit];
-    write_term(up(bounds.limit), &sheet, &t, w, out, &mut s, a);
-    pen_in(&s)
+    write_term(increment(bounds.limit), &sheet, &t, w, out, &mut s, a);
+    cursor_in(&s)
 }

@@ -1,7 +1,7 @@
 // Bytes into the lent answer buffer: a byte, bytes, numbers, the name of a made constant or a leftover variable.
 // Each function is a definition of the crate printing, and its contract says so.
-use machine_memory::words::up;
-use memory::wide;
+use machine_memory::words::increment;
+use memory::widen;
 ghost use mathlib.Core.Path.{_≡_};
 ghost use Prim.Native.Nat.{_+_, _<_};
 ghost use lib.ListN.{set};
@@ -22,8 +22,8 @@ pub fn emit(out: &mut [u8], limit: u32, at: u32, b: u8) -> u32
     if limit < at {
         return at;
     }
-    put_byte(out, wide(at), b);
-    up(at)
+    put_byte(out, widen(at), b);
+    increment(at)
 }
 
 pub fn write_bytes(bs: &[u8], out: &mut [u8], limit: u32, at: u32) -> u32
@@ -38,7 +38,7 @@ pub fn write_bytes(bs: &[u8], out: &mut [u8], limit: u32, at: u32) -> u32
     to
 }
 
-// n bytes of the sheet from i on, as far as there are so many.
+// Copies n bytes of the sheet from i on, or as many as there are.
 pub fn copy_bytes(n: u32, sheet: &[u8], i: usize, out: &mut [u8], limit: u32, at: u32) -> u32
     ensures { λ r. ⌜ written (now (out .exit)) r ≡ copyBytes n (now (sheet .entry)) i (now (out .entry)) limit at ⌝ }
 {
@@ -80,7 +80,7 @@ pub fn write_digits(f: usize, out: &mut [u8], limit: u32, at: u32, n: u32) -> u3
 pub fn write_number(out: &mut [u8], limit: u32, at: u32, n: u32) -> u32
     ensures { λ r. ⌜ written (now (out .exit)) r ≡ writeNumber (now (out .entry)) limit at n ⌝ }
 {
-    write_digits(wide(n) + 1, out, limit, at, n)
+    write_digits(widen(n) + 1, out, limit, at, n)
 }
 
 // A leftover variable or a made constant: c is the first byte.

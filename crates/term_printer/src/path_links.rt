@@ -4,18 +4,18 @@ use machine::fields;
 use machine_memory::cells::cell_of;
 use machine_memory::cells::put_cell;
 use machine_memory::cells::record_of;
-use machine_memory::words::narrow;
 use machine_memory::words::tag_of;
-use memory::wide;
+use machine_memory::words::truncate;
+use memory::field;
+use memory::put_field;
+use memory::widen;
 ghost use mathlib.Core.Path.{_≡_};
 ghost use mathlib.Core.Bool.{cond};
 ghost use Prim.Native.Nat.{_+_, _<_};
 ghost use lib.Dec.{eqb};
 ghost use Rattle.machine.specs.Records.{cellOf, putCell};
 ghost use Rattle.machine.specs.Words.{tagOf};
-ghost use Rattle.printing.specs.Links.{linkWord, linked, linkPath, clearConstants, clearVariables};
-use memory::field;
-use memory::put_field;
+ghost use Rattle.printing.specs.PathLinks.{linkWord, linked, linkPath, clearConstants, clearVariables};
 
 const LINE_CODES: usize = printing::LINE_CODES as usize;
 
@@ -23,7 +23,7 @@ const LINE_CODES: usize = printing::LINE_CODES as usize;
 pub fn link_word(p: u32, k: u32) -> u32
     ensures { λ r. ⌜ r ≡ linkWord p k ⌝ }
 {
-    narrow(LINE_CODES * wide(p) + wide(k))
+    truncate(LINE_CODES * widen(p) + widen(k))
 }
 
 // Links at most n lines, from pointer p on, which is latest first, in the order taken; e is the link to those done.

@@ -13,12 +13,13 @@ use Rattle.scanning.specs.declared.Number.{Number}
 use Rattle.scanning.specs.declared.Number.the-variants.{Value, Missing}
 use Rattle.scanning.specs.declared.Scan.{Scan}
 use Rattle.scanning.specs.declared.Scan.the-variants.{Term, Malformed}
-use Rattle.scanning.specs.Ranges.{readNumber}
-use Rattle.scanning.specs.Scanning.{nameEnd, symbolFrom, scanLevel, scanMark, scanSymbol, higher, scanMore, scanArguments, scanApplication, scanTerm}
+use Rattle.scanning.specs.Ranges.{scanNumber}
+use Rattle.scanning.specs.Scanning.{nameEnd, symbolFrom, scanLevel, scanAt, scanSymbol, higher, scanMore, scanArguments, scanApplication}
+use Rattle.scanning.specs.Scanning.{scanTerm}
 use Rattle.term_scanner.proofs.ranges.Laws.{inside}
 
-pub mark-inside : (x : List ℕ) (i b : ℕ) (z : Bool) → b ≡ getD x i 0 → z ≡ cond (eqb b 33) true (eqb b 95) → z ≡ true → i < length x
-mark-inside x i b z e d h = go (eqb b 33) (eqb b 95) refl refl (sym d ∙ h)
+pub sigil-inside : (x : List ℕ) (i b : ℕ) (z : Bool) → b ≡ getD x i 0 → z ≡ cond (eqb b 33) true (eqb b 95) → z ≡ true → i < length x
+sigil-inside x i b z e d h = go (eqb b 33) (eqb b 95) refl refl (sym d ∙ h)
   where
     go : (u v : Bool) → eqb b 33 ≡ u → eqb b 95 ≡ v → cond u true v ≡ true → i < length x
     go true v p q k = inside x i b 33 e (eqb-true b 33 p) (omega arith)
@@ -27,39 +28,40 @@ mark-inside x i b z e d h = go (eqb b 33) (eqb b 95) refl refl (sym d ∙ h)
 
 -- symbols of a text
 
-pub level-some : (x : List ℕ) (i k e : ℕ) (r : Number) → r ≡ readNumber x i → r ≡ Value k e → Term e k ≡ scanLevel x i
+pub level-some : (x : List ℕ) (i k e : ℕ) (r : Number) → r ≡ scanNumber x i → r ≡ Value k e → Term e k ≡ scanLevel x i
 unfolding scanLevel
 level-some x i k e r p q = rw (scanLevel, ← p, q)
 
-pub level-none : (x : List ℕ) (i : ℕ) (r : Number) → r ≡ readNumber x i → r ≡ Missing → Malformed ≡ scanLevel x i
+pub level-none : (x : List ℕ) (i : ℕ) (r : Number) → r ≡ scanNumber x i → r ≡ Missing → Malformed ≡ scanLevel x i
 unfolding scanLevel
 level-none x i r p q = rw (scanLevel, ← p, q)
 
-pub mark-here : (x : List ℕ) (i b : ℕ) (s : Scan) → b ≡ getD x i 0 → b ≡ 64 → s ≡ scanLevel x (i + 1) → s ≡ scanMark x i
-unfolding scanMark
-mark-here x i b s p q h = rw (← p, eq-eqb b 64 q) h
+pub sigil-here : (x : List ℕ) (i b : ℕ) (s : Scan) → b ≡ getD x i 0 → b ≡ 64 → s ≡ scanLevel x (i + 1) → s ≡ scanAt x i
+unfolding scanAt
+sigil-here x i b s p q h = rw (← p, eq-eqb b 64 q) h
 
-pub mark-none : (x : List ℕ) (i b : ℕ) → b ≡ getD x i 0 → (b ≡ 64 → ⊥) → Malformed ≡ scanMark x i
-unfolding scanMark
-mark-none x i b p q = rw (← p, ne-eqb b 64 q)
+pub sigil-none : (x : List ℕ) (i b : ℕ) → b ≡ getD x i 0 → (b ≡ 64 → ⊥) → Malformed ≡ scanAt x i
+unfolding scanAt
+sigil-none x i b p q = rw (← p, ne-eqb b 64 q)
 
-pub symbol-some : (x : List ℕ) (i n e : ℕ) (r : Number) (s : Scan) → r ≡ readNumber x i → r ≡ Value n e → s ≡ scanMark x e → s ≡ scanSymbol x i
+pub symbol-some : (x : List ℕ) (i n e : ℕ) (r : Number) (s : Scan) → r ≡ scanNumber x i → r ≡ Value n e → s ≡ scanAt x e
+    → s ≡ scanSymbol x i
 unfolding scanSymbol
 symbol-some x i n e r s p q h = rw (scanSymbol, ← p, q) h
 
-pub symbol-none : (x : List ℕ) (i : ℕ) (r : Number) → r ≡ readNumber x i → r ≡ Missing → Malformed ≡ scanSymbol x i
+pub symbol-none : (x : List ℕ) (i : ℕ) (r : Number) → r ≡ scanNumber x i → r ≡ Missing → Malformed ≡ scanSymbol x i
 unfolding scanSymbol
 symbol-none x i r p q = rw (scanSymbol, ← p, q)
 
 -- terms
 
--- one of two tests holds
+-- If one of two tests holds, the first result is picked.
 either : {s : Scan} (u v : Bool) (p q : Scan) → cond u true v ≡ true → s ≡ p → s ≡ cond u p (cond v p q)
 either true v p q g k = k
 either false true p q g k = k
 either false false p q g k = absurd (let y : _≡_ {A = ℕ} 0 1 = cc in omega arith)
 
--- none of them does
+-- If none of two tests holds, the last result is picked.
 neither : (u v : Bool) (p q : Scan) → cond u true v ≡ false → cond u p (cond v p q) ≡ q
 neither true v p q g = absurd (let y : _≡_ {A = ℕ} 0 1 = cc in omega arith)
 neither false true p q g = absurd (let y : _≡_ {A = ℕ} 0 1 = cc in omega arith)
@@ -70,18 +72,20 @@ module _ (b t : List ℕ) (symbols : ℕ) (x : List ℕ) where
   unfolding scanTerm
   term-rank f i h = rw h
 
-  pub term-mark : (f i c : ℕ) (z : Bool) (s : Scan) → (f ≡ 0 → ⊥) → c ≡ getD x i 0 → z ≡ cond (eqb c 33) true (eqb c 95) → z ≡ true → s ≡ scanSymbol x (i + 1)
+  pub term-sigil : (f i c : ℕ) (z : Bool) (s : Scan) → (f ≡ 0 → ⊥) → c ≡ getD x i 0 → z ≡ cond (eqb c 33) true (eqb c 95) → z ≡ true
+      → s ≡ scanSymbol x (i + 1)
       → s ≡ scanTerm f b t symbols x i
   unfolding scanTerm
-  term-mark zero i c z s n e d h k = absurd (n refl)
-  term-mark (suc f) i c z s n e d h k =
+  term-sigil zero i c z s n e d h k = absurd (n refl)
+  term-sigil (suc f) i c z s n e d h k =
       either (eqb (getD x i 0) 33) (eqb (getD x i 0) 95) _ _ (rw (← e) (sym d ∙ h)) k
 
-  -- what scans the arguments
+  -- The arguments are scanned with the rank f - 1.
   abbrev pub Inner : ℕ → (ℕ → Scan)
   Inner f = scanTerm (f - 1) b t symbols x
 
-  term-name : (f i c k at : ℕ) (z : Bool) → (f ≡ 0 → ⊥) → c ≡ getD x i 0 → z ≡ cond (eqb c 33) true (eqb c 95) → z ≡ false → at ≡ nameEnd x i → k ≡ symbolFrom symbols b t 0 x i at
+  term-name : (f i c k at : ℕ) (z : Bool) → (f ≡ 0 → ⊥) → c ≡ getD x i 0 → z ≡ cond (eqb c 33) true (eqb c 95) → z ≡ false
+      → at ≡ nameEnd x i → k ≡ symbolFrom symbols b t 0 x i at
       → scanTerm f b t symbols x i ≡ scanApplication (Inner f) t symbols k x at
   unfolding scanTerm
   term-name zero i c k at z n e d h g y = absurd (n refl)
@@ -90,7 +94,8 @@ module _ (b t : List ℕ) (symbols : ℕ) (x : List ℕ) where
 
 -- a symbol and its arguments
 
-module _ (r : ℕ → Scan) (t : List ℕ) (symbols k : ℕ) (x : List ℕ) (i : ℕ) (a : Bool) (h : a ≡ cond (ltb k symbols) (eqb (isFunctionBit t k) 1) false) where
+module _ (r : ℕ → Scan) (t : List ℕ) (symbols k : ℕ) (x : List ℕ) (i : ℕ) (a : Bool)
+    (h : a ≡ cond (ltb k symbols) (eqb (isFunctionBit t k) 1) false) where
   application-on : a ≡ true → scanApplication r t symbols k x i ≡ scanArguments r (arityOf t k) x i
   unfolding scanApplication
   application-on e = go (ltb k symbols) (eqb (isFunctionBit t k) 1) (scanArguments r (arityOf t k) x i) (sym h ∙ e)
@@ -110,25 +115,32 @@ module _ (r : ℕ → Scan) (t : List ℕ) (symbols k : ℕ) (x : List ℕ) (i :
       go false v p g = refl
 
 module _ (b t : List ℕ) (symbols : ℕ) (x : List ℕ) where
-  -- a name that is no function symbol's
-  pub term-unknown : (f i c k at : ℕ) (z a : Bool) → (f ≡ 0 → ⊥) → c ≡ getD x i 0 → z ≡ cond (eqb c 33) true (eqb c 95) → z ≡ false → at ≡ nameEnd x i → k ≡ symbolFrom symbols b t 0 x i at
+  -- A name that is no function symbol's is malformed.
+  pub term-unknown : (f i c k at : ℕ) (z a : Bool) → (f ≡ 0 → ⊥) → c ≡ getD x i 0 → z ≡ cond (eqb c 33) true (eqb c 95) → z ≡ false
+      → at ≡ nameEnd x i → k ≡ symbolFrom symbols b t 0 x i at
       → a ≡ cond (ltb k symbols) (eqb (isFunctionBit t k) 1) false → a ≡ false → Malformed ≡ scanTerm f b t symbols x i
   term-unknown f i c k at z a n e d h g y p q =
       sym (term-name b t symbols x f i c k at z n e d h g y ∙ application-off (Inner b t symbols x f) t symbols k x at a p q)
 
-  -- a constant
-  pub term-constant : (f i c k n at : ℕ) (z a : Bool) → (f ≡ 0 → ⊥) → c ≡ getD x i 0 → z ≡ cond (eqb c 33) true (eqb c 95) → z ≡ false → at ≡ nameEnd x i → k ≡ symbolFrom symbols b t 0 x i at
-      → a ≡ cond (ltb k symbols) (eqb (isFunctionBit t k) 1) false → a ≡ true → n ≡ arityOf t k → n ≡ 0 → Term at 0 ≡ scanTerm f b t symbols x i
+  -- A constant is a term that ends with its name and has level 0.
+  pub term-constant : (f i c k n at : ℕ) (z a : Bool) → (f ≡ 0 → ⊥) → c ≡ getD x i 0 → z ≡ cond (eqb c 33) true (eqb c 95) → z ≡ false
+      → at ≡ nameEnd x i → k ≡ symbolFrom symbols b t 0 x i at
+      → a ≡ cond (ltb k symbols) (eqb (isFunctionBit t k) 1) false → a ≡ true → n ≡ arityOf t k → n ≡ 0
+      → Term at 0 ≡ scanTerm f b t symbols x i
   unfolding scanArguments
   term-constant f i c k n at z a o e d h g y p q l m =
-      sym (term-name b t symbols x f i c k at z o e d h g y ∙ application-on (Inner b t symbols x f) t symbols k x at a p q ∙ rw (← l, eq-eqb n 0 m))
+      sym (term-name b t symbols x f i c k at z o e d h g y ∙ application-on (Inner b t symbols x f) t symbols k x at a p q
+      ∙ rw (← l, eq-eqb n 0 m))
 
-  -- an application
-  pub term-applied : (f i c k n at : ℕ) (z a : Bool) → (f ≡ 0 → ⊥) → c ≡ getD x i 0 → z ≡ cond (eqb c 33) true (eqb c 95) → z ≡ false → at ≡ nameEnd x i → k ≡ symbolFrom symbols b t 0 x i at
-      → a ≡ cond (ltb k symbols) (eqb (isFunctionBit t k) 1) false → a ≡ true → n ≡ arityOf t k → (n ≡ 0 → ⊥) → scanTerm f b t symbols x i ≡ scanMore (Inner b t symbols x f) n x 40 at 0
+  -- An application is scanned as a name and its arguments.
+  pub term-applied : (f i c k n at : ℕ) (z a : Bool) → (f ≡ 0 → ⊥) → c ≡ getD x i 0 → z ≡ cond (eqb c 33) true (eqb c 95) → z ≡ false
+      → at ≡ nameEnd x i → k ≡ symbolFrom symbols b t 0 x i at
+      → a ≡ cond (ltb k symbols) (eqb (isFunctionBit t k) 1) false → a ≡ true → n ≡ arityOf t k → (n ≡ 0 → ⊥)
+      → scanTerm f b t symbols x i ≡ scanMore (Inner b t symbols x f) n x 40 at 0
   unfolding scanArguments
   term-applied f i c k n at z a o e d h g y p q l m =
-      term-name b t symbols x f i c k at z o e d h g y ∙ application-on (Inner b t symbols x f) t symbols k x at a p q ∙ rw (← l, ne-eqb n 0 m)
+      term-name b t symbols x f i c k at z o e d h g y ∙ application-on (Inner b t symbols x f) t symbols k x at a p q
+      ∙ rw (← l, ne-eqb n 0 m)
 
 -- arguments
 
@@ -143,12 +155,14 @@ module _ (r : ℕ → Scan) (x : List ℕ) where
   more-other zero c i k d h p q = absurd (omega arith)
   more-other (suc n) c i k d h p q = rw (← p, ne-eqb d c q)
 
-  pub more-none : (n c i k d : ℕ) (s : Scan) → 0 < n → d ≡ getD x i 0 → d ≡ c → s ≡ r (i + 1) → s ≡ Malformed → scanMore r n x c i k ≡ Malformed
+  pub more-none : (n c i k d : ℕ) (s : Scan) → 0 < n → d ≡ getD x i 0 → d ≡ c → s ≡ r (i + 1) → s ≡ Malformed
+      → scanMore r n x c i k ≡ Malformed
   unfolding scanMore
   more-none zero c i k d s h p q e z = absurd (omega arith)
   more-none (suc n) c i k d s h p q e z = rw (scanMore, ← p, eq-eqb d c q, ← e, z)
 
-  pub more-on : (n c i k d e j l : ℕ) (s : Scan) → 0 < n → d ≡ getD x i 0 → d ≡ c → s ≡ r (i + 1) → s ≡ Term e j → l ≡ higher k j → scanMore r n x c i k ≡ scanMore r (n - 1) x 44 e l
+  pub more-on : (n c i k d e j l : ℕ) (s : Scan) → 0 < n → d ≡ getD x i 0 → d ≡ c → s ≡ r (i + 1) → s ≡ Term e j → l ≡ higher k j
+      → scanMore r n x c i k ≡ scanMore r (n - 1) x 44 e l
   unfolding scanMore
   more-on zero c i k d e j l s h p q g z y = absurd (omega arith)
   more-on (suc n) c i k d e j l s h p q g z y = rw (scanMore, ← p, eq-eqb d c q, ← g, z, sub-one (suc n), ← y)

@@ -10,14 +10,14 @@ use scanning::Number;
 use scanning::Scan;
 use symbol_names::symbol_from;
 use tokens::name_end;
-use tokens::read_number;
+use tokens::scan_number;
 ghost use mathlib.Core.Path.{_≡_};
 ghost use mathlib.Core.Bool.{true, false, cond};
 ghost use Prim.Native.Nat.{_+_, _-_, _<_};
 ghost use lib.Dec.{eqb, ltb};
 ghost use lib.ListN.{getD};
 ghost use Rattle.node_table.specs.Layout.{isFunctionBit};
-ghost use Rattle.scanning.specs.Scanning.{scanLevel, scanMark, scanSymbol, higher, scanTerm};
+ghost use Rattle.scanning.specs.Scanning.{scanLevel, scanAt, scanSymbol, higher, scanTerm};
 
 // Whether symbol k, of so many symbols, is a function symbol.
 fn is_applied(t: &[u32], symbols: u32, k: u32) -> bool
@@ -33,15 +33,15 @@ fn is_applied(t: &[u32], symbols: u32, k: u32) -> bool
 fn scan_level(text: &[u8], i: usize) -> Scan
     ensures { λ r. ⌜ r ≡ scanLevel (now (text .entry)) i ⌝ }
 {
-    match read_number(text, i) {
+    match scan_number(text, i) {
         Number::Value(k, e) => Scan::Term(e, k),
         Number::Missing => Scan::Malformed,
     }
 }
 
 // `@`, then the level.
-fn scan_mark(text: &[u8], i: usize) -> Scan
-    ensures { λ r. ⌜ r ≡ scanMark (now (text .entry)) i ⌝ }
+fn scan_at(text: &[u8], i: usize) -> Scan
+    ensures { λ r. ⌜ r ≡ scanAt (now (text .entry)) i ⌝ }
 {
     if byte(text, i) == b'@' {
         return scan_level(text, i + 1);
@@ -53,8 +53,8 @@ fn scan_mark(text: &[u8], i: usize) -> Scan
 pub fn scan_symbol(text: &[u8], i: usize) -> Scan
     ensures { λ r. ⌜ r ≡ scanSymbol (now (text .entry)) i ⌝ }
 {
-    match read_number(text, i) {
-        Number::Value(_, e) => scan_mark(text, e),
+    match scan_number(text, i) {
+        Number::Value(_, e) => scan_at(text, e),
         Number::Missing => Scan::Malformed,
     }
 }
@@ -70,7 +70,7 @@ fn higher_of(k: u32, j: u32) -> u32
 }
 
 // Whether a made constant or a leftover variable begins with b.
-fn is_mark(b: u8) -> bool
+fn is_sigil(b: u8) -> bool
     ensures { λ r. ⌜ r ≡ cond (eqb b 33) true (eqb b 95) ⌝ }
 {
     if b == b'!' {
@@ -89,7 +89,7 @@ fn scan_close(text: &[u8], i: usize, level: u32) -> Scan
     Scan::Malformed
 }
 
-// A term at place i, nested less deep than the rank says: where it ends, and the highest level in it. A text of 65,535 bytes nests
+// A term at position i, nested less deep than the rank says: where it ends, and the highest level in it. A text of 65,535 bytes nests
 // up to 21,844 deep, so the frame of this function is kept small.
 pub fn scan_term(rank: usize, sheet: &[u8], t: &[u32], symbols: u32, text: &[u8], i: usize) -> Scan
     ensures { λ r. ⌜ r ≡ scanTerm rank (now (sheet .entry)) (now (t .entry)) symbols (now (text .entry)) i ⌝ }
@@ -97,7 +97,7 @@ pub fn scan_term(rank: usize, sheet: &[u8], t: &[u32], symbols: u32, text: &[u8]
     if rank == 0 {
         return Scan::Malformed;
     }
-    if is_mark(byte(text, i)) {
+    if is_sigil(byte(text, i)) {
         return scan_symbol(text, i + 1);
     }
     let mut at = name_end(text, i);

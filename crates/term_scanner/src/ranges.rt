@@ -5,7 +5,7 @@ ghost use mathlib.Core.Bool.{true, false, cond};
 ghost use Prim.Native.Nat.{_+_, _-_, _<_, _≤_};
 ghost use lib.Dec.{ltb};
 ghost use lib.ListN.{length};
-ghost use Rattle.scanning.specs.Ranges.{sameRange, findByte, lineEnd};
+ghost use Rattle.scanning.specs.Ranges.{sameRange, findByte, textLineEnd};
 
 // What is left of a after b; 0 where nothing is.
 pub fn monus(a: usize, b: usize) -> usize
@@ -17,8 +17,8 @@ pub fn monus(a: usize, b: usize) -> usize
     a - b
 }
 
-// The place after i. Past the end all places read as 0, so there it may stay.
-fn place_after(a: &[u8], i: usize) -> usize
+// The position after i. Past the end all positions read as 0, so there it may stay.
+fn position_after(a: &[u8], i: usize) -> usize
     ensures { λ r. ⌜ r ≡ cond (ltb i (length (now (a .entry)))) (i + 1) i ⌝ }
 {
     if i < a.len() {
@@ -36,8 +36,8 @@ fn same_total(n: usize, a: &[u8], i: usize, b: &[u8], j: usize) -> bool
     let mut q = j;
     while 0 < left {
         if byte(a, p) == byte(b, q) {
-            p = place_after(a, p);
-            q = place_after(b, q);
+            p = position_after(a, p);
+            q = position_after(b, q);
             left -= 1;
         } else {
             return false;
@@ -73,7 +73,7 @@ pub fn same_range(n: usize, a: &[u8], i: usize, b: &[u8], j: usize) -> bool
     same_inside(n, a, i, b, j)
 }
 
-// The first place from i on that has the byte c; the end of the text, or i past it, if none has.
+// The first position from i on that has the byte c; the end of the text, or i past it, if none has.
 pub fn find_byte(text: &[u8], c: u8, i: usize) -> usize
     ensures { λ r. ⌜ r ≡ findByte (length (now (text .entry)) - i) (now (text .entry)) c i ⌝ }
 {
@@ -88,8 +88,8 @@ pub fn find_byte(text: &[u8], c: u8, i: usize) -> usize
 }
 
 // Where the line from i on ends: at its LF, or at the end of the text.
-pub fn line_end(text: &[u8], i: usize) -> usize
-    ensures { λ r. ⌜ r ≡ lineEnd (now (text .entry)) i ⌝ }
+pub fn text_line_end(text: &[u8], i: usize) -> usize
+    ensures { λ r. ⌜ r ≡ textLineEnd (now (text .entry)) i ⌝ }
 {
     find_byte(text, b'\n', i)
 }

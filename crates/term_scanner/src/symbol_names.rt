@@ -1,7 +1,7 @@
 // The sheet's symbols by name, as an answer text spells them.
 use super::ranges::monus;
 use super::ranges::same_range;
-use memory::wide;
+use memory::widen;
 use node_table::name_length;
 use node_table::name_start;
 ghost use mathlib.Core.Path.{_≡_};
@@ -13,8 +13,8 @@ ghost use Rattle.scanning.specs.Scanning.{nameSize, isNamed, symbolFrom};
 pub fn name_size(sheet: &[u8], t: &[u32], k: u32) -> usize
     ensures { λ r. ⌜ (r ≡ nameSize (now (sheet .entry)) (now (t .entry)) k) × (r < 4294967296) ⌝ }
 {
-    let n = wide(name_length(t, k));
-    let room = monus(sheet.len(), wide(name_start(t, k)));
+    let n = widen(name_length(t, k));
+    let room = monus(sheet.len(), widen(name_start(t, k)));
     if n < room {
         return n;
     }
@@ -27,7 +27,7 @@ fn is_named(sheet: &[u8], t: &[u32], k: u32, text: &[u8], i: usize, e: usize) ->
 {
     let n = name_size(sheet, t, k);
     if monus(e, i) == n {
-        return same_range(n, text, i, sheet, wide(name_start(t, k)));
+        return same_range(n, text, i, sheet, widen(name_start(t, k)));
     }
     false
 }

@@ -1,4 +1,5 @@
 // Numbers and names of an answer text, read in place.
+use line_parser::names::is_name_byte;
 use memory::byte;
 use scanning::Number;
 use sheet_format::limits;
@@ -6,11 +7,11 @@ ghost use mathlib.Core.Path.{_≡_};
 ghost use mathlib.Core.Bool.{true, false};
 ghost use Prim.Native.Nat.{_+_, _-_, _<_, _≤_};
 ghost use lib.ListN.{length};
-ghost use Rattle.sheet_format.specs.Bytes.{isDigit, isLetter, isNameByte};
-ghost use Rattle.scanning.specs.Ranges.{numberFrom, numberZero, readNumber};
+ghost use Rattle.sheet_format.specs.Bytes.{isDigit};
+ghost use Rattle.scanning.specs.Ranges.{numberFrom, numberZero, scanNumber};
 ghost use Rattle.scanning.specs.Scanning.{nameEnd};
 
-// 0 to 9
+// The byte is a digit, 0 to 9.
 pub fn is_digit(b: u8) -> bool
     ensures { λ r. ⌜ r ≡ isDigit b ⌝ }
 {
@@ -23,36 +24,7 @@ pub fn is_digit(b: u8) -> bool
     true
 }
 
-// a to z
-fn is_letter(b: u8) -> bool
-    ensures { λ r. ⌜ r ≡ isLetter b ⌝ }
-{
-    if b < b'a' {
-        return false;
-    }
-    if b'z' < b {
-        return false;
-    }
-    true
-}
-
-// a to z, 0 to 9 and `_`
-pub fn is_name_byte(b: u8) -> bool
-    ensures { λ r. ⌜ r ≡ isNameByte b ⌝ }
-{
-    if is_letter(b) {
-        return true;
-    }
-    if is_digit(b) {
-        return true;
-    }
-    if b == b'_' {
-        return true;
-    }
-    false
-}
-
-// A number, with the value v before place i.
+// A number, with the value v before position i.
 fn number_from(text: &[u8], i: usize, v: u32) -> Number
     requires { ⌜ v ≤ 65535 ⌝ }
     ensures { λ r. ⌜ r ≡ numberFrom (length (now (text .entry)) - i) (now (text .entry)) i v ⌝ }
@@ -87,9 +59,9 @@ fn number_zero(text: &[u8], i: usize) -> Number
     Number::Value(0, i)
 }
 
-// The number at place i.
-pub fn read_number(text: &[u8], i: usize) -> Number
-    ensures { λ r. ⌜ r ≡ readNumber (now (text .entry)) i ⌝ }
+// The number at position i.
+pub fn scan_number(text: &[u8], i: usize) -> Number
+    ensures { λ r. ⌜ r ≡ scanNumber (now (text .entry)) i ⌝ }
 {
     let b = byte(text, i);
     if is_digit(b) {
@@ -101,7 +73,7 @@ pub fn read_number(text: &[u8], i: usize) -> Number
     Number::Missing
 }
 
-// Where the name at place i ends.
+// Where the name at position i ends.
 pub fn name_end(text: &[u8], i: usize) -> usize
     ensures { λ r. ⌜ r ≡ nameEnd (now (text .entry)) i ⌝ }
 {

@@ -15,7 +15,8 @@ pub all-append : {A : Type 0} (P : A → Type 0) (x y : List A) → All P x → 
 all-append P [] y h k = k
 all-append P (a ∷ x) y h k = (h .0, all-append P x y (h .1) k)
 
-pub all-map : {A B : Type 0} (f : A → B) (P : A → Type 0) (Q : B → Type 0) → ((a : A) → P a → Q (f a)) → (l : List A) → All P l → All Q (map f l)
+pub all-map : {A B : Type 0} (f : A → B) (P : A → Type 0) (Q : B → Type 0) → ((a : A) → P a → Q (f a)) → (l : List A) → All P l
+    → All Q (map f l)
 all-map f P Q k [] h = tt
 all-map f P Q k (a ∷ l) h = (k a (h .0), all-map f P Q k l (h .1))
 
@@ -69,7 +70,7 @@ pub update-other : {A : Type 0} (e : ℕ → A) (v : ℕ) (a : A) (w : ℕ) → 
 unfolding update
 update-other e v a w h = rw (ne-eqb w v h)
 
--- a map goes through an update
+-- Mapping an updated mapping is updating the mapped one.
 pub update-map : {A B : Type 0} (f : A → B) (e : ℕ → A) (v : ℕ) (a : A) → (λ w. f (update e v a w)) ≡ update (λ w. f (e w)) v (f a)
 unfolding update
 update-map f e v a = fun-ext (λ w. go w (eqb w v))
@@ -78,7 +79,7 @@ update-map f e v a = fun-ext (λ w. go w (eqb w v))
     go w true = refl
     go w false = refl
 
--- a property of every value, kept by an update
+-- A property of every value is kept by an update with a value that has it.
 pub update-all : {A : Type 0} (P : A → Type 0) (e : ℕ → A) (v : ℕ) (a : A) → ((w : ℕ) → P (e w)) → P a → (w : ℕ) → P (update e v a w)
 unfolding update
 update-all P e v a h p w = go (eqb w v)
@@ -87,7 +88,7 @@ update-all P e v a h p w = go (eqb w v)
     go true = p
     go false = h w
 
--- two mappings, each with the same value at v, agree at w if they agree there wherever w is not v
+-- Two mappings updated with the same value at v agree at w if they agree there wherever w is not v.
 pub update-agree : {A : Type 0} (e f : ℕ → A) (v : ℕ) (a : A) (w : ℕ) → (eqb v w ≡ false → e w ≡ f w) → update e v a w ≡ update f v a w
 unfolding update
 update-agree e f v a w h = go (eqb w v) refl
@@ -103,13 +104,13 @@ abbrev pub Any : {A : Type 0} → (A → Type 0) → List A → Type 0
 Any P [] = ⊥
 Any P (a ∷ l) = P a ⊎ Any P l
 
--- some element of the first of two lists
+-- A property of some element of the first of two lists holds of some element of both together.
 pub any-left : {A : Type 0} (P : A → Type 0) (x y : List A) → Any P x → Any P (x ++ y)
 any-left P [] y h = absurd h
 any-left P (a ∷ x) y (inl h) = inl h
 any-left P (a ∷ x) y (inr h) = inr (any-left P x y h)
 
--- some element of the second
+-- A property of some element of the second of two lists holds of some element of both together.
 pub any-right : {A : Type 0} (P : A → Type 0) (x y : List A) → Any P y → Any P (x ++ y)
 any-right P [] y h = h
 any-right P (a ∷ x) y h = inr (any-right P x y h)

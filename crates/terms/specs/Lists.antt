@@ -10,7 +10,7 @@ abbrev pub All : {A : Type 0} → (A → Type 0) → List A → Type 0
 All P [] = Unit {0}
 All P (a ∷ l) = P a × All P l
 
--- a stands in the list, at the place that the proof shows.
+-- The element a stands in the list, at the position that the proof shows.
 pub data Mem {A : Type 0} : A → List A → Type 0 where
   here : {a : A} {l : List A} → Mem a (a ∷ l)
   there : {a b : A} {l : List A} → Mem a l → Mem a (b ∷ l)

@@ -1,5 +1,7 @@
 // A D line, by the goal of the sequent that is due. Each function is a definition of the crate line_checking, and its contract
 // says so.
+use checker_state::Line;
+use checker_state::Shape;
 use line_checking::Registers;
 use line_rules::clause_rules::clause_line;
 use line_rules::connective_rules::and_line;
@@ -15,8 +17,6 @@ ghost use Prim.Native.Nat.{_+_, _<_};
 ghost use lib.ListN.{length};
 ghost use Rattle.line_checking.specs.Sequents.{made};
 ghost use Rattle.line_checking.specs.Judging.{quantifierLine, connectiveLine, sequentLine};
-use checker_state::Line;
-use checker_state::Shape;
 
 // The goal is E or U.
 pub fn quantifier_line(
@@ -29,7 +29,8 @@ pub fn quantifier_line(
     line: Line,
 ) -> Registers
     requires { ⌜ (line .at + 7 < 4294967296) × (line .end < 4294967296) ⌝ }
-    ensures { λ s. ⌜ made (now (w .exit)) s ≡ quantifierLine (now (sheet .entry)) (now (t .entry)) (shape .symbols) (now (text .entry)) (now (w .entry)) r (line .number) (line .at) (line .end) ⌝ }
+    ensures { λ s. ⌜ made (now (w .exit)) s ≡ quantifierLine (now (sheet .entry)) (now (t .entry)) (shape .symbols) (now (text .entry))
+        (now (w .entry)) r (line .number) (line .at) (line .end) ⌝ }
 {
     if kind(t, r.node) == kinds::EXISTS {
         return some_line(sheet, t, shape, text, w, r, line);
@@ -48,7 +49,8 @@ pub fn connective_line(
     line: Line,
 ) -> Registers
     requires { ⌜ (line .number + 1 < 4294967296) × (line .at + 7 < 4294967296) × (line .end < 4294967296) ⌝ }
-    ensures { λ s. ⌜ made (now (w .exit)) s ≡ connectiveLine (now (sheet .entry)) (now (t .entry)) (shape .symbols) (now (text .entry)) (now (w .entry)) r (line .number) (line .at) (line .end) ⌝ }
+    ensures { λ s. ⌜ made (now (w .exit)) s ≡ connectiveLine (now (sheet .entry)) (now (t .entry)) (shape .symbols) (now (text .entry))
+        (now (w .entry)) r (line .number) (line .at) (line .end) ⌝ }
 {
     let sort = kind(t, r.node);
     if sort == kinds::AND {
@@ -73,8 +75,10 @@ pub fn sequent_line(
     r: Registers,
     line: Line,
 ) -> Registers
-    requires { ⌜ (length (now text) < 4294967296) × (line .number + 1 < 4294967296) × (line .at + 7 < 4294967296) × (line .end < 4294967296) ⌝ }
-    ensures { λ s. ⌜ made (now (w .exit)) s ≡ sequentLine (now (sheet .entry)) (now (t .entry)) (shape .symbols) (shape .clauses) (now (text .entry)) (now (w .entry)) r (line .number) (line .at) (line .end) ⌝ }
+    requires { ⌜ (length (now text) < 4294967296) × (line .number + 1 < 4294967296) × (line .at + 7 < 4294967296)
+        × (line .end < 4294967296) ⌝ }
+    ensures { λ s. ⌜ made (now (w .exit)) s ≡ sequentLine (now (sheet .entry)) (now (t .entry)) (shape .symbols) (shape .clauses)
+        (now (text .entry)) (now (w .entry)) r (line .number) (line .at) (line .end) ⌝ }
 {
     let sort = kind(t, r.node);
     if sort == kinds::ATOM {

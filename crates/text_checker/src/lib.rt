@@ -2,25 +2,25 @@
 // line_checking, and its contract says so.
 mod derivation_lines;
 
+use checker_state::Line;
+use checker_state::Shape;
 use checker_state::registers::broken;
-use checker_state::registers::on_counts;
 use checker_state::registers::start;
+use checker_state::registers::with_counts;
 use derivation_lines::sequent_line;
 use line_checking::Registers;
 use line_checking::text_stages;
 use line_rules::binding_lines::bind_line;
-use line_rules::result_lines::open_line;
-use numbering_check::show_from;
-use scanning::Shown;
-use term_scanner::ranges::line_end;
+use line_rules::result_lines::check_result;
+use numbering_check::check_numbering;
+use scanning::SymbolCounts;
+use term_scanner::ranges::text_line_end;
 ghost use mathlib.Core.Path.{_≡_};
 ghost use mathlib.Core.List.{List};
 ghost use Prim.Native.Nat.{ℕ, _+_, _<_, _≤_};
 ghost use lib.ListN.{length};
 ghost use Rattle.line_checking.specs.Sequents.{made};
 ghost use Rattle.line_checking.specs.Judging.{stageLine, countLine, orderLine, judgeLine, judged, endVerdict, judgeText};
-use checker_state::Line;
-use checker_state::Shape;
 
 // A line, by the stage; where no line is due it is a surplus one.
 pub fn stage_line(
@@ -32,12 +32,14 @@ pub fn stage_line(
     r: Registers,
     line: Line,
 ) -> Registers
-    requires { ⌜ (length (now text) < 4294967296) × (line .number + 1 < 4294967296) × (line .at + 7 < 4294967296) × (line .end < 4294967296) ⌝ }
-    ensures { λ s. ⌜ made (now (w .exit)) s ≡ stageLine (now (sheet .entry)) (now (t .entry)) (shape .symbols) (shape .clauses) (shape .goal) (now (text .entry)) (now (w .entry)) r (line .number) (line .at) (line .end) ⌝ }
+    requires { ⌜ (length (now text) < 4294967296) × (line .number + 1 < 4294967296) × (line .at + 7 < 4294967296)
+        × (line .end < 4294967296) ⌝ }
+    ensures { λ s. ⌜ made (now (w .exit)) s ≡ stageLine (now (sheet .entry)) (now (t .entry)) (shape .symbols) (shape .clauses)
+        (shape .goal) (now (text .entry)) (now (w .entry)) r (line .number) (line .at) (line .end) ⌝ }
 {
     let stage = r.stage;
     if stage == text_stages::OPENING {
-        return open_line(t, shape.goal, text, r, line);
+        return check_result(t, shape.goal, text, r, line);
     }
     if stage == text_stages::BINDING {
         return bind_line(sheet, t, shape, text, w, r, line);
@@ -52,9 +54,9 @@ pub fn stage_line(
 pub fn count_line(text: &[u8], r: Registers, line: Line) -> Registers
     ensures { λ s. ⌜ ((w : List ℕ) → made w s ≡ countLine (now (text .entry)) (made w r) (line .at) (line .end)) ⌝ }
 {
-    match show_from(text, line.at, line.end, r.made, r.leftover) {
-        Shown::Counts(m, l) => on_counts(r, m, l),
-        Shown::Misnumbered => broken(r),
+    match check_numbering(text, line.at, line.end, r.made, r.leftover) {
+        SymbolCounts::Counts(m, l) => with_counts(r, m, l),
+        SymbolCounts::Misnumbered => broken(r),
     }
 }
 
@@ -79,8 +81,10 @@ pub fn judge_line(
     r: Registers,
     line: Line,
 ) -> Registers
-    requires { ⌜ (length (now text) < 4294967296) × (line .number + 1 < 4294967296) × (line .at + 7 < 4294967296) × (line .end < 4294967296) ⌝ }
-    ensures { λ s. ⌜ made (now (w .exit)) s ≡ judgeLine (now (sheet .entry)) (now (t .entry)) (shape .symbols) (shape .clauses) (shape .goal) (now (text .entry)) (now (w .entry)) r (line .number) (line .at) (line .end) ⌝ }
+    requires { ⌜ (length (now text) < 4294967296) × (line .number + 1 < 4294967296) × (line .at + 7 < 4294967296)
+        × (line .end < 4294967296) ⌝ }
+    ensures { λ s. ⌜ made (now (w .exit)) s ≡ judgeLine (now (sheet .entry)) (now (t .entry)) (shape .symbols) (shape .clauses)
+        (shape .goal) (now (text .entry)) (now (w .entry)) r (line .number) (line .at) (line .end) ⌝ }
 {
     let s = stage_line(sheet, t, shape, text, w, r, line);
     order_line(text, s, line)
@@ -103,12 +107,13 @@ pub fn end_verdict(text: &[u8], r: Registers, q: u32, i: usize) -> u32
 // The verdict on the whole text: 0 for valid, or the number of the line that breaks, counted from 1.
 pub fn judge_text(sheet: &[u8], t: &[u32], shape: Shape, text: &[u8], w: &mut [u32]) -> u32
     requires { ⌜ length (now text) + 7 ≤ 4294967296 ⌝ }
-    ensures { λ v. ⌜ judged (now (w .exit)) v ≡ judgeText (now (sheet .entry)) (now (t .entry)) (shape .symbols) (shape .clauses) (shape .goal) (now (text .entry)) (now (w .entry)) ⌝ }
+    ensures { λ v. ⌜ judged (now (w .exit)) v ≡ judgeText (now (sheet .entry)) (now (t .entry)) (shape .symbols) (shape .clauses)
+        (shape .goal) (now (text .entry)) (now (w .entry)) ⌝ }
 {
     let mut r = start();
     let mut q: u32 = 0;
     let mut i: usize = 0;
-    let mut e = line_end(text, 0);
+    let mut e = text_line_end(text, 0);
     while e < text.len() {
         let line = Line {
             number: q,
@@ -122,7 +127,7 @@ pub fn judge_text(sheet: &[u8], t: &[u32], shape: Shape, text: &[u8], w: &mut [u
         }
         q += 1;
         i = e + 1;
-        e = line_end(text, i);
+        e = text_line_end(text, i);
     }
     end_verdict(text, r, q, i)
 }

@@ -7,9 +7,10 @@ use lib.Dec.{eqb}
 use Rattle.terms.specs.Lists.{update}
 use Rattle.terms.specs.Terms.{Term, leaf, app, Terms, nil, cons, substitute}
 use Rattle.unification.specs.Store.{Leaf, var, con, Store, look, look1, lower, bind, boundTo, at, onlyAt, solve1, solved, solution}
-use Rattle.unification.specs.Matching.{Pair, Matching, pairs, check, fail, pushTerms, pushPairs, comparing, onNode, visit, compareTerms, matchStep, matchSteps}
+use Rattle.unification.specs.Matching.{Pair, Matching, pairs, check, fail, pushTerms, pushPairs, comparing, afterNode, visit}
+use Rattle.unification.specs.Matching.{compareTerms, matchStep, matchSteps}
 
--- variable x has level x; nothing is bound
+-- Variable x has level x, and nothing is bound.
 abbrev store : Store
 store = record { bindings = []; level = λ x. x; next = 8 }
 
@@ -19,7 +20,7 @@ against t u = pairs store (record { goal = t; clause = u } ∷ [])
 abbrev f : Term Leaf → Term Leaf
 f t = app 0 (cons t nil)
 
--- after n acts: 0 failed, 1 ended well, 2 under way; then the level and the value of a variable
+-- A matching is told as 0 (failed), 1 (succeeded) or 2 (under way).
 abbrev stand : Matching → ℕ
 stand (pairs s []) = 1
 stand (pairs s (p ∷ ps)) = 2
@@ -32,18 +33,19 @@ storeOf (check s y t n ns ps) = s
 storeOf fail = store
 
 unfoldable standing : ℕ → Term Leaf → Term Leaf → ℕ
-unfolding matchSteps matchStep compareTerms visit onNode comparing pushPairs pushTerms look look1 lower bind update
+unfolding matchSteps matchStep compareTerms visit afterNode comparing pushPairs pushTerms look look1 lower bind update
 standing n t u = stand (matchSteps n (against t u))
 
 unfoldable levelAfter : ℕ → Term Leaf → Term Leaf → ℕ → ℕ
-unfolding matchSteps matchStep compareTerms visit onNode comparing pushPairs pushTerms look look1 lower bind update
+unfolding matchSteps matchStep compareTerms visit afterNode comparing pushPairs pushTerms look look1 lower bind update
 levelAfter n t u x = storeOf (matchSteps n (against t u)) .level x
 
 unfoldable valueAfter : ℕ → Term Leaf → Term Leaf → ℕ → Term Leaf
-unfolding matchSteps matchStep compareTerms visit onNode comparing pushPairs pushTerms look look1 lower bind update solution solved solve1 boundTo onlyAt at substitute
+unfolding matchSteps matchStep compareTerms visit afterNode comparing pushPairs pushTerms look look1 lower bind update solution solved
+    solve1 boundTo onlyAt at substitute
 valueAfter n t u x = solution (storeOf (matchSteps n (against t u))) x
 
--- x1 against f(x3): one pair, two nodes; x3 comes down to level 1
+-- Matching x1 against f(x3) takes one pair and two nodes, and lowers x3 to level 1.
 lowered : levelAfter 3 (leaf (var 1)) (f (leaf (var 3))) 3 ≡ 1
 unfolding levelAfter
 lowered = refl
@@ -56,12 +58,12 @@ value : valueAfter 3 (leaf (var 1)) (f (leaf (var 3))) 1 ≡ f (leaf (var 3))
 unfolding valueAfter
 value = refl
 
--- the variable itself, deep inside: no match, seen at the second node
+-- The variable itself, inside the other term, fails the match at the second node.
 occurs : standing 3 (leaf (var 1)) (f (leaf (var 1))) ≡ 0
 unfolding standing
 occurs = refl
 
--- a made constant above the level, and at it
+-- A made constant above the variable's level fails the match, and one at the level does not.
 above : standing 2 (leaf (var 1)) (leaf (con 0 2)) ≡ 0
 unfolding standing
 above = refl
@@ -70,12 +72,13 @@ within : standing 2 (leaf (var 2)) (leaf (con 0 2)) ≡ 1
 unfolding standing
 within = refl
 
--- the goal's variable is bound to the clause's
+-- The goal's variable is bound to the clause's.
 direction : valueAfter 2 (leaf (var 1)) (leaf (var 3)) 1 ≡ leaf (var 3)
 unfolding valueAfter
 direction = refl
 
--- bindings made on the way are looked through, and both ways into the values: g(x1, x3) against g(f(x3), c), five acts and a node more
-through : valueAfter 6 (app 1 (cons (leaf (var 1)) (cons (leaf (var 3)) nil))) (app 1 (cons (f (leaf (var 3))) (cons (app 2 nil) nil))) 1 ≡ f (app 2 nil)
+-- Later bindings are applied to earlier values: after six acts, g(x1, x3) against g(f(x3), c) gives x1 the value f(c).
+through : valueAfter 6 (app 1 (cons (leaf (var 1)) (cons (leaf (var 3)) nil)))
+    (app 1 (cons (f (leaf (var 3))) (cons (app 2 nil) nil))) 1 ≡ f (app 2 nil)
 unfolding valueAfter
 through = refl

@@ -12,7 +12,8 @@ use Rattle.terms.specs.Lists.{All, update}
 use Rattle.terms.specs.Terms.{Term, leaf, app, Terms, nil, cons, substitute, substitutes, size, sizes, levelBy, levelsBy, Leaves}
 use Rattle.terms.proofs.Terms.{leaf-not-app, nil-not-cons}
 use Rattle.unification.specs.Store.{Leaf, var, con, Store, look, lower, bind}
-use Rattle.unification.specs.Matching.{Pair, Matching, pairs, check, fail, pushTerms, pushPairs, comparing, onNode, visit, compareTerms, matchStep, matchSteps}
+use Rattle.unification.specs.Matching.{Pair, Matching, pairs, check, fail, pushTerms, pushPairs, comparing, afterNode, visit}
+use Rattle.unification.specs.Matching.{compareTerms, matchStep, matchSteps}
 use Rattle.unification.specs.Promises.{Below}
 use Rattle.unification.proofs.Look.{look-below}
 use Rattle.unification.proofs.Valuation.{Domain, value, Solves, Equal, look-value}
@@ -36,7 +37,7 @@ module _ {B : Type 0} (D : Domain B) (σ : ℕ → Term B) where
   Parts (check s y t n ns ps) = All (Part y t) (n ∷ ns)
   Parts fail = Unit {0}
 
-  -- σ solves the matching, and the nodes of its range check are parts.
+  -- The valuation σ solves the matching, and the nodes of its range check are parts.
   abbrev pub Keeps : Matching → Type 0
   Keeps m = SolvesMatching D σ m × Parts m
 
@@ -51,38 +52,45 @@ module _ {B : Type 0} (D : Domain B) (σ : ℕ → Term B) where
 
   -- After a node: the next one, or the binding.
   onNode-complete : (s : Store) (y : ℕ) (t : Term Leaf) (ns : List (Term Leaf)) (ps : List Pair)
-      → Solves D σ s → σ y ≡ substitute t (value D σ) → All (Equal D σ) ps → All (Part y t) ns → Keeps (onNode s y t ns ps)
-  unfolding onNode SolvesMatching Parts bind
+      → Solves D σ s → σ y ≡ substitute t (value D σ) → All (Equal D σ) ps → All (Part y t) ns → Keeps (afterNode s y t ns ps)
+  unfolding afterNode SolvesMatching Parts bind
   onNode-complete s y t [] ps v e h p = ((record { equations = (e, v .equations); levels = v .levels }, h), tt)
   onNode-complete s y t (n ∷ ns) ps v e h p = ((v, e, h), p)
 
   -- The arguments of a part that is no larger than the value of y are smaller parts.
-  pushTerms-parts : (ts : Terms Leaf) (ns : List (Term Leaf)) (y : ℕ) (t : Term Leaf) → levelsBy (substitutes ts (value D σ)) (D .level) ≤ levelBy (σ y) (D .level)
+  pushTerms-parts : (ts : Terms Leaf) (ns : List (Term Leaf)) (y : ℕ) (t : Term Leaf)
+      → levelsBy (substitutes ts (value D σ)) (D .level) ≤ levelBy (σ y) (D .level)
       → sizes (substitutes ts (value D σ)) < size (σ y) → All (Part y t) ns → All (Part y t) (pushTerms ts ns)
   unfolding pushTerms substitute levelBy size
   pushTerms-parts nil ns y t l z h = h
-  pushTerms-parts (cons u us) ns y t l z h = (record { level = omega arith; small = inr (omega arith) }, pushTerms-parts us ns y t (omega arith) (omega arith) h)
+  pushTerms-parts (cons u us) ns y t l z h =
+      (record { level = omega arith; small = inr (omega arith) }, pushTerms-parts us ns y t (omega arith) (omega arith) h)
 
-  -- u is the node that is due, as looked through.
+  -- Looking at a node u, given as looked through, keeps the matching solved by σ.
   visit-complete : (s : Store) (y : ℕ) (t u : Term Leaf) (ns : List (Term Leaf)) (ps : List Pair)
-      → Solves D σ s → σ y ≡ substitute t (value D σ) → All (Equal D σ) ps → y < s .next → Leaves u (Below (s .next)) → (u ≡ leaf (var y) → ⊥)
+      → Solves D σ s → σ y ≡ substitute t (value D σ) → All (Equal D σ) ps → y < s .next → Leaves u (Below (s .next))
+      → (u ≡ leaf (var y) → ⊥)
       → levelBy (substitute u (value D σ)) (D .level) ≤ levelBy (σ y) (D .level) → size (substitute u (value D σ)) ≤ size (σ y)
       → All (Part y t) ns → Keeps (visit s y t u ns ps)
   unfolding visit substitute value levelBy size Leaves Below
   visit-complete s y t (leaf (var z)) ns ps v e h ly bu d hl hs p = go (eqb z y) refl
     where
-      go : (c : Bool) → eqb z y ≡ c → Keeps (cond c fail (onNode (lower s z (s .level y)) y t ns ps))
+      go : (c : Bool) → eqb z y ≡ c → Keeps (cond c fail (afterNode (lower s z (s .level y)) y t ns ps))
       go true q = absurd (d (ap (λ x. leaf (var x)) (eqb-true z y q)))
-      go false q = onNode-complete (lower s z (s .level y)) y t ns ps (lower-complete s z (s .level y) v (let r = v .levels y ly in omega arith) bu) e h p
+      go false q =
+          onNode-complete (lower s z (s .level y)) y t ns ps
+          (lower-complete s z (s .level y) v (let r = v .levels y ly in omega arith) bu) e h p
   visit-complete s y t (leaf (con c j)) ns ps v e h ly bu d hl hs p = go (leb j (s .level y)) refl
     where
-      go : (b : Bool) → leb j (s .level y) ≡ b → Keeps (cond b (onNode s y t ns ps) fail)
+      go : (b : Bool) → leb j (s .level y) ≡ b → Keeps (cond b (afterNode s y t ns ps) fail)
       go true q = onNode-complete s y t ns ps v e h p
       go false q = absurd (let r = v .levels y ly in let w = leb-false j (s .level y) q in let k = D .level-constant c j in omega arith)
-  visit-complete s y t (app f ts) ns ps v e h ly bu d hl hs p = onNode-complete s y t (pushTerms ts ns) ps v e h (pushTerms-parts ts ns y t hl hs p)
+  visit-complete s y t (app f ts) ns ps v e h ly bu d hl hs p =
+      onNode-complete s y t (pushTerms ts ns) ps v e h (pushTerms-parts ts ns y t hl hs p)
 
   -- The argument pairs of two lists of terms.
-  pub comparing-complete : (s : Store) (ts us : Terms Leaf) (ps : List Pair) → Solves D σ s → substitutes ts (value D σ) ≡ substitutes us (value D σ) → All (Equal D σ) ps
+  pub comparing-complete : (s : Store) (ts us : Terms Leaf) (ps : List Pair) → Solves D σ s
+      → substitutes ts (value D σ) ≡ substitutes us (value D σ) → All (Equal D σ) ps
       → Keeps (comparing s (pushPairs ts us ps))
   unfolding pushPairs comparing SolvesMatching Parts substitute
   comparing-complete s nil nil ps v e h = ((v, h), tt)
@@ -90,17 +98,20 @@ module _ {B : Type 0} (D : Domain B) (σ : ℕ → Term B) where
   comparing-complete s (cons t ts) nil ps v e h = absurd (nil-not-cons (substitute t (value D σ)) (substitutes ts (value D σ)) (sym e))
   comparing-complete s (cons t ts) (cons u us) ps v e h = go (pushPairs ts us ps) (comparing-complete s ts us ps v (cc) h)
     where
-      go : (q : Option (List Pair)) → Keeps (comparing s q) → Keeps (comparing s (Option·map (λ qs. record { goal = t; clause = u } ∷ qs) q))
+      go : (q : Option (List Pair)) → Keeps (comparing s q)
+          → Keeps (comparing s (Option·map (λ qs. record { goal = t; clause = u } ∷ qs) q))
       go none i = absurd (i .0)
       go (some qs) i = ((v, ((cc), i .0 .1)), tt)
 
   -- A range check begins.
-  check-complete : (s : Store) (y : ℕ) (t : Term Leaf) (ps : List Pair) → Solves D σ s → σ y ≡ substitute t (value D σ) → All (Equal D σ) ps → Keeps (check s y t t [] ps)
+  check-complete : (s : Store) (y : ℕ) (t : Term Leaf) (ps : List Pair) → Solves D σ s → σ y ≡ substitute t (value D σ)
+      → All (Equal D σ) ps → Keeps (check s y t t [] ps)
   unfolding SolvesMatching Parts
   check-complete s y t ps v e h = ((v, e, h), (record { level = rw e (omega arith); small = inl refl }, tt))
 
   -- One pair, t and u being its sides as looked through.
-  compareTerms-complete : (s : Store) (t u : Term Leaf) (ps : List Pair) → Solves D σ s → substitute t (value D σ) ≡ substitute u (value D σ) → All (Equal D σ) ps
+  compareTerms-complete : (s : Store) (t u : Term Leaf) (ps : List Pair) → Solves D σ s
+      → substitute t (value D σ) ≡ substitute u (value D σ) → All (Equal D σ) ps
       → Keeps (compareTerms s t u ps)
   unfolding compareTerms SolvesMatching Parts substitute value
   compareTerms-complete s (leaf (var x)) (leaf (var y)) ps v e h = go (eqb x y)
@@ -117,11 +128,13 @@ module _ {B : Type 0} (D : Domain B) (σ : ℕ → Term B) where
       rw (true-and (eqb c d) (eqb k j) (eq-eqb c d (D .constant-number c k d j q)) (eq-eqb k j level)) ((v, h), tt)
   compareTerms-complete s (leaf (con c k)) (app g us) ps v e h = absurd (leaf-not-app (D .constant c k) g (substitutes us (value D σ)) e)
   compareTerms-complete s (app f ts) (leaf (var y)) ps v e h = check-complete s y (app f ts) ps v (sym e) h
-  compareTerms-complete s (app f ts) (leaf (con d j)) ps v e h = absurd (leaf-not-app (D .constant d j) f (substitutes ts (value D σ)) (sym e))
+  compareTerms-complete s (app f ts) (leaf (con d j)) ps v e h =
+      absurd (leaf-not-app (D .constant d j) f (substitutes ts (value D σ)) (sym e))
   compareTerms-complete s (app f ts) (app g us) ps v e h = rw (eq-eqb f g (cc)) (comparing-complete s ts us ps v (cc) h)
 
   -- A node is not y: it is t, which is not, or it is too small.
-  not-itself : (R : ℕ → Type 0) (s : Store) (y : ℕ) (t n : Term Leaf) (ns : List (Term Leaf)) → Solves D σ s → Checking R s y t ns → Part y t n → look (s .bindings) n ≡ leaf (var y) → ⊥
+  not-itself : (R : ℕ → Type 0) (s : Store) (y : ℕ) (t n : Term Leaf) (ns : List (Term Leaf)) → Solves D σ s → Checking R s y t ns
+      → Part y t n → look (s .bindings) n ≡ leaf (var y) → ⊥
   unfolding substitute value
   not-itself R s y t n ns v c p q = go (p .small)
     where
@@ -133,7 +146,8 @@ module _ {B : Type 0} (D : Domain B) (σ : ℕ → Term B) where
       go (inr l) = let w : size (substitute n (value D σ)) ≡ size (σ y) = ap size same in omega arith
 
   -- A part is no larger than the value of y.
-  part-size : (y : ℕ) (t n : Term Leaf) → σ y ≡ substitute t (value D σ) → (n ≡ t) ⊎ (size (substitute n (value D σ)) < size (σ y)) → size (substitute n (value D σ)) ≤ size (σ y)
+  part-size : (y : ℕ) (t n : Term Leaf) → σ y ≡ substitute t (value D σ) → (n ≡ t) ⊎ (size (substitute n (value D σ)) < size (σ y))
+      → size (substitute n (value D σ)) ≤ size (σ y)
   part-size y t n e (inl p) = rw (e, p) (omega arith)
   part-size y t n e (inr l) = omega arith
 
@@ -144,12 +158,14 @@ module _ {B : Type 0} (D : Domain B) (σ : ℕ → Term B) where
   matchStep-complete R (pairs s (p ∷ ps)) r k =
       let v = k .0 .0 in
       compareTerms-complete s (look (s .bindings) (p .goal)) (look (s .bindings) (p .clause)) ps v
-      (look-value D σ (s .bindings) (p .goal) (v .equations) ∙ k .0 .1 .0 ∙ sym (look-value D σ (s .bindings) (p .clause) (v .equations))) (k .0 .1 .1)
+      (look-value D σ (s .bindings) (p .goal) (v .equations) ∙ k .0 .1 .0 ∙ sym (look-value D σ (s .bindings) (p .clause) (v .equations)))
+      (k .0 .1 .1)
   matchStep-complete R (check s y t n ns ps) r k =
       let v = k .0 .0 in
       let c = r .0 in
       let e : substitute (look (s .bindings) n) (value D σ) ≡ substitute n (value D σ) = look-value D σ (s .bindings) n (v .equations) in
-      visit-complete s y t (look (s .bindings) n) ns ps v (k .0 .1) (k .0 .2) (c .low) (look-below (s .bindings) n (s .next) (c .good .formed .below) (c .nodes .0))
+      visit-complete s y t (look (s .bindings) n) ns ps v (k .0 .1) (k .0 .2) (c .low)
+      (look-below (s .bindings) n (s .next) (c .good .formed .below) (c .nodes .0))
       (not-itself R s y t n (n ∷ ns) v c (k .1 .0)) (rw e (k .1 .0 .level)) (rw e (part-size y t n (k .0 .1) (k .1 .0 .small))) (k .1 .1)
   matchStep-complete R fail r k = absurd (k .0)
 

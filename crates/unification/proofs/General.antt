@@ -18,7 +18,8 @@ use Rattle.unification.proofs.Valuation.{Domain, value, searchTerms, va
 -- The final values are a solution.
 pub final-equations : (bs : List Binding) → WellBound bs → All (Equation searchTerms (final bs)) bs
 final-equations bs w =
-    subst (λ (v : Leaf → Term Leaf). All (λ b. final bs (b .name) ≡ substitute (b .value) v) bs) (sym (value-at (final bs))) (final-bound bs w)
+    subst (λ (v : Leaf → Term Leaf). All (λ b. final bs (b .name) ≡ substitute (b .value) v) bs) (sym (value-at (final bs)))
+    (final-bound bs w)
 
 -- Looking through changes no final value.
 pub apply-look : (bs : List Binding) (t : Term Leaf) → WellBound bs → apply (look bs t) (final bs) ≡ apply t (final bs)
@@ -30,7 +31,8 @@ module _ {B : Type 0} (D : Domain B) where
   general bs τ x = substitute (final bs x) (value D τ)
 
   -- In it a term has the value of the term with all bindings put to use.
-  pub general-value : (bs : List Binding) (τ : ℕ → Term B) (t : Term Leaf) → substitute t (value D (general bs τ)) ≡ substitute (apply t (final bs)) (value D τ)
+  pub general-value : (bs : List Binding) (τ : ℕ → Term B) (t : Term Leaf)
+      → substitute t (value D (general bs τ)) ≡ substitute (apply t (final bs)) (value D τ)
   unfolding general
   general-value bs τ t = sym (value-apply D t (final bs) τ)
 
@@ -39,16 +41,18 @@ module _ {B : Type 0} (D : Domain B) where
   unfolding general substitute value
   general-unbound bs τ x w u = ap (λ (t : Term Leaf). substitute t (value D τ)) (boundTo-unbound bs x w u)
 
-  -- It solves the bindings,
+  -- The general solution solves the bindings.
   pub general-equations : (bs : List Binding) (τ : ℕ → Term B) → WellBound bs → All (Equation D (general bs τ)) bs
   unfolding general
-  general-equations bs τ w = all-weaken (λ b. final bs (b .name) ≡ apply (b .value) (final bs)) (Equation D (general bs τ)) keep bs (final-bound bs w)
+  general-equations bs τ w =
+      all-weaken (λ b. final bs (b .name) ≡ apply (b .value) (final bs)) (Equation D (general bs τ)) keep bs (final-bound bs w)
     where
       keep : (b : Binding) → final bs (b .name) ≡ apply (b .value) (final bs) → Equation D (general bs τ) b
       keep b e = ap (λ (t : Term Leaf). substitute t (value D τ)) e ∙ sym (general-value bs τ (b .value))
 
   -- And the store, if τ keeps the levels of the unbound variables.
-  pub general-solves : (s : Store) (τ : ℕ → Term B) → Formed s → ((z : ℕ) → z < s .next → Unbound (s .bindings) z → levelBy (τ z) (D .level) ≤ s .level z)
+  pub general-solves : (s : Store) (τ : ℕ → Term B) → Formed s
+      → ((z : ℕ) → z < s .next → Unbound (s .bindings) z → levelBy (τ z) (D .level) ≤ s .level z)
       → Solves D (general (s .bindings) τ) s
   unfolding general solution value levelBy
   general-solves s τ f h = record {
@@ -74,7 +78,7 @@ module _ {B : Type 0} (D : Domain B) where
       ∙ ap (λ (τ : ℕ → Term B). substitute (final bs x) (value D τ)) (fun-ext (λ z. new z (λ y. general-itself bs σ y (h .1))))
       ∙ general-itself bs σ x (h .1)
     where
-      -- σ goes through the newest binding.
+      -- The valuation σ keeps its values through the newest binding.
       new : (z : ℕ) → ((y : ℕ) → general bs σ y ≡ σ y) → substitute (newest b bs z) (value D σ) ≡ σ z
       new z ih = go (eqb z (b .name)) refl
         where

@@ -7,7 +7,8 @@ use Rattle.unification.specs.Store.{var, con}
 use Rattle.unification.specs.Labelled.{Substitution, Labelling, Proper, Induced, Composed}
 use Rattle.unification.proofs.Substitution.{appears-apply}
 
--- A proper substitution that θ can go before is proper for the labelling that θ induces: a constant of φ(x), x appearing in θ(y), appears in φ(θ(y)) = φ(y).
+-- A proper substitution that θ can go before is proper for the labelling that θ induces: a constant of φ(x), x appearing in
+-- θ(y), appears in φ(θ(y)) = φ(y).
 pub absorbed-proper : (L L′ : Labelling) (θ φ : Substitution) → Induced L θ L′ → Proper L φ → Composed (φ .to) (φ .to) (θ .to) → Proper L′ φ
 absorbed-proper L L′ θ φ i p a x c k h = go (i .attained x)
   where

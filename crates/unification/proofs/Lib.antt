@@ -1,6 +1,7 @@
 -- Promise T3 and the laws that lead to it, in reading order: the bindings as one substitution (Substitution, Look, Solution); what
 -- solves a store (Valuation, General), and which stores there are (Stores, Fresh); matching is sound, keeps stores formed, is
--- complete, ends, and lowers levels for a reason (Sound, Invariant, Complete, Ends, Track); what it finds (Labelled, Unify, Promises).
+-- complete, ends, and lowers levels for a reason (Sound, Invariant, Complete, Termination, Track); what it finds (Labelled,
+-- Unify, Promises).
 pub mod Substitution
 pub mod Look
 pub mod Solution
@@ -11,7 +12,7 @@ pub mod Fresh
 pub mod Sound
 pub mod Invariant
 pub mod Complete
-pub mod Ends
+pub mod Termination
 pub mod Track
 pub mod Labelled
 pub mod Unify

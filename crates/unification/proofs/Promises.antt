@@ -14,10 +14,11 @@ use Rattle.unification.proofs.General.{general}
 use Rattle.unification.proofs.Sound.{SolvesMatching, matchSteps-sound}
 use Rattle.unification.proofs.Invariant.{Running, matchSteps-running}
 use Rattle.unification.proofs.Complete.{Parts, Keeps, matchSteps-complete}
-use Rattle.unification.proofs.Ends.{matching-ends, ended-stays}
+use Rattle.unification.proofs.Termination.{matching-ends, ended-stays}
 use Rattle.unification.proofs.Track.{Later, Origin, Tracked, matchSteps-tracked}
 use Rattle.unification.proofs.Labelled.{absorbed-proper}
-use Rattle.unification.proofs.Unify.{final-solves, unifier-equal, unifier-solves, found, foundLabels, mgu, reading-composed, found-unifies, found-proper, found-absorbed, found-induced, found-labels}
+use Rattle.unification.proofs.Unify.{final-solves, unifier-equal, unifier-solves, found, foundLabels, mgu, reading-composed}
+use Rattle.unification.proofs.Unify.{found-unifies, found-proper, found-absorbed, found-induced, found-labels}
 
 module _ (s : Store) (ps : List Pair) (L : Labelling) (f : Formed s) (b : All (BelowPair (s .next)) ps) (a : Labels L s) where
   -- No variable is made.
@@ -30,7 +31,8 @@ module _ (s : Store) (ps : List Pair) (L : Labelling) (f : Formed s) (b : All (B
   begins = (record { formed = f; extra = refl }, b)
 
   -- A unifier's solution is kept by every act.
-  kept : (φ : Substitution) → Unifier L (readPairs s ps) φ → (n : ℕ) → Keeps searchTerms (general searchTerms (s .bindings) (φ .to)) (matchSteps n (pairs s ps))
+  kept : (φ : Substitution) → Unifier L (readPairs s ps) φ → (n : ℕ)
+      → Keeps searchTerms (general searchTerms (s .bindings) (φ .to)) (matchSteps n (pairs s ps))
   unfolding SolvesMatching Parts
   kept φ u n =
       matchSteps-complete searchTerms (general searchTerms (s .bindings) (φ .to)) Number n (pairs s ps) begins
@@ -41,7 +43,7 @@ module _ (s : Store) (ps : List Pair) (L : Labelling) (f : Formed s) (b : All (B
   unfolding SolvesMatching
   failed n e φ u = subst (Keeps searchTerms (general searchTerms (s .bindings) (φ .to))) e (kept φ u n) .0
 
-  -- s′ is the store after a match that succeeded.
+  -- The store s′ is the one after a match that succeeded.
   module _ (n : ℕ) (s′ : Store) (e : matchSteps n (pairs s ps) ≡ pairs s′ []) where
     after : Running Number (pairs s′ [])
     after = subst (Running Number) e (matchSteps-running Number n (pairs s ps) begins)
@@ -63,7 +65,9 @@ module _ (s : Store) (ps : List Pair) (L : Labelling) (f : Formed s) (b : All (B
     -- The final values solve the matching that has ended, so the one that began.
     before : Solves searchTerms (solution s′) s × All (Equal searchTerms (solution s′)) ps
     unfolding SolvesMatching
-    before = matchSteps-sound searchTerms (solution s′) n (pairs s ps) (subst (SolvesMatching searchTerms (solution s′)) (sym e) (final-solves s′ formed, tt))
+    before =
+        matchSteps-sound searchTerms (solution s′) n (pairs s ps)
+        (subst (SolvesMatching searchTerms (solution s′)) (sym e) (final-solves s′ formed, tt))
 
     found-mgu : Substitution
     found-mgu = mgu s s′ f formed (tracked .0) number
@@ -90,7 +94,8 @@ module _ (s : Store) (ps : List Pair) (L : Labelling) (f : Formed s) (b : All (B
     general-unifier φ u = record {
       proper₁ = unifier .proper;
       proper₂ = u .proper;
-      through = (foundLabels L s′, induced, φ, absorbed-proper L (foundLabels L s′) found-mgu φ induced (u .proper) (absorbed φ u), absorbed φ u);
+      through =
+          (foundLabels L s′, induced, φ, absorbed-proper L (foundLabels L s′) found-mgu φ induced (u .proper) (absorbed φ u), absorbed φ u);
     }
 
     solved : Solved L s ps s′
@@ -121,7 +126,7 @@ module _ (s : Store) (ps : List Pair) (L : Labelling) (f : Formed s) (b : All (B
       go n (check s′ y t k ks qs) e h = absurd h
       go n fail e h = absurd (failed n e φ u)
 
--- T3
+-- Promise T3 holds.
 pub unification : Unification
 unification s ps L f b a = record {
   ends = (let r = ends s ps L f b a in (r .0, r .1, ended-stays (r .0) (pairs s ps) (r .1)));

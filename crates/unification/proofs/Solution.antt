@@ -12,7 +12,8 @@ use Rattle.terms.proofs.Lists.{all-weaken}
 use Rattle.terms.proofs.Terms.{appears-substitute, leaf-not-app}
 use Rattle.unification.specs.Store.{Leaf, var, con, Binding, look1, look, at, apply, onlyAt, solve1, boundTo, solved}
 use Rattle.unification.specs.Promises.{Unbound, WellBound}
-use Rattle.unification.proofs.Substitution.{con-not-var, apply-apply, apply-fixed, apply-variable, appears-apply, onlyAt-same, onlyAt-other}
+use Rattle.unification.proofs.Substitution.{con-not-var, apply-apply, apply-fixed, apply-variable, appears-apply, onlyAt-same}
+use Rattle.unification.proofs.Substitution.{onlyAt-other}
 use Rattle.unification.proofs.Look.{look1-other, unbound-bind}
 
 -- S(x), the final value of a variable.
@@ -24,13 +25,15 @@ abbrev pub newest : Binding → List Binding → ℕ → Term Leaf
 newest b bs = onlyAt (b .name) (apply (b .value) (final bs))
 
 -- The table of earlier values with b put to use, and b behind it, is the earlier table and then b.
-append-bound : (b : Binding) (bs : List Binding) (x : ℕ) → boundTo (map (solve1 b) bs ++ (b ∷ [])) x ≡ apply (boundTo bs x) (onlyAt (b .name) (b .value))
+append-bound : (b : Binding) (bs : List Binding) (x : ℕ)
+    → boundTo (map (solve1 b) bs ++ (b ∷ [])) x ≡ apply (boundTo bs x) (onlyAt (b .name) (b .value))
 unfolding boundTo solve1 onlyAt update substitute at
 append-bound b [] x = refl
 append-bound b (c ∷ bs) x = go (eqb x (c .name)) (append-bound b bs x)
   where
     go : (q : Bool) → boundTo (map (solve1 b) bs ++ (b ∷ [])) x ≡ apply (boundTo bs x) (onlyAt (b .name) (b .value))
-        → cond q (apply (c .value) (onlyAt (b .name) (b .value))) (boundTo (map (solve1 b) bs ++ (b ∷ [])) x) ≡ apply (cond q (c .value) (boundTo bs x)) (onlyAt (b .name) (b .value))
+        → cond q (apply (c .value) (onlyAt (b .name) (b .value))) (boundTo (map (solve1 b) bs ++ (b ∷ [])) x) ≡ apply
+        (cond q (c .value) (boundTo bs x)) (onlyAt (b .name) (b .value))
     go true h = refl
     go false h = h
 
@@ -44,7 +47,8 @@ pub apply-bind : (b : Binding) (bs : List Binding) (t : Term Leaf) → apply t (
 apply-bind b bs t = ap (apply t) (fun-ext (final-bind b bs)) ∙ sym (apply-apply t (final bs) (newest b bs))
 
 -- Unbound after a binding: unbound before it, and another variable.
-unbound-older : (u : Term Leaf) (b : Binding) (bs : List Binding) (x : ℕ) → look bs (b .value) ≡ b .value → (b .value ≡ leaf (var (b .name)) → ⊥)
+unbound-older : (u : Term Leaf) (b : Binding) (bs : List Binding) (x : ℕ) → look bs (b .value) ≡ b .value
+    → (b .value ≡ leaf (var (b .name)) → ⊥)
     → look bs (leaf (var x)) ≡ u → look1 u b ≡ leaf (var x) → Unbound bs x × (x ≡ b .name → ⊥)
 unfolding look1
 unbound-older (leaf (var z)) b bs x l d p q = go (eqb z (b .name)) refl q
@@ -56,7 +60,8 @@ unbound-older (leaf (con c k)) b bs x l d p q = absurd (con-not-var c k x (cc))
 unbound-older (app f ts) b bs x l d p q = absurd (leaf-not-app (var x) f ts (sym q))
 
 -- Nothing is bound to itself.
-not-itself : (b : Binding) (bs : List Binding) → WellBound (b ∷ bs) → final bs (b .name) ≡ leaf (var (b .name)) → b .value ≡ leaf (var (b .name)) → ⊥
+not-itself : (b : Binding) (bs : List Binding) → WellBound (b ∷ bs) → final bs (b .name) ≡ leaf (var (b .name))
+    → b .value ≡ leaf (var (b .name)) → ⊥
 unfolding WellBound Appears substitute at
 not-itself b bs w u e = w .2 (subst (λ t. Appears t (var (b .name))) (sym (ap (λ t. apply t (final bs)) e ∙ u)) refl)
 
@@ -66,7 +71,8 @@ unfolding WellBound look boundTo solved substitute at
 boundTo-unbound [] x w u = refl
 boundTo-unbound (b ∷ bs) x w u =
     let r = unbound-older (look bs (leaf (var x))) b bs x (w .1) (not-itself b bs w (boundTo-unbound bs (b .name) (w .3) (w .0))) refl u in
-    final-bind b bs x ∙ ap (λ t. apply t (newest b bs)) (boundTo-unbound bs x (w .3) (r .0)) ∙ onlyAt-other (b .name) (apply (b .value) (final bs)) x (r .1)
+    final-bind b bs x ∙ ap (λ t. apply t (newest b bs)) (boundTo-unbound bs x (w .3) (r .0))
+    ∙ onlyAt-other (b .name) (apply (b .value) (final bs)) x (r .1)
 
 -- Nothing else appears there.
 pub unbound-appears : (bs : List Binding) (x : ℕ) (a : Leaf) → WellBound bs → Unbound bs x → Appears (final bs x) a → a ≡ var x
@@ -123,20 +129,27 @@ bind-appears b bs x a h =
         go : (q : Bool) → eqb z (b .name) ≡ q → Stays b bs x a ⊎ Enters b bs x a
         go true e =
             let p = eqb-true z (b .name) e in
-            inr (subst (λ (v : ℕ). Appears (final bs x) (var v)) p i, subst (λ t. Appears t a) (ap (newest b bs) p ∙ onlyAt-same (b .name) value) j)
+            inr (
+              subst (λ (v : ℕ). Appears (final bs x) (var v)) p i,
+              subst (λ t. Appears t a) (ap (newest b bs) p
+                  ∙ onlyAt-same (b .name) value) j,
+            )
         go false e =
             let k : a ≡ var z = subst (λ t. Appears t a) (onlyAt-other (b .name) value z (eqb-false z (b .name) e)) j in
             inl (subst (Appears (final bs x)) (sym k) i, λ q. eqb-false z (b .name) e (cc))
 
 -- Both do appear.
-pub stays-appears : (b : Binding) (bs : List Binding) (x z : ℕ) → Appears (final bs x) (var z) → (z ≡ b .name → ⊥) → Appears (final (b ∷ bs) x) (var z)
+pub stays-appears : (b : Binding) (bs : List Binding) (x z : ℕ) → Appears (final bs x) (var z) → (z ≡ b .name → ⊥)
+    → Appears (final (b ∷ bs) x) (var z)
 unfolding Appears
 stays-appears b bs x z h d =
-    rw (final-bind b bs x) (appears-apply (final bs x) (newest b bs) z (var z) h (rw (onlyAt-other (b .name) (apply (b .value) (final bs)) z d) refl))
+    rw (final-bind b bs x) (appears-apply (final bs x) (newest b bs) z (var z) h
+    (rw (onlyAt-other (b .name) (apply (b .value) (final bs)) z d) refl))
 
 pub enters-appears : (b : Binding) (bs : List Binding) (x : ℕ) (a : Leaf) → Enters b bs x a → Appears (final (b ∷ bs) x) a
 enters-appears b bs x a h =
-    rw (final-bind b bs x) (appears-apply (final bs x) (newest b bs) (b .name) a (h .0) (rw (onlyAt-same (b .name) (apply (b .value) (final bs))) (h .1)))
+    rw (final-bind b bs x) (appears-apply (final bs x) (newest b bs) (b .name) a (h .0)
+    (rw (onlyAt-same (b .name) (apply (b .value) (final bs))) (h .1)))
 
 -- Only unbound variables appear in final values.
 pub appears-unbound : (bs : List Binding) (y x : ℕ) → WellBound bs → Appears (final bs y) (var x) → Unbound bs x
@@ -155,8 +168,10 @@ pub final-bound : (bs : List Binding) → WellBound bs → All (λ b. final bs (
 unfolding WellBound substitute at
 final-bound [] w = tt
 final-bound (b ∷ bs) w = (
-  final-bind b bs (b .name) ∙ ap (λ t. apply t (newest b bs)) (boundTo-unbound bs (b .name) (w .3) (w .0)) ∙ onlyAt-same (b .name) value ∙ sym (apply-fixed value (newest b bs) alone) ∙ sym (apply-bind b bs (b .value)),
-  all-weaken (λ c. final bs (c .name) ≡ apply (c .value) (final bs)) (λ c. final (b ∷ bs) (c .name) ≡ apply (c .value) (final (b ∷ bs))) keep bs (final-bound bs (w .3)),
+  final-bind b bs (b .name) ∙ ap (λ t. apply t (newest b bs)) (boundTo-unbound bs (b .name) (w .3) (w .0)) ∙ onlyAt-same (b .name) value
+      ∙ sym (apply-fixed value (newest b bs) alone) ∙ sym (apply-bind b bs (b .value)),
+  all-weaken (λ c. final bs (c .name) ≡ apply (c .value) (final bs))
+      (λ c. final (b ∷ bs) (c .name) ≡ apply (c .value) (final (b ∷ bs))) keep bs (final-bound bs (w .3)),
 )
   where
     value : Term Leaf

@@ -10,7 +10,8 @@ use borrow.Author.Tests.{eqb-true}
 use Rattle.terms.specs.Lists.{All, update}
 use Rattle.terms.specs.Terms.{Term, leaf, app, Terms, nil, cons, substitute, substitutes, levelBy}
 use Rattle.unification.specs.Store.{Leaf, var, con, Store, look, lower, bind}
-use Rattle.unification.specs.Matching.{Pair, Matching, pairs, check, fail, pushTerms, pushPairs, comparing, onNode, visit, compareTerms, matchStep, matchSteps}
+use Rattle.unification.specs.Matching.{Pair, Matching, pairs, check, fail, pushTerms, pushPairs, comparing, afterNode, visit}
+use Rattle.unification.specs.Matching.{compareTerms, matchStep, matchSteps}
 use Rattle.unification.proofs.Valuation.{Domain, value, Solves, Equal, look-value}
 
 -- Both tests are true.
@@ -19,11 +20,11 @@ and-true true b e = (refl, e)
 and-true false b e = (e, cc)
 
 module _ {B : Type 0} (D : Domain B) (σ : ℕ → Term B) where
-  -- σ solves the store and the pairs, and E holds.
+  -- The valuation σ solves the store and the pairs, and E holds.
   abbrev pub SolvesWith : Store → Type 0 → List Pair → Type 0
   SolvesWith s E ps = Solves D σ s × E × All (Equal D σ) ps
 
-  -- σ solves a matching: the store, what is to be bound, the pairs that are left.
+  -- The valuation σ solves a matching: the store, what is to be bound, and the pairs that are left.
   unfoldable pub SolvesMatching : Matching → Type 0
   SolvesMatching (pairs s ps) = Solves D σ s × All (Equal D σ) ps
   SolvesMatching (check s y t n ns ps) = SolvesWith s (σ y ≡ substitute t (value D σ)) ps
@@ -34,14 +35,15 @@ module _ {B : Type 0} (D : Domain B) (σ : ℕ → Term B) where
   unfolding lower update
   lower-sound s z k h = record { equations = h .equations; levels = λ x b. go x (eqb x z) refl (h .levels x b) }
     where
-      go : (x : ℕ) (c : Bool) → eqb x z ≡ c → levelBy (σ x) (D .level) ≤ cond c (min (s .level z) k) (s .level x) → levelBy (σ x) (D .level) ≤ s .level x
+      go : (x : ℕ) (c : Bool) → eqb x z ≡ c → levelBy (σ x) (D .level) ≤ cond c (min (s .level z) k) (s .level x)
+          → levelBy (σ x) (D .level) ≤ s .level x
       go x true e l = rw (ap (s .level) (eqb-true x z e)) (omega arith)
       go x false e l = l
 
   -- After a node: the next one, or the binding.
-  onNode-sound : (s : Store) (y : ℕ) (t : Term Leaf) (ns : List (Term Leaf)) (ps : List Pair) → SolvesMatching (onNode s y t ns ps)
+  onNode-sound : (s : Store) (y : ℕ) (t : Term Leaf) (ns : List (Term Leaf)) (ps : List Pair) → SolvesMatching (afterNode s y t ns ps)
       → SolvesWith s (σ y ≡ substitute t (value D σ)) ps
-  unfolding onNode SolvesMatching bind
+  unfolding afterNode SolvesMatching bind
   onNode-sound s y t [] ps h = (record { equations = h .0 .equations .1; levels = h .0 .levels }, h .0 .equations .0, h .1)
   onNode-sound s y t (n ∷ ns) ps h = h
 
@@ -51,12 +53,13 @@ module _ {B : Type 0} (D : Domain B) (σ : ℕ → Term B) where
   unfolding visit SolvesMatching
   visit-sound s y t (leaf (var z)) ns ps h = go (eqb z y) h
     where
-      go : (c : Bool) → SolvesMatching (cond c fail (onNode (lower s z (s .level y)) y t ns ps)) → SolvesWith s (σ y ≡ substitute t (value D σ)) ps
+      go : (c : Bool) → SolvesMatching (cond c fail (afterNode (lower s z (s .level y)) y t ns ps))
+          → SolvesWith s (σ y ≡ substitute t (value D σ)) ps
       go true h = absurd h
       go false h = let r = onNode-sound (lower s z (s .level y)) y t ns ps h in (lower-sound s z (s .level y) (r .0), r .1, r .2)
   visit-sound s y t (leaf (con c j)) ns ps h = go (leb j (s .level y)) h
     where
-      go : (c : Bool) → SolvesMatching (cond c (onNode s y t ns ps) fail) → SolvesWith s (σ y ≡ substitute t (value D σ)) ps
+      go : (c : Bool) → SolvesMatching (cond c (afterNode s y t ns ps) fail) → SolvesWith s (σ y ≡ substitute t (value D σ)) ps
       go true h = onNode-sound s y t ns ps h
       go false h = absurd h
   visit-sound s y t (app f ts) ns ps h = onNode-sound s y t (pushTerms ts ns) ps h
@@ -82,7 +85,8 @@ module _ {B : Type 0} (D : Domain B) (σ : ℕ → Term B) where
   unfolding compareTerms SolvesMatching substitute value
   compareTerms-sound s (leaf (var x)) (leaf (var y)) ps h = go (eqb x y) refl h
     where
-      go : (c : Bool) → eqb x y ≡ c → SolvesMatching (cond c (pairs s ps) (check s x (leaf (var y)) (leaf (var y)) [] ps)) → SolvesWith s (σ x ≡ σ y) ps
+      go : (c : Bool) → eqb x y ≡ c → SolvesMatching (cond c (pairs s ps) (check s x (leaf (var y)) (leaf (var y)) [] ps))
+          → SolvesWith s (σ x ≡ σ y) ps
       go true e h = (h .0, ap σ (eqb-true x y e), h .1)
       go false e h = h
   compareTerms-sound s (leaf (var x)) (leaf (con d j)) ps h = h
@@ -92,7 +96,8 @@ module _ {B : Type 0} (D : Domain B) (σ : ℕ → Term B) where
     where
       go : (b : Bool) → eqb c d && eqb k j ≡ b → SolvesMatching (cond b (pairs s ps) fail)
           → SolvesWith s (leaf (D .constant c k) ≡ leaf (D .constant d j)) ps
-      go true e h = let r = and-true (eqb c d) (eqb k j) e in (h .0, ap leaf (ap₂ (D .constant) (eqb-true c d (r .0)) (eqb-true k j (r .1))), h .1)
+      go true e h =
+          let r = and-true (eqb c d) (eqb k j) e in (h .0, ap leaf (ap₂ (D .constant) (eqb-true c d (r .0)) (eqb-true k j (r .1))), h .1)
       go false e h = absurd h
   compareTerms-sound s (leaf (con c k)) (app g us) ps h = absurd h
   compareTerms-sound s (app f ts) (leaf (var y)) ps h = (h .0, sym (h .1), h .2)

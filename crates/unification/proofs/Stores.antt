@@ -11,14 +11,16 @@ use Rattle.terms.specs.Lists.{update}
 use Rattle.terms.specs.Terms.{Term, Leaves, Appears}
 use Rattle.terms.proofs.Lists.{update-same, update-other, all-weaken}
 use Rattle.terms.proofs.Terms.{appears-leaves, leaves-weaken}
-use Rattle.unification.specs.Store.{Leaf, var, con, Binding, Store, look, lower, bind, freshLevels, past, fresh, boundTo, solved, solution}
+use Rattle.unification.specs.Store.{Leaf, var, con, Binding, Store, look, lower, bind, freshLevels, past, fresh, boundTo, solved}
+use Rattle.unification.specs.Store.{solution}
 use Rattle.unification.specs.Promises.{Below, BelowBinding, Unbound, WellBound, Formed, reading}
 use Rattle.unification.proofs.Substitution.{con-not-var, apply-variable}
 use Rattle.unification.proofs.Look.{unbound-beyond}
 use Rattle.unification.proofs.Solution.{Stays, Enters, bind-appears, unbound-appears}
 
 -- Final values of terms below the next number are below it.
-pub reading-below : (s : Store) (t : Term Leaf) (z : ℕ) → Formed s → Leaves t (Below (s .next)) → Appears (reading s t) (var z) → z < s .next
+pub reading-below : (s : Store) (t : Term Leaf) (z : ℕ) → Formed s → Leaves t (Below (s .next)) → Appears (reading s t) (var z)
+    → z < s .next
 unfolding Below
 reading-below s t z f b h =
     let r = apply-variable t (solution s) z h in
@@ -54,7 +56,13 @@ lower-le s z k x = go (eqb x z) refl
 -- A store stays formed when an unbound variable is lowered.
 pub lower-formed : (s : Store) (z k : ℕ) → Unbound (s .bindings) z → Formed s → Formed (lower s z k)
 unfolding lower solution
-lower-formed s z k u f = record { bound = f .bound; below = f .below; proper = λ x c j l h. proper x c j l h (eqb x z) refl; ordered = λ x w l h. ordered x w l h (eqb x z) refl }
+lower-formed s z k u f =
+    record {
+      bound = f .bound;
+      below = f .below;
+      proper = λ x c j l h. proper x c j l h (eqb x z) refl;
+      ordered = λ x w l h. ordered x w l h (eqb x z) refl;
+    }
   where
     itself : (x : ℕ) (a : Leaf) → eqb x z ≡ true → Appears (solution s x) a → a ≡ var x
     itself x a e h = solution-unbound s x a f (subst (λ (y : ℕ). Unbound (s .bindings) y) (sym (eqb-true x z e)) u) h
@@ -63,7 +71,8 @@ lower-formed s z k u f = record { bound = f .bound; below = f .below; proper = �
     proper x c j l h true e = absurd (con-not-var c j x (itself x (con c j) e h))
     proper x c j l h false e = let p = lower-other s z k x (eqb-false x z e) in let q = f .proper x c j l h in omega arith
 
-    ordered : (x w : ℕ) → x < s .next → Appears (solution s x) (var w) → (b : Bool) → eqb x z ≡ b → (w < s .next) × ((lower s z k) .level w ≤ (lower s z k) .level x)
+    ordered : (x w : ℕ) → x < s .next → Appears (solution s x) (var w) → (b : Bool) → eqb x z ≡ b → (w < s .next)
+        × ((lower s z k) .level w ≤ (lower s z k) .level x)
     ordered x w l h true e = let q : w ≡ x = (let p = itself x (var w) e h in cc) in rw q (omega arith)
     ordered x w l h false e =
         let p = lower-other s z k x (eqb-false x z e) in
@@ -78,7 +87,8 @@ Allowed s y (var z) = (z ≡ y → ⊥) × (s .level z ≤ s .level y)
 Allowed s y (con c k) = k ≤ s .level y
 
 -- A range check that has let everything pass: the binding keeps the store formed.
-pub bind-formed : (s : Store) (y : ℕ) (t : Term Leaf) → Unbound (s .bindings) y → look (s .bindings) t ≡ t → y < s .next → Leaves t (Below (s .next))
+pub bind-formed : (s : Store) (y : ℕ) (t : Term Leaf) → Unbound (s .bindings) y → look (s .bindings) t ≡ t → y < s .next
+    → Leaves t (Below (s .next))
     → ((a : Leaf) → Appears (reading s t) a → Allowed s y a) → Formed s → Formed (bind s y t)
 unfolding bind solution WellBound Allowed
 bind-formed s y t u e l b allowed f = record {
@@ -100,7 +110,8 @@ bind-formed s y t u e l b allowed f = record {
 
     ordered : (x z : ℕ) → x < s .next → Stays new bs x (var z) ⊎ Enters new bs x (var z) → (z < s .next) × (s .level z ≤ s .level x)
     ordered x z m (inl h) = f .ordered x z m (h .0)
-    ordered x z m (inr h) = (reading-below s t z f b (h .1), (let p = f .ordered x y m (h .0) .1 in let q = allowed (var z) (h .1) .1 in omega arith))
+    ordered x z m (inr h) =
+        (reading-below s t z f b (h .1), (let p = f .ordered x y m (h .0) .1 in let q = allowed (var z) (h .1) .1 in omega arith))
 
 -- Fresh variables
 
@@ -123,7 +134,8 @@ past-le (v ∷ vs) n = let h = past-le vs (suc n) in omega arith
 pub freshLevels-older : (vs : List ℕ) (n i : ℕ) (l : ℕ → ℕ) (x : ℕ) → x < n → freshLevels vs n i l x ≡ l x
 unfolding freshLevels
 freshLevels-older [] n i l x h = refl
-freshLevels-older (v ∷ vs) n i l x h = freshLevels-older vs (suc n) i (update l n i) x (omega arith) ∙ update-other l n i x (λ q. omega arith)
+freshLevels-older (v ∷ vs) n i l x h =
+    freshLevels-older vs (suc n) i (update l n i) x (omega arith) ∙ update-other l n i x (λ q. omega arith)
 
 -- A store stays formed.
 pub fresh-formed : (vs : List ℕ) (i : ℕ) (s : Store) → Formed s → Formed (fresh vs i s)
@@ -145,14 +157,16 @@ fresh-formed vs i s f = record {
     proper x c k h true e = let l = ltb-true x (s .next) e in rw (freshLevels-older vs (s .next) i (s .level) x l) (f .proper x c k l h)
     proper x c k h false e = absurd (con-not-var c k x (solution-beyond s x (con c k) f (ltb-false x (s .next) e) h))
 
-    ordered : (x z : ℕ) → x < past vs (s .next) → Appears (solution s x) (var z) → (b : Bool) → ltb x (s .next) ≡ b → (z < past vs (s .next)) × (levels z ≤ levels x)
+    ordered : (x z : ℕ) → x < past vs (s .next) → Appears (solution s x) (var z) → (b : Bool) → ltb x (s .next) ≡ b
+        → (z < past vs (s .next)) × (levels z ≤ levels x)
     ordered x z m h true e =
         let l = ltb-true x (s .next) e in
         let o = f .ordered x z l h in
         let p = past-le vs (s .next) in
         let q = o .0 in
         (omega arith, rw (freshLevels-older vs (s .next) i (s .level) x l, freshLevels-older vs (s .next) i (s .level) z (o .0)) (o .1))
-    ordered x z m h false e = let q : z ≡ x = (let p = solution-beyond s x (var z) f (ltb-false x (s .next) e) h in cc) in rw q (m, omega arith)
+    ordered x z m h false e =
+        let q : z ≡ x = (let p = solution-beyond s x (var z) f (ltb-false x (s .next) e) h in cc) in rw q (m, omega arith)
 
 -- A store without bindings.
 pub empty-formed : (l : ℕ → ℕ) (n : ℕ) → Formed (record { bindings = []; level = l; next = n })

@@ -48,7 +48,8 @@ unfolding onlyAt
 onlyAt-other y t x h = update-other (λ x. leaf (var x)) y t x h
 
 -- A variable of a term with a substitution put to use comes from a variable of the term.
-pub apply-variable : (t : Term Leaf) (θ : ℕ → Term Leaf) (x : ℕ) → Appears (apply t θ) (var x) → (z : ℕ) × Appears t (var z) × Appears (θ z) (var x)
+pub apply-variable : (t : Term Leaf) (θ : ℕ → Term Leaf) (x : ℕ) → Appears (apply t θ) (var x) → (z : ℕ) × Appears t (var z)
+    × Appears (θ z) (var x)
 unfolding at Appears
 apply-variable t θ x h = let r = appears-substitute t (at θ) (var x) h in go (r .0) (r .1) (r .2)
   where

@@ -11,21 +11,23 @@ use borrow.Author.Tests.{eqb-true, eqb-false, leb-true, leb-false}
 use Rattle.terms.specs.Lists.{All}
 use Rattle.terms.specs.Terms.{Term, leaf, app, Terms, nil, cons, substitute, substitutes, Appears, AppearsIn}
 use Rattle.unification.specs.Store.{Leaf, var, con, Binding, Store, look, lower, bind, at, solution}
-use Rattle.unification.specs.Matching.{Pair, Matching, pairs, check, fail, pushTerms, pushPairs, comparing, onNode, visit, compareTerms, matchStep, matchSteps}
+use Rattle.unification.specs.Matching.{Pair, Matching, pairs, check, fail, pushTerms, pushPairs, comparing, afterNode, visit}
+use Rattle.unification.specs.Matching.{compareTerms, matchStep, matchSteps}
 use Rattle.unification.specs.Promises.{Unbound, WellBound, Formed, reading}
 use Rattle.unification.proofs.Solution.{final, boundTo-unbound, unbound-before, stays-appears, enters-appears, look-twice}
 use Rattle.unification.proofs.General.{apply-look}
 use Rattle.unification.proofs.Stores.{lower-same, lower-other, lower-le, lower-formed}
 use Rattle.unification.proofs.Invariant.{Running, matchStep-running, matchSteps-running}
 
--- s₀ is the store at the start of the matching, s the present one: unbound variables were unbound, levels were no lower.
+-- The store s comes later in the matching than s₀: its unbound variables were unbound, and levels were no lower.
 pub record Later (s₀ s : Store) : Type 0 where
   pub unbound : (x : ℕ) → Unbound (s .bindings) x → Unbound (s₀ .bindings) x
   pub levels : (x : ℕ) → s .level x ≤ s₀ .level x
 
 -- The level of x is its own at the start, or that of a variable, unbound then, in whose final value x appears.
 abbrev pub Origin : Store → Store → ℕ → Type 0
-Origin s₀ s x = (s .level x ≡ s₀ .level x) ⊎ ((y : ℕ) × Unbound (s₀ .bindings) y × Appears (solution s y) (var x) × (s .level x ≡ s₀ .level y))
+Origin s₀ s x =
+    (s .level x ≡ s₀ .level x) ⊎ ((y : ℕ) × Unbound (s₀ .bindings) y × Appears (solution s y) (var x) × (s .level x ≡ s₀ .level y))
 
 -- In a range check for y of t, or it is that of y, x appearing in the final value of t.
 abbrev pub Seen : Store → Store → ℕ → Term Leaf → ℕ → Type 0
@@ -70,13 +72,15 @@ same-origin s₀ s z k x e (inl q) = inl (e ∙ q)
 same-origin s₀ s z k x e (inr q) = inr (q .0, q .1, q .2, e ∙ q .3)
 
 -- The same in a range check.
-same-seen : (s₀ s : Store) (z k y : ℕ) (t : Term Leaf) (x : ℕ) → (lower s z k) .level x ≡ s .level x → (lower s z k) .level y ≡ s .level y → Seen s₀ s y t x → Seen s₀ (lower s z k) y t x
+same-seen : (s₀ s : Store) (z k y : ℕ) (t : Term Leaf) (x : ℕ) → (lower s z k) .level x ≡ s .level x → (lower s z k) .level y ≡ s .level y
+    → Seen s₀ s y t x → Seen s₀ (lower s z k) y t x
 unfolding lower solution
 same-seen s₀ s z k y t x e f (inl q) = inl (same-origin s₀ s z k x e q)
 same-seen s₀ s z k y t x e f (inr q) = inr (q .0, e ∙ q .1 ∙ sym f)
 
 -- A variable z that is not y, which appears in the final value of t, lowered to the level of y.
-lower-tracing : (s₀ s : Store) (y : ℕ) (t : Term Leaf) (z : ℕ) (ns : List (Term Leaf)) → (z ≡ y → ⊥) → Unbound (s .bindings) z → Formed s → Tracing s₀ s y t (leaf (var z) ∷ ns)
+lower-tracing : (s₀ s : Store) (y : ℕ) (t : Term Leaf) (z : ℕ) (ns : List (Term Leaf)) → (z ≡ y → ⊥) → Unbound (s .bindings) z → Formed s
+    → Tracing s₀ s y t (leaf (var z) ∷ ns)
     → Tracing s₀ (lower s z (s .level y)) y t ns
 unfolding lower solution substitute at Appears
 lower-tracing s₀ s y t z ns d u f c = record {
@@ -106,7 +110,8 @@ lower-tracing s₀ s y t z ns d u f c = record {
 -- Bindings
 
 -- After the binding every level comes from the start.
-bind-tracked : (s₀ s : Store) (y : ℕ) (t : Term Leaf) (ps : List Pair) → Formed s → Formed (bind s y t) → Tracing s₀ s y t [] → Tracked s₀ (pairs (bind s y t) ps)
+bind-tracked : (s₀ s : Store) (y : ℕ) (t : Term Leaf) (ps : List Pair) → Formed s → Formed (bind s y t) → Tracing s₀ s y t []
+    → Tracked s₀ (pairs (bind s y t) ps)
 unfolding Tracked bind WellBound solution Appears
 bind-tracked s₀ s y t ps f g c = (
   record { unbound = λ x u. c .later .unbound x (unbound-before b bs x (g .bound) u .0); levels = c .later .levels },
@@ -136,20 +141,23 @@ bind-tracked s₀ s y t ps f g c = (
 
 module _ (R : ℕ → Type 0) (s₀ : Store) where
   -- After a node: the next one, or the binding.
-  onNode-tracked : (s : Store) (y : ℕ) (t : Term Leaf) (ns : List (Term Leaf)) (ps : List Pair) → Formed s → Running R (onNode s y t ns ps) → Tracing s₀ s y t ns → Tracked s₀ (onNode s y t ns ps)
-  unfolding onNode Running Tracked
+  onNode-tracked : (s : Store) (y : ℕ) (t : Term Leaf) (ns : List (Term Leaf)) (ps : List Pair) → Formed s
+      → Running R (afterNode s y t ns ps) → Tracing s₀ s y t ns → Tracked s₀ (afterNode s y t ns ps)
+  unfolding afterNode Running Tracked
   onNode-tracked s y t [] ps f r c = bind-tracked s₀ s y t ps f (r .0 .formed) c
   onNode-tracked s y t (n ∷ ns) ps f r c = c
 
   -- The arguments of a node within t are within t.
-  pushTerms-within : (s : Store) (t : Term Leaf) (ts : Terms Leaf) (ns : List (Term Leaf)) → ((z : ℕ) → AppearsIn (substitutes ts (at (solution s))) (var z) → Appears (reading s t) (var z))
+  pushTerms-within : (s : Store) (t : Term Leaf) (ts : Terms Leaf) (ns : List (Term Leaf))
+      → ((z : ℕ) → AppearsIn (substitutes ts (at (solution s))) (var z) → Appears (reading s t) (var z))
       → All (Within s t) ns → All (Within s t) (pushTerms ts ns)
   unfolding pushTerms substitute Appears
   pushTerms-within s t nil ns h w = w
   pushTerms-within s t (cons u us) ns h w = ((λ z v. h z (inl v)), pushTerms-within s t us ns (λ z v. h z (inr v)) w)
 
-  -- u is the node that is due, as looked through.
-  visit-tracked : (s : Store) (y : ℕ) (t u : Term Leaf) (ns : List (Term Leaf)) (ps : List Pair) → Formed s → look (s .bindings) u ≡ u → Running R (visit s y t u ns ps)
+  -- Looking at a node u, given as looked through, keeps it known where the levels come from.
+  visit-tracked : (s : Store) (y : ℕ) (t u : Term Leaf) (ns : List (Term Leaf)) (ps : List Pair) → Formed s → look (s .bindings) u ≡ u
+      → Running R (visit s y t u ns ps)
       → Tracing s₀ s y t (u ∷ ns) → Tracked s₀ (visit s y t u ns ps)
   unfolding visit Tracked substitute Appears
   visit-tracked s y t (leaf (var z)) ns ps f e r c = go (eqb z y) refl r
@@ -157,19 +165,22 @@ module _ (R : ℕ → Type 0) (s₀ : Store) where
       k : ℕ
       k = s .level y
 
-      go : (b : Bool) → eqb z y ≡ b → Running R (cond b fail (onNode (lower s z k) y t ns ps)) → Tracked s₀ (cond b fail (onNode (lower s z k) y t ns ps))
+      go : (b : Bool) → eqb z y ≡ b → Running R (cond b fail (afterNode (lower s z k) y t ns ps))
+          → Tracked s₀ (cond b fail (afterNode (lower s z k) y t ns ps))
       go true q r = tt
       go false q r = onNode-tracked (lower s z k) y t ns ps (lower-formed s z k e f) r (lower-tracing s₀ s y t z ns (eqb-false z y q) e f c)
   visit-tracked s y t (leaf (con d j)) ns ps f e r c = go (leb j (s .level y)) r
     where
-      go : (b : Bool) → Running R (cond b (onNode s y t ns ps) fail) → Tracked s₀ (cond b (onNode s y t ns ps) fail)
+      go : (b : Bool) → Running R (cond b (afterNode s y t ns ps) fail) → Tracked s₀ (cond b (afterNode s y t ns ps) fail)
       go true r = onNode-tracked s y t ns ps f r (record { later = c .later; own = c .own; seen = c .seen; within = c .within .1 })
       go false r = tt
   visit-tracked s y t (app h ts) ns ps f e r c =
-      onNode-tracked s y t (pushTerms ts ns) ps f r (record { later = c .later; own = c .own; seen = c .seen; within = pushTerms-within s t ts ns (c .within .0) (c .within .1) })
+      onNode-tracked s y t (pushTerms ts ns) ps f r
+      (record { later = c .later; own = c .own; seen = c .seen; within = pushTerms-within s t ts ns (c .within .0) (c .within .1) })
 
   -- A range check begins with the whole term.
-  check-tracked : (s : Store) (y : ℕ) (t : Term Leaf) (ps : List Pair) → Unbound (s .bindings) y → Tracked s₀ (pairs s ps) → Tracked s₀ (check s y t t [] ps)
+  check-tracked : (s : Store) (y : ℕ) (t : Term Leaf) (ps : List Pair) → Unbound (s .bindings) y → Tracked s₀ (pairs s ps)
+      → Tracked s₀ (check s y t t [] ps)
   unfolding Tracked
   check-tracked s y t ps u h = record { later = h .0; own = h .1 y u; seen = λ x v. inl (h .1 x v); within = ((λ z v. v), tt) }
 
@@ -186,7 +197,8 @@ module _ (R : ℕ → Type 0) (s₀ : Store) where
   if-tracked false m h = tt
 
   -- One pair, t and u being its sides as looked through.
-  compareTerms-tracked : (s : Store) (t u : Term Leaf) (ps : List Pair) → look (s .bindings) t ≡ t → look (s .bindings) u ≡ u → Tracked s₀ (pairs s ps) → Tracked s₀ (compareTerms s t u ps)
+  compareTerms-tracked : (s : Store) (t u : Term Leaf) (ps : List Pair) → look (s .bindings) t ≡ t → look (s .bindings) u ≡ u
+      → Tracked s₀ (pairs s ps) → Tracked s₀ (compareTerms s t u ps)
   unfolding compareTerms Tracked
   compareTerms-tracked s (leaf (var x)) (leaf (var y)) ps et eu h = go (eqb x y)
     where
@@ -200,16 +212,19 @@ module _ (R : ℕ → Type 0) (s₀ : Store) where
   compareTerms-tracked s (leaf (con c k)) (app g us) ps et eu h = tt
   compareTerms-tracked s (app f ts) (leaf (var y)) ps et eu h = check-tracked s y (app f ts) ps eu h
   compareTerms-tracked s (app f ts) (leaf (con d j)) ps et eu h = tt
-  compareTerms-tracked s (app f ts) (app g us) ps et eu h = if-tracked (eqb f g) (comparing s (pushPairs ts us ps)) (comparing-tracked s (pushPairs ts us ps) ps h)
+  compareTerms-tracked s (app f ts) (app g us) ps et eu h =
+      if-tracked (eqb f g) (comparing s (pushPairs ts us ps)) (comparing-tracked s (pushPairs ts us ps) ps h)
 
   -- The node that is due, looked through.
-  look-tracing : (s : Store) (y : ℕ) (t n : Term Leaf) (ns : List (Term Leaf)) → Formed s → Tracing s₀ s y t (n ∷ ns) → Tracing s₀ s y t (look (s .bindings) n ∷ ns)
+  look-tracing : (s : Store) (y : ℕ) (t n : Term Leaf) (ns : List (Term Leaf)) → Formed s → Tracing s₀ s y t (n ∷ ns)
+      → Tracing s₀ s y t (look (s .bindings) n ∷ ns)
   unfolding solution
   look-tracing s y t n ns f c = record {
     later = c .later;
     own = c .own;
     seen = c .seen;
-    within = ((λ z v. c .within .0 z (subst (λ (u : Term Leaf). Appears u (var z)) (apply-look (s .bindings) n (f .bound)) v)), c .within .1);
+    within =
+        ((λ z v. c .within .0 z (subst (λ (u : Term Leaf). Appears u (var z)) (apply-look (s .bindings) n (f .bound)) v)), c .within .1);
   }
 
   -- One act.
@@ -222,7 +237,8 @@ module _ (R : ℕ → Type 0) (s₀ : Store) where
       compareTerms-tracked s (look bs (p .goal)) (look bs (p .clause)) ps (look-twice bs (p .goal) w) (look-twice bs (p .clause) w) h
   matchStep-tracked (check s y t n ns ps) r h =
       let f = r .0 .good .formed in
-      visit-tracked s y t (look (s .bindings) n) ns ps f (look-twice (s .bindings) n (f .bound)) (matchStep-running R (check s y t n ns ps) r) (look-tracing s y t n ns f h)
+      visit-tracked s y t (look (s .bindings) n) ns ps f (look-twice (s .bindings) n (f .bound))
+      (matchStep-running R (check s y t n ns ps) r) (look-tracing s y t n ns f h)
   matchStep-tracked fail r h = tt
 
   -- Any number of acts.

@@ -36,7 +36,11 @@ constants-level t n h = level-leaves t leafLevel n (leaves-appear t (λ a. leafL
 -- The final values of a formed store solve it.
 pub final-solves : (s : Store) → Formed s → Solves searchTerms (solution s) s
 unfolding solution searchTerms
-final-solves s f = record { equations = final-equations (s .bindings) (f .bound); levels = λ x l. constants-level (solution s x) (s .level x) (λ c k h. f .proper x c k l h) }
+final-solves s f =
+    record {
+      equations = final-equations (s .bindings) (f .bound);
+      levels = λ x l. constants-level (solution s x) (s .level x) (λ c k h. f .proper x c k l h);
+    }
 
 -- A unifier of the pairs, bindings put to use, gives a solution of the store and the pairs.
 module _ (s : Store) (φ : ℕ → Term Leaf) where
@@ -51,9 +55,11 @@ module _ (s : Store) (φ : ℕ → Term Leaf) where
   unifier-equal (p ∷ ps) h = (general-apply (p .goal) ∙ h .0 ∙ sym (general-apply (p .clause)), unifier-equal ps (h .1))
 
 -- It solves the store, if the unifier is proper.
-pub unifier-solves : (s : Store) (L : Labelling) (φ : Substitution) → Formed s → Labels L s → Proper L φ → Solves searchTerms (general searchTerms (s .bindings) (φ .to)) s
+pub unifier-solves : (s : Store) (L : Labelling) (φ : Substitution) → Formed s → Labels L s → Proper L φ
+    → Solves searchTerms (general searchTerms (s .bindings) (φ .to)) s
 unfolding searchTerms
-unifier-solves s L φ f a p = general-solves searchTerms s (φ .to) f (λ z l u. constants-level (φ .to z) (s .level z) (λ c k h. low z c k u (p z c k h)))
+unifier-solves s L φ f a p =
+    general-solves searchTerms s (φ .to) f (λ z l u. constants-level (φ .to z) (s .level z) (λ c k h. low z c k u (p z c k h)))
   where
     low : (z c k : ℕ) → Unbound (s .bindings) z → k ≤ L z → k ≤ s .level z
     low z c k u h = let q = a z u in omega arith
@@ -74,7 +80,8 @@ module _ (s s′ : Store) (f : Formed s) (f′ : Formed s′) (l : Later s s′)
   found-unbound x u = rw (unbound-isUnbound (s .bindings) x u)
 
   -- A property of all values found, by cases.
-  found-cases : (P : ℕ → Term Leaf → Type 0) → ((x : ℕ) → Unbound (s .bindings) x → P x (solution s′ x)) → ((x : ℕ) → P x (leaf (var x))) → (x : ℕ) → P x (found s s′ x)
+  found-cases : (P : ℕ → Term Leaf → Type 0) → ((x : ℕ) → Unbound (s .bindings) x → P x (solution s′ x)) → ((x : ℕ) → P x (leaf (var x)))
+      → (x : ℕ) → P x (found s s′ x)
   unfolding found
   found-cases P h k x = go (isUnbound (s .bindings) x) refl
     where
@@ -100,14 +107,17 @@ module _ (s s′ : Store) (f : Formed s) (f′ : Formed s′) (l : Later s s′)
   unfolding solution general
   final-composed h x =
       sym (general-itself searchTerms (s .bindings) (solution s′) x h) ∙ ap (substitute (solution s x)) (value-at (solution s′))
-      ∙ apply-agree (solution s x) (solution s′) (found s s′) (λ z i. sym (found-unbound z (appears-unbound (s .bindings) x z (f .bound) i)))
+      ∙ apply-agree (solution s x) (solution s′) (found s s′)
+      (λ z i. sym (found-unbound z (appears-unbound (s .bindings) x z (f .bound) i)))
 
   -- The same of terms: S′(t) = found(S(t)).
-  pub reading-composed : All (Equation searchTerms (solution s′)) (s .bindings) → (t : Term Leaf) → reading s′ t ≡ apply (reading s t) (found s s′)
+  pub reading-composed : All (Equation searchTerms (solution s′)) (s .bindings) → (t : Term Leaf)
+      → reading s′ t ≡ apply (reading s t) (found s s′)
   reading-composed h t = ap (apply t) (fun-ext (final-composed h)) ∙ sym (apply-apply t (solution s) (found s s′))
 
   -- It unifies the pairs, if S′ makes them equal.
-  pub found-unifies : All (Equation searchTerms (solution s′)) (s .bindings) → (ps : List Pair) → All (Equal searchTerms (solution s′)) ps → All (Unified (found s s′)) (readPairs s ps)
+  pub found-unifies : All (Equation searchTerms (solution s′)) (s .bindings) → (ps : List Pair) → All (Equal searchTerms (solution s′)) ps
+      → All (Unified (found s s′)) (readPairs s ps)
   found-unifies h [] k = tt
   found-unifies h (p ∷ ps) k =
       let same : reading s′ (p .goal) ≡ reading s′ (p .clause) = rw (← value-at (solution s′)) (k .0) in
@@ -116,7 +126,9 @@ module _ (s s′ : Store) (f : Formed s) (f′ : Formed s′) (l : Later s s′)
   -- It is proper.
   pub found-proper : (L : Labelling) → Labels L s → Proper L mgu
   unfolding mgu Appears
-  found-proper L a x c k h = found-cases (λ x t. Appears t (con c k) → k ≤ L x) (λ x u i. low x u i (ltb x (s .next)) refl) (λ x i. absurd (con-not-var c k x i)) x h
+  found-proper L a x c k h =
+      found-cases (λ x t. Appears t (con c k) → k ≤ L x) (λ x u i. low x u i (ltb x (s .next)) refl)
+      (λ x i. absurd (con-not-var c k x i)) x h
     where
       low : (x : ℕ) → Unbound (s .bindings) x → Appears (solution s′ x) (con c k) → (b : Bool) → ltb x (s .next) ≡ b → k ≤ L x
       low x u i true e =
@@ -127,8 +139,9 @@ module _ (s s′ : Store) (f : Formed s) (f′ : Formed s′) (l : Later s s′)
           omega arith
       low x u i false e = let p = ltb-false x (s .next) e in absurd (con-not-var c k x (solution-beyond s′ x (con c k) f′ (omega arith) i))
 
-  -- φ = φ ∘ found, if the solution that φ gives of s solves the bindings of s′.
-  pub found-absorbed : (φ : ℕ → Term Leaf) → All (Equation searchTerms (general searchTerms (s .bindings) φ)) (s′ .bindings) → Composed φ φ (found s s′)
+  -- The substitution φ is φ ∘ found, if the solution that φ gives of s solves the bindings of s′.
+  pub found-absorbed : (φ : ℕ → Term Leaf) → All (Equation searchTerms (general searchTerms (s .bindings) φ)) (s′ .bindings)
+      → Composed φ φ (found s s′)
   unfolding substitute at solution general
   found-absorbed φ h = found-cases (λ x t. φ x ≡ apply t φ) at-unbound (λ x. refl)
     where
@@ -159,7 +172,12 @@ module _ (s s′ : Store) (f : Formed s) (f′ : Formed s′) (l : Later s s′)
   -- The levels are the labelling that it induces.
   pub found-induced : (L : Labelling) → Labels L s → ((x : ℕ) → Unbound (s′ .bindings) x → Origin s s′ x) → Induced L mgu (foundLabels L s′)
   unfolding foundLabels mgu Appears solution
-  found-induced L a o = record { own = λ x. own x (isUnbound (s′ .bindings) x) refl; other = other; attained = λ x. attained x (isUnbound (s′ .bindings) x) refl }
+  found-induced L a o =
+      record {
+        own = λ x. own x (isUnbound (s′ .bindings) x) refl;
+        other = other;
+        attained = λ x. attained x (isUnbound (s′ .bindings) x) refl;
+      }
     where
       own : (x : ℕ) (b : Bool) → isUnbound (s′ .bindings) x ≡ b → cond b (s′ .level x) (L x) ≤ L x
       own x true e = let p = l .levels x in let q = a x (l .unbound x (isUnbound-true (s′ .bindings) x e)) in omega arith
@@ -167,14 +185,18 @@ module _ (s s′ : Store) (f : Formed s) (f′ : Formed s′) (l : Later s s′)
 
       other : (x y : ℕ) → Appears (found s s′ y) (var x) → foundLabels L s′ x ≤ L y
       other x y h = found-cases (λ y t. Appears t (var x) → foundLabels L s′ x ≤ L y)
-          (λ y u i. rw (unbound-isUnbound (s′ .bindings) x (appears-unbound (s′ .bindings) y x (f′ .bound) i)) (let p = level-other x y i in let q = a y u in omega arith))
+          (λ y u i. rw (unbound-isUnbound (s′ .bindings) x (appears-unbound (s′ .bindings) y x (f′ .bound) i))
+          (let p = level-other x y i in let q = a y u in omega arith))
           (λ y i. (let q : x ≡ y = cc in subst (λ (z : ℕ). foundLabels L s′ x ≤ L z) q (own x (isUnbound (s′ .bindings) x) refl))) y h
 
-      from : (x : ℕ) → Unbound (s′ .bindings) x → Origin s s′ x → (s′ .level x ≡ L x) ⊎ ((y : ℕ) × Appears (found s s′ y) (var x) × (s′ .level x ≡ L y))
+      from : (x : ℕ) → Unbound (s′ .bindings) x → Origin s s′ x → (s′ .level x ≡ L x)
+          ⊎ ((y : ℕ) × Appears (found s s′ y) (var x) × (s′ .level x ≡ L y))
       from x u (inl e) = inl (e ∙ sym (a x (l .unbound x u)))
-      from x u (inr q) = inr (q .0, subst (λ (t : Term Leaf). Appears t (var x)) (sym (found-unbound (q .0) (q .1))) (q .2), q .3 ∙ sym (a (q .0) (q .1)))
+      from x u (inr q) =
+          inr (q .0, subst (λ (t : Term Leaf). Appears t (var x)) (sym (found-unbound (q .0) (q .1))) (q .2), q .3 ∙ sym (a (q .0) (q .1)))
 
-      attained : (x : ℕ) (b : Bool) → isUnbound (s′ .bindings) x ≡ b → (cond b (s′ .level x) (L x) ≡ L x) ⊎ ((y : ℕ) × Appears (found s s′ y) (var x) × (cond b (s′ .level x) (L x) ≡ L y))
+      attained : (x : ℕ) (b : Bool) → isUnbound (s′ .bindings) x ≡ b → (cond b (s′ .level x) (L x) ≡ L x)
+          ⊎ ((y : ℕ) × Appears (found s s′ y) (var x) × (cond b (s′ .level x) (L x) ≡ L y))
       attained x true e = from x (isUnbound-true (s′ .bindings) x e) (o x (isUnbound-true (s′ .bindings) x e))
       attained x false e = inl refl
 

@@ -52,7 +52,8 @@ value-at θ = fun-ext go
 
 module _ {B : Type 0} (D : Domain B) where
   -- A substitution, then a valuation.
-  pub value-apply : (t : Term Leaf) (θ : ℕ → Term Leaf) (σ : ℕ → Term B) → substitute (apply t θ) (value D σ) ≡ substitute t (value D (λ x. substitute (θ x) (value D σ)))
+  pub value-apply : (t : Term Leaf) (θ : ℕ → Term Leaf) (σ : ℕ → Term B)
+      → substitute (apply t θ) (value D σ) ≡ substitute t (value D (λ x. substitute (θ x) (value D σ)))
   unfolding value at substitute
   value-apply t θ σ = substitute-substitute t (at θ) (value D σ) ∙ ap (substitute t) (fun-ext go)
     where
@@ -61,7 +62,8 @@ module _ {B : Type 0} (D : Domain B) where
       go (con c k) = refl
 
   -- Only the variables that appear matter.
-  pub value-agree : (t : Term Leaf) (σ τ : ℕ → Term B) → ((x : ℕ) → Appears t (var x) → σ x ≡ τ x) → substitute t (value D σ) ≡ substitute t (value D τ)
+  pub value-agree : (t : Term Leaf) (σ τ : ℕ → Term B) → ((x : ℕ) → Appears t (var x) → σ x ≡ τ x)
+      → substitute t (value D σ) ≡ substitute t (value D τ)
   unfolding value
   value-agree t σ τ h = substitute-agree t (value D σ) (value D τ) go
     where
@@ -70,7 +72,8 @@ module _ {B : Type 0} (D : Domain B) where
       go (con c j) k = refl
 
   -- Those below n, if the term is below n.
-  pub value-below : (t : Term Leaf) (n : ℕ) (σ τ : ℕ → Term B) → Leaves t (Below n) → ((x : ℕ) → x < n → σ x ≡ τ x) → substitute t (value D σ) ≡ substitute t (value D τ)
+  pub value-below : (t : Term Leaf) (n : ℕ) (σ τ : ℕ → Term B) → Leaves t (Below n) → ((x : ℕ) → x < n → σ x ≡ τ x)
+      → substitute t (value D σ) ≡ substitute t (value D τ)
   unfolding Below
   value-below t n σ τ b h = value-agree t σ τ (λ x k. h x (appears-leaves t (Below n) (var x) b k))
 
@@ -79,7 +82,7 @@ module _ {B : Type 0} (D : Domain B) (σ : ℕ → Term B) where
   abbrev pub Equation : Binding → Type 0
   Equation b = σ (b .name) ≡ substitute (b .value) (value D σ)
 
-  -- σ solves the bindings, and keeps the levels of the variables that have been made.
+  -- The valuation σ solves the bindings, and keeps the levels of the variables that have been made.
   pub record Solves (s : Store) : Type 0 where
     pub equations : All Equation (s .bindings)
     pub levels : (x : ℕ) → x < s .next → levelBy (σ x) (D .level) ≤ s .level x
@@ -105,7 +108,8 @@ module _ {B : Type 0} (D : Domain B) (σ : ℕ → Term B) where
   look-value (b ∷ bs) t h = look1-value (look bs t) b (h .0) ∙ look-value bs t (h .1)
 
 -- Valuations that agree below n solve the same bindings below n.
-pub equations-below : {B : Type 0} (D : Domain B) (bs : List Binding) (n : ℕ) (σ τ : ℕ → Term B) → ((x : ℕ) → x < n → σ x ≡ τ x) → All (BelowBinding n) bs → All (Equation D σ) bs → All (Equation D τ) bs
+pub equations-below : {B : Type 0} (D : Domain B) (bs : List Binding) (n : ℕ) (σ τ : ℕ → Term B) → ((x : ℕ) → x < n → σ x ≡ τ x)
+    → All (BelowBinding n) bs → All (Equation D σ) bs → All (Equation D τ) bs
 equations-below D [] n σ τ h b e = tt
 equations-below D (c ∷ bs) n σ τ h b e =
     (sym (h (c .name) (b .0 .0)) ∙ e .0 ∙ value-below D (c .value) n σ τ (b .0 .1) h, equations-below D bs n σ τ h (b .1) (e .1))

@@ -37,16 +37,16 @@ comparing s none = fail
 comparing s (some ps) = pairs s ps
 
 -- After a node: the next one; or, where none is left, the binding.
-unfoldable pub onNode : Store → ℕ → Term Leaf → List (Term Leaf) → List Pair → Matching
-onNode s y t [] ps = pairs (bind s y t) ps
-onNode s y t (n ∷ ns) ps = check s y t n ns ps
+unfoldable pub afterNode : Store → ℕ → Term Leaf → List (Term Leaf) → List Pair → Matching
+afterNode s y t [] ps = pairs (bind s y t) ps
+afterNode s y t (n ∷ ns) ps = check s y t n ns ps
 
 -- "A range check for a variable of level k walks the other term left to right, looking through bindings: it fails at that
 -- variable or at a made constant above k, and lowers a variable above k to k." The node is given as looked through.
 unfoldable pub visit : Store → ℕ → Term Leaf → Term Leaf → List (Term Leaf) → List Pair → Matching
-visit s y t (leaf (var z)) ns ps = cond (eqb z y) fail (onNode (lower s z (s .level y)) y t ns ps)
-visit s y t (leaf (con c j)) ns ps = cond (leb j (s .level y)) (onNode s y t ns ps) fail
-visit s y t (app f ts) ns ps = onNode s y t (pushTerms ts ns) ps
+visit s y t (leaf (var z)) ns ps = cond (eqb z y) fail (afterNode (lower s z (s .level y)) y t ns ps)
+visit s y t (leaf (con c j)) ns ps = cond (leb j (s .level y)) (afterNode s y t ns ps) fail
+visit s y t (app f ts) ns ps = afterNode s y t (pushTerms ts ns) ps
 
 -- "The same variable or the same made constant twice: done. Goal side a variable: range check the other side, then bind. Else
 -- clause side a variable: likewise. Two applications: the same symbol, then their arguments; else fail." Both sides are given
@@ -69,7 +69,7 @@ matchStep (pairs s (p ∷ ps)) = compareTerms s (look (s .bindings) (p .goal)) (
 matchStep (check s y t n ns ps) = visit s y t (look (s .bindings) n) ns ps
 matchStep fail = fail
 
--- n acts
+-- Does n acts of matching.
 unfoldable pub matchSteps : ℕ → Matching → Matching
 matchSteps zero m = m
 matchSteps (suc n) m = matchStep (matchSteps n m)

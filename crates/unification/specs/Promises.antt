@@ -20,14 +20,16 @@ BelowPair n p = Leaves (p .goal) (Below n) × Leaves (p .clause) (Below n)
 abbrev pub BelowBinding : ℕ → Binding → Type 0
 BelowBinding n b = (b .name < n) × Leaves (b .value) (Below n)
 
--- x is unbound.
+-- The variable x is unbound.
 abbrev pub Unbound : List Binding → ℕ → Type 0
 Unbound bs x = look bs (leaf (var x)) ≡ leaf (var x)
 
 -- Each variable was unbound when it was bound, to a term as looked through in which, bindings applied, it does not appear.
 unfoldable pub WellBound : List Binding → Type 0
 WellBound [] = Unit {0}
-WellBound (b ∷ bs) = Unbound bs (b .name) × (look bs (b .value) ≡ b .value) × (Appears (apply (b .value) (boundTo (solved bs))) (var (b .name)) → ⊥) × WellBound bs
+WellBound (b ∷ bs) =
+    Unbound bs (b .name) × (look bs (b .value) ≡ b .value) × (Appears (apply (b .value) (boundTo (solved bs))) (var (b .name)) → ⊥)
+    × WellBound bs
 
 -- A store as a search has it: its bindings are a substitution without circles, proper for its levels, and no variable in the
 -- value of x has a higher level than x. Every store that a search reaches is one (`search`, promise `Stores`).
@@ -51,16 +53,16 @@ Labels L s = (x : ℕ) → Unbound (s .bindings) x → L x ≡ s .level x
 
 -- What a match that succeeded has found, s being the store before it and s′ the store after it.
 pub record Solved (L : Labelling) (s : Store) (ps : List Pair) (s′ : Store) : Type 0 where
-  -- a most general unifier of the pairs, earlier bindings applied,
+  -- The match has a most general unifier of the pairs, earlier bindings applied.
   pub mgu : Substitution
   pub general : MostGeneral L (readPairs s ps) mgu
-  -- is what is bound: S′ = mgu ∘ S,
+  -- What is bound is the most general unifier: S′ = mgu ∘ S.
   pub composed : (t : Term Leaf) → reading s′ t ≡ apply (reading s t) (mgu .to)
-  -- and the levels are the labelling that it induces;
+  -- The levels are the labelling that the unifier induces.
   pub labelling : Labelling
   pub induced : Induced L mgu labelling
   pub labels : Labels labelling s′
-  -- the store is one that a search has, and no variable was made.
+  -- The store after the match is one that a search has, and no variable was made.
   pub formed : Formed s′
   pub next : s′ .next ≡ s .next
 
@@ -70,14 +72,14 @@ Succeeds s ps = (n : ℕ) × (s′ : Store) × (matchSteps n (pairs s ps) ≡ pa
 pub record Matches (s : Store) (ps : List Pair) (L : Labelling) : Type 0 where
   -- Matching ends, and then stays as it is.
   pub ends : (n : ℕ) × Ended (matchSteps n (pairs s ps)) × ((m : ℕ) → n ≤ m → matchSteps m (pairs s ps) ≡ matchSteps n (pairs s ps))
-  -- It succeeds exactly if there is a unifier that respects the levels,
+  -- Matching succeeds exactly if there is a unifier that respects the levels.
   pub only-if : Succeeds s ps → (φ : Substitution) × Unifier L (readPairs s ps) φ
   pub if : (φ : Substitution) → Unifier L (readPairs s ps) φ → Succeeds s ps
-  -- whatever the number of acts after which it is seen to have succeeded
+  -- Whatever the number of acts after which matching has succeeded, it has found what `Solved` says.
   pub solved : (n : ℕ) (s′ : Store) → matchSteps n (pairs s ps) ≡ pairs s′ [] → Solved L s ps s′
-  -- or to have failed.
+  -- Whatever the number of acts after which matching has failed, there is no unifier.
   pub failed : (n : ℕ) → matchSteps n (pairs s ps) ≡ fail → (φ : Substitution) → Unifier L (readPairs s ps) φ → ⊥
 
--- T3
+-- Promise T3 is for every formed store, pairs of its variables, and a labelling with its levels.
 abbrev pub Unification : Type 0
 Unification = (s : Store) (ps : List Pair) (L : Labelling) → Formed s → All (BelowPair (s .next)) ps → Labels L s → Matches s ps L

@@ -48,7 +48,7 @@ unfoldable pub past : List ℕ → ℕ → ℕ
 past [] n = n
 past (v ∷ vs) n = past vs (suc n)
 
--- "fresh variables of level I", one for each of the names
+-- "fresh variables of level I": the store gets one for each of the names.
 unfoldable pub fresh : List ℕ → ℕ → Store → Store
 fresh vs i s = record { bindings = s .bindings; level = freshLevels vs (s .next) i (s .level); next = past vs (s .next) }
 

@@ -4,7 +4,9 @@ use Rattle.answer_printer.proofs.prepare.Statement.{statement}
 use Rattle.answer_printer.proofs.prepare.Tie as tie
 
 returns : tie.Need-returns
-returns c = links-prepared _ _ _ _ _ (c .before .before .before .before .before .before .link-path .ensures) (c .before .before .clear-constants .ensures)
+returns c =
+    let at-link-path = c .before .before .before .before .before .before in
+    links-prepared _ _ _ _ _ (at-link-path .link-path .ensures) (c .before .before .clear-constants .ensures)
 
 pub prepare-spec : {M : Type 1} → statement M
 prepare-spec = tie.close (tie.spec (λ c κs. search needs) (λ c κs. search needs) (λ c. search needs) returns)

@@ -9,11 +9,14 @@ use Rattle.printing.specs.Writer.{textLimit, shortPass, writeShort}
 use Rattle.answer_printer.proofs.line_parts.Laws.{no-bytes}
 
 -- The short texts.
-pub short-written : (bs : List ℕ) (units : ℕ) (out o₁ o₂ : List ℕ) (limit a₁ a₂ : ℕ) (s : Written) → written o₁ a₁ ≡ writeBytes bs out limit 0 → written o₂ a₂ ≡ writeNumber o₁ limit a₁ units → s ≡ emit o₂ limit a₂ 10 → s ≡ shortPass bs units out limit
+pub short-written : (bs : List ℕ) (units : ℕ) (out o₁ o₂ : List ℕ) (limit a₁ a₂ : ℕ) (s : Written)
+    → written o₁ a₁ ≡ writeBytes bs out limit 0 → written o₂ a₂ ≡ writeNumber o₁ limit a₁ units → s ≡ emit o₂ limit a₂ 10
+    → s ≡ shortPass bs units out limit
 unfolding shortPass
 short-written bs units out o₁ o₂ limit a₁ a₂ s e₁ e₂ es = rw es (simp (shortPass, ← e₁, ← e₂))
 
-module _ (bs : List ℕ) (units : ℕ) (out : List ℕ) (limit n : ℕ) (o : List ℕ) (el : limit ≡ textLimit out) (e₁ : written o n ≡ shortPass bs units [] limit) (eo : length o ≡ 0) where
+module _ (bs : List ℕ) (units : ℕ) (out : List ℕ) (limit n : ℕ) (o : List ℕ) (el : limit ≡ textLimit out)
+    (e₁ : written o n ≡ shortPass bs units [] limit) (eo : length o ≡ 0) where
   short-counted : written o n ≡ shortPass bs units [] (textLimit out)
   short-counted = rw el at e₁
 

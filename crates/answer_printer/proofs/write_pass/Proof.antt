@@ -4,7 +4,10 @@ use Rattle.answer_printer.proofs.write_pass.Statement.{statement}
 use Rattle.answer_printer.proofs.write_pass.Tie as tie
 
 returns : tie.Need-returns
-returns c = pass-answered _ _ _ _ _ _ _ _ _ _ _ _ _ _ (c .before .before .before .before .before .on-at .ensures) (c .before .before .before .before .proof-pass .ensures)
+returns c =
+    let at-proof-pass = c .before .before .before .before in
+    let at-with-position = at-proof-pass .before in
+    pass-answered _ _ _ _ _ _ _ _ _ _ _ _ _ _ (at-with-position .with-position .ensures) (at-proof-pass .proof-pass .ensures)
 
 pub write-pass-spec : {M : Type 1} → statement M
 write-pass-spec =

@@ -52,12 +52,14 @@ module _ (t : List ℕ) (clauses : ℕ) (w : List ℕ) (k : ℕ) where
   hypothesis-none zero h p b z e = absurd (omega arith)
   hypothesis-none (suc n) h p b z e = simp (hypothesisFrom, eq-eqb _ _ z, ← e)
 
-  pub hypothesis-here : (n h l m f : ℕ) → 0 < n → (h ≡ 0 → ⊥) → l ≡ field w (h - 1) fields.hypothesisNode → m ≡ membersOf t l → k < m → f ≡ field w (h - 1) fields.hypothesisFrame → hypothesisFrom n t clauses w h k ≡ At l f k
+  pub hypothesis-here : (n h l m f : ℕ) → 0 < n → (h ≡ 0 → ⊥) → l ≡ field w (h - 1) fields.hypothesisNode → m ≡ membersOf t l → k < m
+      → f ≡ field w (h - 1) fields.hypothesisFrame → hypothesisFrom n t clauses w h k ≡ At l f k
   unfolding hypothesisFrom
   hypothesis-here zero h l m f b z el em c ef = absurd (omega arith)
   hypothesis-here (suc n) h l m f b z el em c ef = simp (hypothesisFrom, ne-eqb _ _ z, ← el, ← em, lt-ltb _ _ c, ← ef)
 
-  pub hypothesis-on : (n h l m g : ℕ) → 0 < n → (h ≡ 0 → ⊥) → l ≡ field w (h - 1) fields.hypothesisNode → m ≡ membersOf t l → m ≤ k → g ≡ field w (h - 1) fields.hypothesisNext → hypothesisFrom n t clauses w h k ≡ hypothesisFrom (n - 1) t clauses w g (k - m)
+  pub hypothesis-on : (n h l m g : ℕ) → 0 < n → (h ≡ 0 → ⊥) → l ≡ field w (h - 1) fields.hypothesisNode → m ≡ membersOf t l → m ≤ k
+      → g ≡ field w (h - 1) fields.hypothesisNext → hypothesisFrom n t clauses w h k ≡ hypothesisFrom (n - 1) t clauses w g (k - m)
   unfolding hypothesisFrom
   hypothesis-on zero h l m g b z el em c eg = absurd (omega arith)
   hypothesis-on (suc n) h l m g b z el em c eg = rw (sub-one (suc n)) (simp (hypothesisFrom, ne-eqb _ _ z, ← el, ← em, le-ltb _ _ c, ← eg))

@@ -46,22 +46,28 @@ returns t c = sym (at-none _ _ _ _ (c .if1 .taken))
 
 returns-2 : (t : ℕ) → lts.Need-returns-2 (claims t) (at t) find-member.Post
 returns-2 t c =
-    let x = c .before .before .before .before .before in
-    at-left _ _ _ _ _ _ _ _ (x .before .if1 .left) (x .kind .ensures) (c .before .before .before .before .if2 .taken)
+    let at-if2 = c .before .before .before .before in
+    let at-point = at-if2 .before in
+    let x = at-point in
+    at-left _ _ _ _ _ _ _ _ (x .before .if1 .left) (x .kind .ensures) (at-if2 .if2 .taken)
     (c .before .before .before .child .ensures) (c .before .before .members .ensures .0) (c .before .if3 .taken) (c .find-member .ensures)
 
 returns-3 : (t : ℕ) → lts.Need-returns-3 (claims t) (at t) find-member.Post
 returns-3 t c =
-    let x = c .before .before .before .before .before in
+    let at-child = c .before .before .before .before in
+    let at-point = at-child .before in
+    let x = at-point in
     at-right _ _ _ _ _ _ _ _ _ (x .before .before .if1 .left) (x .before .kind .ensures) (x .if2 .taken)
-    (c .before .before .before .before .child .ensures) (c .before .before .before .members .ensures .0) (c .before .before .if3 .left)
+    (at-child .child .ensures) (c .before .before .before .members .ensures .0) (c .before .before .if3 .left)
     (c .before .child2 .ensures) (c .find-member2 .ensures)
 
 returns-4 : (t : ℕ) → lts.Need-returns-4 (claims t) (at t) find-member.Post
 returns-4 t c =
-    let x = c .before .before .before .before .before in
+    let at-if4 = c .before .before .before .before in
+    let at-point = at-if4 .before in
+    let x = at-point in
     at-under _ _ _ _ _ _ _ _ _ (x .before .before .if1 .left) (x .before .kind .ensures) (x .if2 .left)
-    (c .before .before .before .before .if4 .taken) (c .before .before .before .child3 .ensures) (c .before .before .find-member3 .ensures)
+    (at-if4 .if4 .taken) (c .before .before .before .child3 .ensures) (c .before .before .find-member3 .ensures)
     (c .before .label .ensures) (c .add-name .ensures)
 
 returns-5 : (t : ℕ) → lts.Need-returns-5 (claims t) (at t) find-member.Post

@@ -3,7 +3,10 @@ use Rattle.engine.proofs.search.Statement.{statement}
 use Rattle.engine.proofs.search.Tie as tie
 
 returns : tie.Need-returns
-returns c = rw (← c .before .before .before .before .before .before .before .before .before .run-machine .ensures) (c .before .before .before .before .tell .ensures)
+returns c =
+    let at-report-outcome = c .before .before .before .before in
+    let at-run-machine = at-report-outcome .before .before .before .before .before in
+    rw (← at-run-machine .run-machine .ensures) (at-report-outcome .report-outcome .ensures)
 
 pub search-spec : {M : Type 1} → statement M
 search-spec =

@@ -5,24 +5,32 @@ use mathlib.Core.List.{List}
 use Rattle.node_table.specs.Layout.{childOf}
 use Rattle.machine.specs.declared.Registers.{Registers}
 use Rattle.machine.specs.Records.{made, putGoal, putAssumption, putPath, rightLine, assumeLine, leftLine, andLine}
-use Rattle.machine.specs.Changes.{onChoice, onGoals, onPath, onGoal, onMember}
-use Rattle.machine.specs.Words.{up}
-use Rattle.machine.specs.Choices.{saveChoice}
+use Rattle.machine.specs.RegisterUpdates.{withChoice, withGoals, withPath, withGoal, withMember}
+use Rattle.machine.specs.Words.{increment}
+use Rattle.machine.specs.ChoicePoints.{saveChoice}
 use Rattle.machine.specs.Goals.{takeAnd, rightBranch, takeOr, takeImplies}
 
 module _ (t w w₁ w₂ : List ℕ) (r : Registers) where
-  pub and-taken : (a b p : ℕ) (m m′ s : Registers) → a ≡ childOf t (r .node) 0 → b ≡ childOf t (r .node) 1 → w₁ ≡ putPath w (r .acts) (r .path) (r .line) → w₂ ≡ putGoal w₁ (r .acts) b (r .frame) (r .program) (r .level) (r .goals) → p ≡ up (r .acts) → m ≡ onPath r p andLine → m′ ≡ onGoals m p → s ≡ onGoal m′ a (r .frame) (r .program) (r .level) → made w₂ s ≡ takeAnd t w r
+  pub and-taken : (a b p : ℕ) (m m′ s : Registers) → a ≡ childOf t (r .node) 0 → b ≡ childOf t (r .node) 1
+      → w₁ ≡ putPath w (r .acts) (r .path) (r .line) → w₂ ≡ putGoal w₁ (r .acts) b (r .frame) (r .program) (r .level) (r .goals)
+      → p ≡ increment (r .acts) → m ≡ withPath r p andLine → m′ ≡ withGoals m p → s ≡ withGoal m′ a (r .frame) (r .program) (r .level)
+      → made w₂ s ≡ takeAnd t w r
   unfolding takeAnd
   and-taken a b p m m′ s ea eb e₁ e₂ ep em em′ es = rw (es, em′, em, ep, e₂, e₁, ea, eb)
 
-  pub or-taken : (a p : ℕ) (b m m′ s : Registers) → a ≡ childOf t (r .node) 0 → w₁ ≡ putPath w (r .acts) (r .path) (r .line) → b ≡ rightBranch t r → w₂ ≡ saveChoice w₁ (r .acts) b → p ≡ up (r .acts) → m ≡ onPath r p leftLine → m′ ≡ onChoice m p → s ≡ onGoal m′ a (r .frame) (r .program) (r .level) → made w₂ s ≡ takeOr t w r
+  pub or-taken : (a p : ℕ) (b m m′ s : Registers) → a ≡ childOf t (r .node) 0 → w₁ ≡ putPath w (r .acts) (r .path) (r .line)
+      → b ≡ rightBranch t r → w₂ ≡ saveChoice w₁ (r .acts) b → p ≡ increment (r .acts) → m ≡ withPath r p leftLine → m′ ≡ withChoice m p
+      → s ≡ withGoal m′ a (r .frame) (r .program) (r .level) → made w₂ s ≡ takeOr t w r
   unfolding takeOr
   or-taken a p b m m′ s ea e₁ eb e₂ ep em em′ es = rw (es, em′, em, ep, e₂, e₁, ea, eb)
 
-  pub implies-taken : (a b p : ℕ) (m s : Registers) → a ≡ childOf t (r .node) 0 → b ≡ childOf t (r .node) 1 → w₁ ≡ putPath w (r .acts) (r .path) (r .line) → w₂ ≡ putAssumption w₁ (r .acts) a (r .frame) (r .program) → p ≡ up (r .acts) → m ≡ onPath r p assumeLine → s ≡ onGoal m b (r .frame) p (r .level) → made w₂ s ≡ takeImplies t w r
+  pub implies-taken : (a b p : ℕ) (m s : Registers) → a ≡ childOf t (r .node) 0 → b ≡ childOf t (r .node) 1
+      → w₁ ≡ putPath w (r .acts) (r .path) (r .line) → w₂ ≡ putAssumption w₁ (r .acts) a (r .frame) (r .program) → p ≡ increment (r .acts)
+      → m ≡ withPath r p assumeLine → s ≡ withGoal m b (r .frame) p (r .level) → made w₂ s ≡ takeImplies t w r
   unfolding takeImplies
   implies-taken a b p m s ea eb e₁ e₂ ep em es = rw (es, em, ep, e₂, e₁, ea, eb)
 
-pub right-branch-is : (t : List ℕ) (r : Registers) (b p : ℕ) (m m′ s : Registers) → b ≡ childOf t (r .node) 1 → p ≡ up (r .acts) → m ≡ onPath r p rightLine → m′ ≡ onGoal m b (r .frame) (r .program) (r .level) → s ≡ onMember m′ 0 0 0 0 → s ≡ rightBranch t r
+pub right-branch-is : (t : List ℕ) (r : Registers) (b p : ℕ) (m m′ s : Registers) → b ≡ childOf t (r .node) 1 → p ≡ increment (r .acts)
+    → m ≡ withPath r p rightLine → m′ ≡ withGoal m b (r .frame) (r .program) (r .level) → s ≡ withMember m′ 0 0 0 0 → s ≡ rightBranch t r
 unfolding rightBranch
 right-branch-is t r b p m m′ s eb ep em em′ es = rw (es, em′, em, ep, eb)

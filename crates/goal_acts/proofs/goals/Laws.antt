@@ -7,18 +7,20 @@ use borrow.Author.Tests.{eq-eqb, ne-eqb}
 use Rattle.machine.specs.declared.Registers.{Registers}
 use Rattle.machine.specs.Fields as fields
 use Rattle.machine.specs.Records.{made, putPath, trueLine, tryMode, provedMode}
-use Rattle.machine.specs.Changes.{onMode, onGoals, onPath, onGoal, onMember}
-use Rattle.machine.specs.Words.{up}
-use Rattle.machine.specs.Choices.{failed}
+use Rattle.machine.specs.RegisterUpdates.{withMode, withGoals, withPath, withGoal, withMember}
+use Rattle.machine.specs.Words.{increment}
+use Rattle.machine.specs.ChoicePoints.{failed}
 use Rattle.machine.specs.Goals.{dueGoal, proceed, membersLeft, tryFrom, takeAtom, takeTrue}
 use Rattle.memory.specs.Records.{field}
 
 -- The next goal.
-pub goal-due : (w : List ℕ) (r : Registers) (q g n f h i : ℕ) (m s : Registers) → g ≡ field w q fields.goalNext → m ≡ onGoals r g → n ≡ field w q fields.goalNode → f ≡ field w q fields.goalFrame → h ≡ field w q fields.goalProgram → i ≡ field w q fields.goalLevel → s ≡ onGoal m n f h i → s ≡ dueGoal w r q
+pub goal-due : (w : List ℕ) (r : Registers) (q g n f h i : ℕ) (m s : Registers) → g ≡ field w q fields.goalNext → m ≡ withGoals r g
+    → n ≡ field w q fields.goalNode → f ≡ field w q fields.goalFrame → h ≡ field w q fields.goalProgram → i ≡ field w q fields.goalLevel
+    → s ≡ withGoal m n f h i → s ≡ dueGoal w r q
 unfolding dueGoal
 goal-due w r q g n f h i m s eg em en ef eh ei es = rw (es, em, eg, en, ef, eh, ei)
 
-pub all-proved : (w : List ℕ) (r s : Registers) → r .goals ≡ 0 → s ≡ onMode r provedMode → s ≡ proceed w r
+pub all-proved : (w : List ℕ) (r s : Registers) → r .goals ≡ 0 → s ≡ withMode r provedMode → s ≡ proceed w r
 unfolding proceed
 all-proved w r s z es = rw (es, eq-eqb _ _ z)
 
@@ -27,19 +29,23 @@ unfolding proceed
 next-due w r s z es = es ∙ rw (ne-eqb _ _ z)
 
 -- Members.
-pub member-due : (c : ℕ) (w : List ℕ) (r s : Registers) (b : Bool) → b ≡ membersLeft c r → b ≡ true → s ≡ onMode r tryMode → made w s ≡ tryFrom c w r
+pub member-due : (c : ℕ) (w : List ℕ) (r s : Registers) (b : Bool) → b ≡ membersLeft c r → b ≡ true → s ≡ withMode r tryMode
+    → made w s ≡ tryFrom c w r
 unfolding tryFrom
 member-due c w r s b eb z es = rw (es, ← eb, z)
 
-pub none-due : (c : ℕ) (w w′ : List ℕ) (r s : Registers) (b : Bool) → b ≡ membersLeft c r → b ≡ false → made w′ s ≡ failed w r → made w′ s ≡ tryFrom c w r
+pub none-due : (c : ℕ) (w w′ : List ℕ) (r s : Registers) (b : Bool) → b ≡ membersLeft c r → b ≡ false → made w′ s ≡ failed w r
+    → made w′ s ≡ tryFrom c w r
 unfolding tryFrom
 none-due c w w′ r s b eb z es = es ∙ rw (← eb, z)
 
 -- Each kind of goal.
-pub atom-taken : (c : ℕ) (w w′ : List ℕ) (r m s : Registers) → m ≡ onMember r (r .program) 0 0 1 → made w′ s ≡ tryFrom c w m → made w′ s ≡ takeAtom c w r
+pub atom-taken : (c : ℕ) (w w′ : List ℕ) (r m s : Registers) → m ≡ withMember r (r .program) 0 0 1 → made w′ s ≡ tryFrom c w m
+    → made w′ s ≡ takeAtom c w r
 unfolding takeAtom
 atom-taken c w w′ r m s em es = es ∙ rw em
 
-pub true-taken : (w w₁ : List ℕ) (r m s : Registers) (p : ℕ) → w₁ ≡ putPath w (r .acts) (r .path) (r .line) → p ≡ up (r .acts) → m ≡ onPath r p trueLine → s ≡ proceed w₁ m → made w₁ s ≡ takeTrue w r
+pub true-taken : (w w₁ : List ℕ) (r m s : Registers) (p : ℕ) → w₁ ≡ putPath w (r .acts) (r .path) (r .line) → p ≡ increment (r .acts)
+    → m ≡ withPath r p trueLine → s ≡ proceed w₁ m → made w₁ s ≡ takeTrue w r
 unfolding takeTrue
 true-taken w w₁ r m s p e₁ ep em es = rw (es, em, ep, e₁)

@@ -5,31 +5,47 @@ use Rattle.goal_acts.proofs.take_goal.Tie as tie
 
 returns : tie.Need-returns
 returns c =
-    atom-due _ _ _ _ _ _ (c .before .before .before .before .before .kind .ensures) (c .before .before .before .before .match .keys1) (c .before .before .take-atom .ensures)
+    let at-match = c .before .before .before .before in
+    let at-kind = at-match .before in
+    atom-due _ _ _ _ _ _ (at-kind .kind .ensures) (at-match .match .keys1) (c .before .before .take-atom .ensures)
 
 returns-2 : tie.Need-returns-2
 returns-2 c =
-    and-due _ _ _ _ _ _ (c .before .before .before .before .before .kind .ensures) (c .before .before .before .before .match .keys2) (c .before .before .take-and .ensures)
+    let at-match = c .before .before .before .before in
+    let at-kind = at-match .before in
+    and-due _ _ _ _ _ _ (at-kind .kind .ensures) (at-match .match .keys2) (c .before .before .take-and .ensures)
 
 returns-3 : tie.Need-returns-3
 returns-3 c =
-    or-due _ _ _ _ _ _ (c .before .before .before .before .before .kind .ensures) (c .before .before .before .before .match .keys3) (c .before .before .take-or .ensures)
+    let at-match = c .before .before .before .before in
+    let at-kind = at-match .before in
+    or-due _ _ _ _ _ _ (at-kind .kind .ensures) (at-match .match .keys3) (c .before .before .take-or .ensures)
 
 returns-4 : tie.Need-returns-4
 returns-4 c =
-    implies-due _ _ _ _ _ _ (c .before .before .before .before .before .kind .ensures) (c .before .before .before .before .match .keys4) (c .before .before .take-implies .ensures)
+    let at-match = c .before .before .before .before in
+    let at-kind = at-match .before in
+    implies-due _ _ _ _ _ _ (at-kind .kind .ensures) (at-match .match .keys4) (c .before .before .take-implies .ensures)
 
 returns-5 : tie.Need-returns-5
 returns-5 c =
-    exists-due _ _ _ _ _ _ (c .before .before .before .before .before .kind .ensures) (c .before .before .before .before .match .keys5) (c .before .before .take-exists .ensures)
+    let at-match = c .before .before .before .before in
+    let at-kind = at-match .before in
+    exists-due _ _ _ _ _ _ (at-kind .kind .ensures) (at-match .match .keys5) (c .before .before .take-exists .ensures)
 
 returns-6 : tie.Need-returns-6
 returns-6 c =
-    forall-due _ _ _ _ _ _ (c .before .before .before .before .before .kind .ensures) (c .before .before .before .before .match .keys6) (c .before .before .take-forall .ensures)
+    let at-match = c .before .before .before .before in
+    let at-kind = at-match .before in
+    forall-due _ _ _ _ _ _ (at-kind .kind .ensures) (at-match .match .keys6) (c .before .before .take-forall .ensures)
 
 returns-7 : tie.Need-returns-7
 returns-7 c =
-    true-due _ _ _ _ _ _ (c .before .before .before .before .before .kind .ensures) (c .before .before .before .before .match .rest .0 .0 .0 .0 .0 .1) (c .before .before .before .before .match .rest .0 .0 .0 .0 .1) (c .before .before .before .before .match .rest .0 .0 .0 .1) (c .before .before .before .before .match .rest .0 .0 .1) (c .before .before .before .before .match .rest .0 .1) (c .before .before .before .before .match .rest .1) (c .before .before .take-true .ensures)
+    let at-match = c .before .before .before .before in
+    let at-kind = at-match .before in
+    true-due _ _ _ _ _ _ (at-kind .kind .ensures) (at-match .match .rest .0 .0 .0 .0 .0 .1) (at-match .match .rest .0 .0 .0 .0 .1)
+    (at-match .match .rest .0 .0 .0 .1) (at-match .match .rest .0 .0 .1) (at-match .match .rest .0 .1) (at-match .match .rest .1)
+    (c .before .before .take-true .ensures)
 
 pub take-goal-spec : {M : Type 1} → statement M
 take-goal-spec =

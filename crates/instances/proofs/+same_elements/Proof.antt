@@ -14,7 +14,7 @@ use Rattle.instances.proofs.name_classes.child_of.Reads as child-of-rea
 use Rattle.instances.proofs.name_classes.join_name.Reads as join-name-reads
 use Rattle.instances.proofs.name_classes.root_of.Reads as root-of-reads
 use Rattle.memory.proofs.put.Reads as put-reads
-use Rattle.memory.proofs.wide.Reads as wide-reads
+use Rattle.memory.proofs.widen.Reads as widen-reads
 use Rattle.node_table.proofs.child_count.Reads as child-count-reads
 use Rattle.node_table.proofs.label.Reads as label-reads
 use Rattle.instances.proofs.Laws.{
@@ -54,8 +54,8 @@ claims t = (
   child-of-reads.Learnt,
   below t,
   own.Post,
-  wide-reads.Asked,
-  wide-reads.Learnt,
+  widen-reads.Asked,
+  widen-reads.Learnt,
   put-reads.Asked,
   put-reads.Learnt,
 )
@@ -73,13 +73,15 @@ returns t c = elements-rank _ _ _ _ _ _ _ _ _ _ (c .if1 .taken)
 
 returns-2 : (t : ℕ) → lts.Need-returns-2 (claims t) (at t) own.Post Inv-loop μ-loop
 returns-2 t c =
-    let at-root-of = c .before .before .before .before .before .before .before in
+    let at-point = c .before .before .before .before .before .before .before in
+    let at-root-of = at-point in
     elements-one _ _ _ _ _ _ _ _ _ _ _ _ _ (at-root-of .root-of .ensures) (c .before .before .before .root-of2 .ensures) _
     (at-root-of .before .before .if1 .left) (c .if2 .taken)
 
 returns-3 : (t : ℕ) → lts.Need-returns-3 (claims t) (at t) own.Post Inv-loop μ-loop
 returns-3 t c =
-    let at-if3 = c .before .before .before .before in
+    let at-point = c .before .before .before .before in
+    let at-if3 = at-point in
     let at-root-of2 = at-if3 .before .before .before .before in
     let at-root-of = at-root-of2 .before .before .before .before in
     elements-first _ _ _ _ _ _ _ _ _ _ _ _ _ (at-root-of .root-of .ensures) (at-root-of2 .root-of2 .ensures) _
@@ -87,7 +89,8 @@ returns-3 t c =
 
 returns-4 : (t : ℕ) → lts.Need-returns-4 (claims t) (at t) own.Post Inv-loop μ-loop
 returns-4 t c =
-    let at-if4 = c .before .before .before .before in
+    let at-point = c .before .before .before .before in
+    let at-if4 = at-point in
     let at-root-of2 = at-if4 .before .before .before .before .before in
     let at-root-of = at-root-of2 .before .before .before .before in
     elements-second _ _ _ _ _ _ _ _ _ _ _ _ _ (at-root-of .root-of .ensures) (at-root-of2 .root-of2 .ensures) _
@@ -99,7 +102,8 @@ loop-holds t c = (omega arith, refl, refl)
 
 loop-again : (t : ℕ) → lts.Need-loop-again (claims t) (at t) own.Post Inv-loop μ-loop
 loop-again t c =
-    let at-child-of2 = c .before .before .before .before .before in
+    let at-point = c .before .before .before .before .before in
+    let at-child-of2 = at-point in
     let at-loop = at-child-of2 .before .before .before in
     let h : 0 < at-loop .loop .children = omega (arith, at-child-of2 .before .before .loop-test .taken) in (
       omega arith,
@@ -111,7 +115,8 @@ loop-again t c =
 
 returns-5 : (t : ℕ) → lts.Need-returns-5 (claims t) (at t) own.Post Inv-loop μ-loop
 returns-5 t c =
-    let at-child-of2 = c .before .before .before .before .before in
+    let at-point = c .before .before .before .before .before in
+    let at-child-of2 = at-point in
     let at-loop = at-child-of2 .before .before .before in
     let at-label = at-loop .before .before .before .before in
     let at-root-of2 = at-label .before .before .before .before .before .before in
@@ -126,11 +131,12 @@ returns-5 t c =
 
 returns-6 : (t : ℕ) → lts.Need-returns-6 (claims t) (at t) own.Post Inv-loop μ-loop
 returns-6 t c =
-    let at-loop-test = c .before .before .before .before .before in
+    let at-point = c .before .before .before .before .before in
+    let at-loop-test = at-point in
     let at-label2 = at-loop-test .before .before .before .before in
     let at-if2 = at-label2 .before .before .before .before in
     let at-root-of = at-if2 .before .before .before .before .before .before .before in
-    children-end _ _ _ _ _ _ _ _ _ (at-loop-test .loop-test .left) (c .before .before .before .wide .ensures .0)
+    children-end _ _ _ _ _ _ _ _ _ (at-loop-test .loop-test .left) (c .before .before .before .widen .ensures .0)
     (c .before .before .put .ensures) ∙ sym (elements-same _ _ _ _ _ _ _ _ _ _ _ _ _ (at-root-of .root-of .ensures)
     (at-if2 .before .before .before .root-of2 .ensures) _ (at-root-of .before .before .if1 .left) (at-if2 .if2 .left)
     (at-label2 .before .before .before .if3 .left) (at-label2 .before .before .if4 .left) _ _ (at-label2 .before .label .ensures)
@@ -139,7 +145,8 @@ returns-6 t c =
 
 returns-7 : (t : ℕ) → lts.Need-returns-7 (claims t) (at t) own.Post Inv-loop μ-loop
 returns-7 t c =
-    let at-if3 = c .before .before .before .before in
+    let at-point = c .before .before .before .before in
+    let at-if3 = at-point in
     let at-root-of2 = at-if3 .before .before .before .before in
     let at-root-of = at-root-of2 .before .before .before .before in
     elements-other _ _ _ _ _ _ _ _ _ _ _ _ _ (at-root-of .root-of .ensures) (at-root-of2 .root-of2 .ensures) _

@@ -9,7 +9,8 @@ use lib.ListN.{getD, set}
 use borrow.Author.Tests.{eq-eqb, ne-eqb, lt-ltb, le-ltb}
 use Rattle.node_table.specs.Layout.{kindOf, labelOf, childOf}
 use Rattle.scanning.specs.Frames.{slotStart, slotEnd}
-use Rattle.scanning.specs.Classes.{nameElement, nodeElement, elementOf, isName, elementSide, elementNode, elementName, elementChild, frameOn, rooted, rootFrom}
+use Rattle.scanning.specs.Classes.{nameElement, nodeElement, elementOf, isName, elementSide, elementNode, elementName, elementChild}
+use Rattle.scanning.specs.Classes.{sideFrame, rooted, rootFrom}
 use Rattle.scanning.specs.Instances.{sameSlots, isInstance, compared, joined, startOf, endOf, sameName, joinName}
 
 -- elements
@@ -26,11 +27,11 @@ pub element-child : (t : List ℕ) (i j m r : ℕ) → m ≡ childOf t (i / 2 % 
 unfolding elementChild elementSide elementNode
 element-child t i j m r p q = rw (← p) q
 
-pub name-start : (w : List ℕ) (f g i h s r : ℕ) → h ≡ frameOn f g (i % 2) → s ≡ slotStart w h (i / 2 % 8) → r ≡ s → r ≡ startOf w f g i
+pub name-start : (w : List ℕ) (f g i h s r : ℕ) → h ≡ sideFrame f g (i % 2) → s ≡ slotStart w h (i / 2 % 8) → r ≡ s → r ≡ startOf w f g i
 unfolding startOf elementSide elementName
 name-start w f g i h s r p q e = rw (← p, ← q) e
 
-pub name-end : (w : List ℕ) (f g i h s r : ℕ) → h ≡ frameOn f g (i % 2) → s ≡ slotEnd w h (i / 2 % 8) → r ≡ s → r ≡ endOf w f g i
+pub name-end : (w : List ℕ) (f g i h s r : ℕ) → h ≡ sideFrame f g (i % 2) → s ≡ slotEnd w h (i / 2 % 8) → r ≡ s → r ≡ endOf w f g i
 unfolding endOf elementSide elementName
 name-end w f g i h s r p q e = rw (← p, ← q) e
 
@@ -60,21 +61,25 @@ module _ (c : List ℕ) (i j p : ℕ) (at : j ≡ i) (parent : p ≡ getD c j 0)
 
 -- names
 
-pub name-slots : (b t x w : List ℕ) (f g i j s e u v : ℕ) (z : Bool) → s ≡ startOf w f g i → e ≡ endOf w f g i → j < 2048 → u ≡ startOf w f g j → v ≡ endOf w f g j
+pub name-slots : (b t x w : List ℕ) (f g i j s e u v : ℕ) (z : Bool) → s ≡ startOf w f g i → e ≡ endOf w f g i → j < 2048
+    → u ≡ startOf w f g j → v ≡ endOf w f g j
     → z ≡ sameSlots x s e u v → z ≡ sameName b t x w f g i j
 unfolding sameName isName
 name-slots b t x w f g i j s e u v z p q l y o h = rw (lt-ltb j 2048 l, ← p, ← q, ← y, ← o) h
 
-pub name-instance : (b t x w : List ℕ) (f g i j s e h : ℕ) (z : Bool) → s ≡ startOf w f g i → e ≡ endOf w f g i → 2048 ≤ j → h ≡ frameOn f g (j % 2)
+pub name-instance : (b t x w : List ℕ) (f g i j s e h : ℕ) (z : Bool) → s ≡ startOf w f g i → e ≡ endOf w f g i → 2048 ≤ j
+    → h ≡ sideFrame f g (j % 2)
     → z ≡ isInstance b t x w s e h (j / 2 % 1024) → z ≡ sameName b t x w f g i j
 unfolding sameName isName elementSide elementNode
 name-instance b t x w f g i j s e h z p q l y k = rw (le-ltb j 2048 l, ← p, ← q, ← y) k
 
-pub join-same : (b t x w : List ℕ) (f g : ℕ) (c : List ℕ) (i j k : ℕ) (d : List ℕ) (z : Bool) → z ≡ sameName b t x w f g i j → z ≡ true → k ≡ i → d ≡ set c k j
+pub join-same : (b t x w : List ℕ) (f g : ℕ) (c : List ℕ) (i j k : ℕ) (d : List ℕ) (z : Bool) → z ≡ sameName b t x w f g i j → z ≡ true
+    → k ≡ i → d ≡ set c k j
     → compared d true ≡ joinName b t x w f g c i j
 unfolding joinName joined
 join-same b t x w f g c i j k d z p q e h = rw (← p, q, h, e)
 
-pub join-other : (b t x w : List ℕ) (f g : ℕ) (c : List ℕ) (i j : ℕ) (z : Bool) → z ≡ sameName b t x w f g i j → z ≡ false → compared c false ≡ joinName b t x w f g c i j
+pub join-other : (b t x w : List ℕ) (f g : ℕ) (c : List ℕ) (i j : ℕ) (z : Bool) → z ≡ sameName b t x w f g i j → z ≡ false
+    → compared c false ≡ joinName b t x w f g c i j
 unfolding joinName joined
 join-other b t x w f g c i j z p q = rw (← p, q)

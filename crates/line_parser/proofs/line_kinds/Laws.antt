@@ -11,21 +11,25 @@ use lib.ListN.{length, drop, take}
 use borrow.Author.Tests.{lt-ltb, le-ltb, le-leb, lt-leb, ne-eqb}
 use Rattle.sheet_format.specs.Limits.{maxArity, variableNames}
 use Rattle.sheet_format.specs.Bytes.{fields, isName, number}
-use Rattle.sheet_format.specs.SheetLines.{variableLine, andLine, orLine, impliesLine, someLine, everyLine, SheetLine, declareLine, nodeLine, clauseLine, goalLine, consNumber, numbers, declared, declaration, oneNumber, twoNumbers, withVariable, application}
+use Rattle.sheet_format.specs.SheetLines.{variableLine, andLine, orLine, impliesLine, someLine, everyLine, SheetLine, declareLine, nodeLine}
+use Rattle.sheet_format.specs.SheetLines.{clauseLine, goalLine, consNumber, numbers, declared, declaration, oneNumber, twoNumbers}
+use Rattle.sheet_format.specs.SheetLines.{withVariable, application}
 use Rattle.line_parser.specs.declared.fields.Number.the-variants.{Value, Bad}
 use Rattle.line_parser.specs.Fields.{fieldLen, firstField, firstNumber, firstName}
 use Rattle.line_parser.proofs.fields.Laws.{rest-part}
-use Rattle.line_parser.proofs.fields.Fields.{fields-first, fields-last, fields-more, first-bad, first-last, first-more, first-length, name-absent, name-present}
+use Rattle.line_parser.proofs.fields.Fields.{fields-first, fields-last, fields-more, first-bad, first-last, first-more, first-length}
+use Rattle.line_parser.proofs.fields.Fields.{name-absent, name-present}
 use Rattle.line_parser.specs.declared.lines.Nodes.{Nodes}
 use Rattle.line_parser.specs.declared.lines.NodeLine.the-variants.{Variable, Apply, And, Or, Implies, Exists, Forall}
 use Rattle.line_parser.specs.declared.lines.Line.the-variants.{Declare, Node, Clause, Goal, Malformed}
 use Rattle.line_parser.specs.declared.lines.One.{One}
 use Rattle.line_parser.specs.declared.lines.One.the-variants.{Only, NotOne}
 use Rattle.line_parser.specs.declared.lines.Two.the-variants.{Both, NotTwo}
-use Rattle.line_parser.specs.Lines.{nodesOf, nodeAnswer, lineAnswer, oneAnswer, twoAnswer, arityAnswer, addNode, applyOn, applyAnswer, connectiveOf, quantifierOf}
+use Rattle.line_parser.specs.Lines.{nodesOf, nodeAnswer, lineAnswer, oneAnswer, twoAnswer, arityAnswer, pushNode, applyOn}
+use Rattle.line_parser.specs.Lines.{applyAnswer, connectiveOf, quantifierOf}
 use Rattle.line_parser.proofs.lines.Laws.{alone, cond-same, one-is}
 
--- no other answer
+-- Where the answer is `NotOne`, there is no line with one number.
 one-none : (l : ℕ → SheetLine) (x : Option (List ℕ)) → oneAnswer x ≡ NotOne → oneNumber l x ≡ none
 unfolding oneAnswer oneNumber
 one-none l none h = refl
@@ -33,7 +37,7 @@ one-none l (some []) h = refl
 one-none l (some (m ∷ [])) h = let z : _≡_ {A = ℕ} 0 1 = cc in absurd (omega arith)
 one-none l (some (m ∷ o ∷ ns)) h = refl
 
--- what the answer says
+-- Where the answer is `Both n m`, the numbers are n and m.
 two-is : (x : Option (List ℕ)) (n m : ℕ) → twoAnswer x ≡ Both n m → x ≡ some (n ∷ m ∷ [])
 unfolding twoAnswer
 two-is none n m h = let z : _≡_ {A = ℕ} 0 1 = cc in absurd (omega arith)
@@ -45,7 +49,7 @@ two-is (some (p ∷ q ∷ [])) n m h =
     rw (y, z)
 two-is (some (p ∷ q ∷ o ∷ ns)) n m h = let z : _≡_ {A = ℕ} 0 1 = cc in absurd (omega arith)
 
--- no other answer
+-- Where the answer is `NotTwo`, there is no line with two numbers.
 two-none : (l : ℕ → ℕ → SheetLine) (x : Option (List ℕ)) → twoAnswer x ≡ NotTwo → twoNumbers l x ≡ none
 unfolding twoAnswer twoNumbers
 two-none l none h = refl
@@ -57,34 +61,36 @@ two-none l (some (p ∷ q ∷ o ∷ ns)) h = refl
 -- C, Q and V
 
 module _ (x : Option (List ℕ)) where
-  -- not one number
+  -- A line that takes one number is malformed where there is not one number.
   pub single-none : (l : ℕ → SheetLine) → oneAnswer x ≡ NotOne → Malformed ≡ lineAnswer (oneNumber l x)
   unfolding lineAnswer
   single-none l h = rw (one-none l x h)
 
-  -- a clause
+  -- One number makes a clause line.
   pub clause-is : (n : ℕ) → oneAnswer x ≡ Only n → Clause n ≡ lineAnswer (oneNumber clauseLine x)
   unfolding lineAnswer oneNumber
   clause-is n h = rw (one-is x n h)
 
-  -- a goal
+  -- One number makes a goal line.
   pub goal-is : (n : ℕ) → oneAnswer x ≡ Only n → Goal n ≡ lineAnswer (oneNumber goalLine x)
   unfolding lineAnswer oneNumber
   goal-is n h = rw (one-is x n h)
 
-  -- a variable from 8 on
-  pub variable-large : (v : ℕ) → oneAnswer x ≡ Only v → variableNames ≤ v → Malformed ≡ lineAnswer (oneNumber (λ w. nodeLine (variableLine w)) (withVariable x))
+  -- A variable line with a variable from 8 on is malformed.
+  pub variable-large : (v : ℕ) → oneAnswer x ≡ Only v → variableNames ≤ v
+      → Malformed ≡ lineAnswer (oneNumber (λ w. nodeLine (variableLine w)) (withVariable x))
   unfolding lineAnswer oneNumber withVariable
   variable-large v h l = rw (one-is x v h) (rw (le-ltb v variableNames l))
 
-  -- a variable
+  -- One number below 8 makes a variable line.
   pub variable-is : (v : ℕ) → oneAnswer x ≡ Only v → v < variableNames
       → Node (Variable v) ≡ lineAnswer (oneNumber (λ w. nodeLine (variableLine w)) (withVariable x))
   unfolding lineAnswer nodeAnswer oneNumber withVariable
   variable-is v h l = rw (one-is x v h) (rw (lt-ltb v variableNames l))
 
--- not one number
-pub variable-none : (x : Option (List ℕ)) → oneAnswer x ≡ NotOne → Malformed ≡ lineAnswer (oneNumber (λ w. nodeLine (variableLine w)) (withVariable x))
+-- A variable line is malformed where there is not one number.
+pub variable-none : (x : Option (List ℕ)) → oneAnswer x ≡ NotOne
+    → Malformed ≡ lineAnswer (oneNumber (λ w. nodeLine (variableLine w)) (withVariable x))
 unfolding oneAnswer lineAnswer oneNumber withVariable
 variable-none none h = refl
 variable-none (some []) h = refl
@@ -98,36 +104,41 @@ variable-none (some (v ∷ w ∷ ns)) h = go (ltb v variableNames)
 -- &, | and >
 
 module _ (c : ℕ) (x : Option (List ℕ)) where
-  -- not two numbers
+  -- A connective line is malformed where there are not two numbers.
   pub connective-none : twoAnswer x ≡ NotTwo → Malformed ≡ lineAnswer (connectiveOf c x)
   unfolding connectiveOf lineAnswer
   connective-none h =
-      simp (two-none (λ n m. nodeLine (andLine n m)) x h, two-none (λ n m. nodeLine (orLine n m)) x h, two-none (λ n m. nodeLine (impliesLine n m)) x h, cond-same)
+      simp (
+        two-none (λ n m. nodeLine (andLine n m)) x h,
+        two-none (λ n m. nodeLine (orLine n m)) x h,
+        two-none (λ n m. nodeLine (impliesLine n m)) x h,
+        cond-same,
+      )
 
   module _ (n m : ℕ) (h : twoAnswer x ≡ Both n m) where
-    -- and
+    -- The letter `&` with two numbers makes a line of and.
     pub connective-and : c ≡ code "&" → Node (And n m) ≡ lineAnswer (connectiveOf c x)
     unfolding connectiveOf lineAnswer nodeAnswer twoNumbers
     connective-and e = rw (two-is x n m h, e)
 
-    -- or
+    -- The letter `|` with two numbers makes a line of or.
     pub connective-or : c ≡ code "|" → Node (Or n m) ≡ lineAnswer (connectiveOf c x)
     unfolding connectiveOf lineAnswer nodeAnswer twoNumbers
     connective-or e = rw (two-is x n m h, e)
 
-    -- implies
+    -- The letter `>` with two numbers makes a line of implies.
     pub connective-implies : c ≡ code ">" → Node (Implies n m) ≡ lineAnswer (connectiveOf c x)
     unfolding connectiveOf lineAnswer nodeAnswer twoNumbers
     connective-implies e = rw (two-is x n m h, e)
 
-  -- another letter
+  -- A connective line with another letter is malformed.
   pub connective-other : (c ≡ code "&" → ⊥) → (c ≡ code "|" → ⊥) → (c ≡ code ">" → ⊥) → Malformed ≡ lineAnswer (connectiveOf c x)
   unfolding connectiveOf lineAnswer
   connective-other p q r = rw (ne-eqb c (code "&") p, ne-eqb c (code "|") q, ne-eqb c (code ">") r)
 
 -- E and U
 
--- not two numbers
+-- There is no quantifier line where there are not two numbers.
 quantified-none : (l : ℕ → ℕ → SheetLine) (x : Option (List ℕ)) → twoAnswer x ≡ NotTwo → twoNumbers l (withVariable x) ≡ none
 unfolding twoAnswer twoNumbers withVariable
 quantified-none l none h = refl
@@ -145,40 +156,40 @@ quantified-none l (some (p ∷ q ∷ o ∷ ns)) h = go (ltb p variableNames)
     go false = refl
 
 module _ (c : ℕ) (x : Option (List ℕ)) where
-  -- so neither letter has a line
+  -- A quantifier line is malformed where there are not two numbers.
   pub quantifier-none : twoAnswer x ≡ NotTwo → Malformed ≡ lineAnswer (quantifierOf c x)
   unfolding quantifierOf lineAnswer
   quantifier-none h =
       simp (quantified-none (λ v n. nodeLine (someLine v n)) x h, quantified-none (λ v n. nodeLine (everyLine v n)) x h, cond-same)
 
   module _ (v n : ℕ) (h : twoAnswer x ≡ Both v n) where
-    -- a variable from 8 on
+    -- A quantifier line with a variable from 8 on is malformed.
     pub quantifier-large : variableNames ≤ v → Malformed ≡ lineAnswer (quantifierOf c x)
     unfolding quantifierOf lineAnswer twoNumbers withVariable
     quantifier-large l = rw (two-is x v n h) (simp (le-ltb v variableNames l, cond-same))
 
-    -- some
+    -- The letter E with a variable and a node makes a line of some.
     pub quantifier-some : v < variableNames → c ≡ code "E" → Node (Exists v n) ≡ lineAnswer (quantifierOf c x)
     unfolding quantifierOf lineAnswer nodeAnswer twoNumbers withVariable
     quantifier-some l e = rw (two-is x v n h, e) (rw (lt-ltb v variableNames l))
 
-    -- every
+    -- The letter U with a variable and a node makes a line of every.
     pub quantifier-every : v < variableNames → c ≡ code "U" → Node (Forall v n) ≡ lineAnswer (quantifierOf c x)
     unfolding quantifierOf lineAnswer nodeAnswer twoNumbers withVariable
     quantifier-every l e = rw (two-is x v n h, e) (rw (lt-ltb v variableNames l))
 
-  -- another letter
+  -- A quantifier line with another letter is malformed.
   pub quantifier-other : (c ≡ code "E" → ⊥) → (c ≡ code "U" → ⊥) → Malformed ≡ lineAnswer (quantifierOf c x)
   unfolding quantifierOf lineAnswer
   quantifier-other p q = rw (ne-eqb c (code "E") p, ne-eqb c (code "U") q)
 
--- no nodes yet
+-- No nodes have been read yet.
 abbrev pub noNodes : Nodes
 noNodes = record { count = 0; a = 0; b = 0; c = 0; d = 0 }
 
--- read one by one or all at once
+-- Nodes that are read one by one make the line that they make when read all at once.
 applied : (f : ℕ) (ms : List ℕ) → applyOn f noNodes ms ≡ lineAnswer (application (some (f ∷ ms)))
-unfolding applyOn addNode application lineAnswer nodeAnswer nodesOf
+unfolding applyOn pushNode application lineAnswer nodeAnswer nodesOf
 applied f [] = refl
 applied f (p ∷ []) = refl
 applied f (p ∷ q ∷ []) = refl
@@ -187,19 +198,21 @@ applied f (p ∷ q ∷ r ∷ t ∷ []) = refl
 applied f (p ∷ q ∷ r ∷ t ∷ u ∷ ms) = rw (lt-leb (length (p ∷ q ∷ r ∷ t ∷ u ∷ ms)) maxArity (omega arith))
 
 module _ (s : List ℕ) where
-  -- no symbol
+  -- An application without a symbol is malformed.
   pub apply-bad : firstNumber s ≡ Bad → Malformed ≡ lineAnswer (application (numbers (fields s)))
   unfolding application lineAnswer
   apply-bad h = rw (first-bad s h)
 
-  -- a symbol alone
-  pub apply-last : (f e : ℕ) → firstNumber s ≡ Value f e → length s ≤ e → Node (Apply f noNodes) ≡ lineAnswer (application (numbers (fields s)))
+  -- A symbol alone is an application to no nodes.
+  pub apply-last : (f e : ℕ) → firstNumber s ≡ Value f e → length s ≤ e
+      → Node (Apply f noNodes) ≡ lineAnswer (application (numbers (fields s)))
   unfolding application lineAnswer nodeAnswer nodesOf
   apply-last f e h l = rw (first-last s f e h l)
 
-  -- a symbol and its nodes
+  -- A symbol with fields after it is an application to the nodes read from them.
   pub apply-more : (f e : ℕ) → firstNumber s ≡ Value f e → e < length s
-      → applyAnswer f noNodes (numbers (fields (take (length s - (e + 1)) (drop (e + 1) s)))) ≡ lineAnswer (application (numbers (fields s)))
+      → applyAnswer f noNodes (numbers (fields (take (length s - (e + 1)) (drop (e + 1) s)))) ≡ lineAnswer
+      (application (numbers (fields s)))
   unfolding applyAnswer consNumber application lineAnswer
   apply-more f e h l = rw (rest-part (e + 1) s, first-more s f e h l) (go (numbers (fields (drop (e + 1) s))))
     where
@@ -209,7 +222,7 @@ module _ (s : List ℕ) where
 
 -- F and P
 
--- what is no name
+-- A first field that is no name makes no declaration.
 declare-other : (k : Bool) (f : List ℕ) (fs : List (List ℕ)) → isName f ≡ false → declaration k (f ∷ fs) ≡ none
 unfolding declaration declared
 declare-other k f [] h = refl
@@ -220,8 +233,9 @@ declare-other k f (a ∷ []) h = go (number a)
     go (some n) = rw h
 declare-other k f (a ∷ b ∷ fs) h = refl
 
--- a name and the fields after it
-declare-fields : (k : Bool) (f : List ℕ) (fs : List (List ℕ)) → isName f ≡ true → lineAnswer (declaration k (f ∷ fs)) ≡ arityAnswer k (length f) (oneAnswer (numbers fs))
+-- For a declaration with a name, the fields after it decide the answer.
+declare-fields : (k : Bool) (f : List ℕ) (fs : List (List ℕ)) → isName f ≡ true
+    → lineAnswer (declaration k (f ∷ fs)) ≡ arityAnswer k (length f) (oneAnswer (numbers fs))
 unfolding declaration declared arityAnswer oneAnswer numbers consNumber lineAnswer
 declare-fields k f [] h = refl
 declare-fields k f (a ∷ []) h = go (number a)
@@ -242,39 +256,42 @@ declare-fields k f (a ∷ b ∷ fs) h = go (number a) (number b) (numbers fs)
     go (some n) (some m) (some ns) = refl
 
 module _ (s m : List ℕ) (e : m ≡ firstName s) (k : Bool) where
-  -- no name comes first
+  -- A declaration is malformed where no name comes first.
   pub declare-absent : length m ≡ 0 → Malformed ≡ lineAnswer (declaration k (fields s))
   unfolding lineAnswer
   declare-absent h =
       let n = name-absent s (ap length (sym e) ∙ h) in
       sym (ap (λ fs. lineAnswer (declaration k fs)) (fields-first s) ∙ ap lineAnswer (declare-other k (firstField s) _ n))
 
-  -- no field follows the name
+  -- A declaration is malformed where no field follows the name.
   pub declare-short : (length m ≡ 0 → ⊥) → length s ≤ length m → Malformed ≡ lineAnswer (declaration k (fields s))
   unfolding lineAnswer declaration
   declare-short h l =
       let n = name-present s (λ z. h (ap length e ∙ z)) in
       rw (fields-last s (omega (arith, ap length e)))
 
-  -- a name and the rest
+  -- Where a name comes first, the rest is read as the arity.
   pub declare-more : (length m ≡ 0 → ⊥) → length m < length s
-      → arityAnswer k (length m) (oneAnswer (numbers (fields (take (length s - (length m + 1)) (drop (length m + 1) s))))) ≡ lineAnswer (declaration k (fields s))
+      → arityAnswer k (length m) (oneAnswer (numbers (fields (take (length s - (length m + 1)) (drop (length m + 1) s))))) ≡ lineAnswer
+      (declaration k (fields s))
   declare-more h l =
       let n = name-present s (λ z. h (ap length e ∙ z)) in
       let q : length m ≡ fieldLen s = ap length e ∙ n .1 in
-      rw (rest-part (length m + 1) s, q) (sym (ap (λ fs. lineAnswer (declaration k fs)) (fields-more s (omega arith)) ∙ declare-fields k (firstField s) _ (n .0) ∙ rw (first-length s)))
+      rw (rest-part (length m + 1) s, q)
+      (sym (ap (λ fs. lineAnswer (declaration k fs)) (fields-more s (omega arith)) ∙ declare-fields k (firstField s) _ (n .0)
+      ∙ rw (first-length s)))
 
--- the rest is not one number
+-- A declaration is malformed where the rest is not one number.
 pub arity-none : (k : Bool) (n : ℕ) (o : One) → o ≡ NotOne → Malformed ≡ arityAnswer k n o
 unfolding arityAnswer
 arity-none k n o h = rw h
 
--- an arity above 4
+-- A declaration with an arity above 4 is malformed.
 pub arity-large : (k : Bool) (n a : ℕ) (o : One) → o ≡ Only a → maxArity < a → Malformed ≡ arityAnswer k n o
 unfolding arityAnswer
 arity-large k n a o h l = rw h (rw (lt-leb a maxArity l))
 
--- an arity
+-- A declaration with an arity of at most 4 is answered with that arity.
 pub arity-is : (k : Bool) (n a : ℕ) (o : One) → o ≡ Only a → a ≤ maxArity → Declare k n a ≡ arityAnswer k n o
 unfolding arityAnswer
 arity-is k n a o h l = rw h (rw (le-leb a maxArity l))

@@ -11,7 +11,9 @@ use lib.ListN.{length, drop, take, length-take, length-drop}
 use borrow.Author.Tests.{leb-true, eqb-true}
 use Rattle.sheet_format.specs.Limits.{maxArity, maxName}
 use Rattle.sheet_format.specs.Bytes.{tab, fields, isName, number}
-use Rattle.sheet_format.specs.SheetLines.{variableLine, applyLine, trueLine, andLine, orLine, impliesLine, someLine, everyLine, SheetLine, declareLine, nodeLine, clauseLine, goalLine, numbers, declared, declaration, noNumber, oneNumber, twoNumbers, withVariable, application, lineOf, ofFields, parseLine}
+use Rattle.sheet_format.specs.SheetLines.{variableLine, applyLine, trueLine, andLine, orLine, impliesLine, someLine, everyLine, SheetLine}
+use Rattle.sheet_format.specs.SheetLines.{declareLine, nodeLine, clauseLine, goalLine, numbers, declared, declaration, noNumber, oneNumber}
+use Rattle.sheet_format.specs.SheetLines.{twoNumbers, withVariable, application, lineOf, ofFields, parseLine}
 use Rattle.sheet_format.proofs.Options.{some-is}
 use Rattle.sheet_format.proofs.Bytes.{name-short, name-length}
 use Rattle.sheet_format.proofs.SheetLines.{FormedLine, parseLine-some}
@@ -26,7 +28,7 @@ use Rattle.line_parser.proofs.lines.Laws.{alone, lettered, long}
 
 -- back
 
--- up to four nodes come back
+-- Up to four nodes come back from their record.
 nodes-back : (ns : List ℕ) → length ns ≤ maxArity → nodeList (nodesOf ns) ≡ ns
 unfolding nodeList nodesOf
 nodes-back [] h = refl
@@ -41,19 +43,19 @@ abbrev Back : List ℕ → Option SheetLine → Type 0
 Back s o = lineBack s (lineAnswer o) ≡ o
 
 module _ (s : List ℕ) where
-  -- both sides of a test
+  -- A choice comes back if both sides do.
   cond-back : (t : Bool) (x y : Option SheetLine) → Back s x → Back s y → Back s (cond t x y)
   cond-back true x y h k = h
   cond-back false x y h k = k
 
-  -- no number
+  -- A line without numbers comes back.
   no-back : (l : SheetLine) → Back s (some l) → (x : Option (List ℕ)) → Back s (noNumber l x)
   unfolding noNumber lineAnswer lineBack
   no-back l h none = refl
   no-back l h (some []) = h
   no-back l h (some (n ∷ ns)) = refl
 
-  -- one number
+  -- A line with one number comes back.
   one-back : (l : ℕ → SheetLine) → ((n : ℕ) → Back s (some (l n))) → (x : Option (List ℕ)) → Back s (oneNumber l x)
   unfolding oneNumber lineAnswer lineBack
   one-back l h none = refl
@@ -61,7 +63,7 @@ module _ (s : List ℕ) where
   one-back l h (some (n ∷ [])) = h n
   one-back l h (some (n ∷ m ∷ ns)) = refl
 
-  -- two numbers
+  -- A line with two numbers comes back.
   two-back : (l : ℕ → ℕ → SheetLine) → ((n m : ℕ) → Back s (some (l n m))) → (x : Option (List ℕ)) → Back s (twoNumbers l x)
   unfolding twoNumbers lineAnswer lineBack
   two-back l h none = refl
@@ -70,7 +72,7 @@ module _ (s : List ℕ) where
   two-back l h (some (n ∷ m ∷ [])) = h n m
   two-back l h (some (n ∷ m ∷ o ∷ ns)) = refl
 
-  -- an application
+  -- An application comes back.
   apply-back : (x : Option (List ℕ)) → Back s (application x)
   unfolding application lineAnswer nodeAnswer lineBack nodeBack
   apply-back none = refl
@@ -81,7 +83,7 @@ module _ (s : List ℕ) where
       go true e = ap (λ (ms : List ℕ). some (nodeLine (applyLine f ms))) (nodes-back ns (leb-true (length ns) maxArity e))
       go false e = refl
 
-  -- a declaration whose name stands at offset 2
+  -- A declaration whose name stands at offset 2 comes back.
   declare-back : (k : Bool) (f : List ℕ) (fs : List (List ℕ)) → take (length f) (drop 2 s) ≡ f → Back s (declaration k (f ∷ fs))
   unfolding declaration declared lineAnswer lineBack
   declare-back k f [] h = refl
@@ -89,10 +91,11 @@ module _ (s : List ℕ) where
     where
       go : (o : Option ℕ) → Back s (declared k f o)
       go none = refl
-      go (some n) = cond-back (isName f && leb n maxArity) (some (declareLine k f n)) none (ap (λ (m : List ℕ). some (declareLine k m n)) h) refl
+      go (some n) =
+          cond-back (isName f && leb n maxArity) (some (declareLine k f n)) none (ap (λ (m : List ℕ). some (declareLine k m n)) h) refl
   declare-back k f (a ∷ b ∷ fs) h = refl
 
-  -- every letter
+  -- A line with any letter comes back, if declarations do.
   letter-back : (c : ℕ) (fs : List (List ℕ)) → ((k : Bool) → Back s (declaration k fs)) → Back s (lineOf c fs)
   unfolding lineOf lineAnswer nodeAnswer lineBack nodeBack
   letter-back c fs h =
@@ -109,16 +112,17 @@ module _ (s : List ℕ) where
       (cond-back (eqb c (code "C")) _ _ (one-back clauseLine (λ n. refl) (numbers fs))
       (cond-back (eqb c (code "Q")) _ _ (one-back goalLine (λ n. refl) (numbers fs)) refl)))))))))))
 
--- the first field after the letter stands at offset 2
+-- A text begins with its first field.
 first-taken : (ds : List ℕ) → take (length (firstField ds)) ds ≡ firstField ds
 unfolding firstField
 first-taken ds = rw (first-length ds)
 
--- so that a declaration comes back
+-- A declaration read from the fields at offset 2 comes back.
 first-back : (s : List ℕ) (k : Bool) (ds : List ℕ) → ds ≡ drop 2 s → Back s (declaration k (fields ds))
 first-back s k ds e =
     rw (fields-first ds)
-    (declare-back s k (firstField ds) (cond (ltb (fieldLen ds) (length ds)) (fields (drop (fieldLen ds + 1) ds)) []) (rw (← e) (first-taken ds)))
+    (declare-back s k (firstField ds) (cond (ltb (fieldLen ds) (length ds)) (fields (drop (fieldLen ds + 1) ds)) [])
+    (rw (← e) (first-taken ds)))
 
 -- Every line comes back.
 pub line-back : (s : List ℕ) → lineBack s (lineAnswer (parseLine s)) ≡ parseLine s
@@ -144,7 +148,8 @@ pub line-formed : (s : List ℕ) (r : Line) (l : SheetLine) → r ≡ lineAnswer
 line-formed s r l e h = some-is FormedLine (parseLine s) l (parseLine-some s) (line-is s r e ∙ h)
 
 -- A declared name stands at offset 2.
-pub declare-is : (s : List ℕ) (k : Bool) (n a : ℕ) → Declare k n a ≡ lineAnswer (parseLine s) → parseLine s ≡ some (declareLine k (take n (drop 2 s)) a)
+pub declare-is : (s : List ℕ) (k : Bool) (n a : ℕ) → Declare k n a ≡ lineAnswer (parseLine s)
+    → parseLine s ≡ some (declareLine k (take n (drop 2 s)) a)
 unfolding lineBack
 declare-is s k n a e = line-is s (Declare k n a) e
 
@@ -156,7 +161,7 @@ pub record DeclareBounds (s : List ℕ) (n a : ℕ) : Type 0 where
   pub within : 2 + n ≤ length s
   pub arity : a ≤ maxArity
 
--- the bounds hold
+-- The bounds hold of every declaration that is read.
 pub declare-bounds : (s : List ℕ) (k : Bool) (n a : ℕ) → Declare k n a ≡ lineAnswer (parseLine s) → DeclareBounds s n a
 unfolding lineAnswer
 declare-bounds s k n a e =

@@ -1,6 +1,7 @@
 use mathlib.Core.Path.{ap, _∙_}
 use Rattle.line_parser.specs.Lines.{lineAnswer}
-use Rattle.line_parser.proofs.Laws.{letter-F, letter-P, letter-V, letter-A, letter-connective, letter-quantifier, letter-C, letter-Q, letter-other}
+use Rattle.line_parser.proofs.Laws.{letter-F, letter-P, letter-V, letter-A, letter-connective, letter-quantifier, letter-C, letter-Q}
+use Rattle.line_parser.proofs.Laws.{letter-other}
 use borrow.Author.Needs.{needs}
 use Rattle.line_parser.proofs.read_fields.Statement.{statement}
 use Rattle.line_parser.proofs.read_fields.Tie as tie
@@ -32,7 +33,8 @@ returns-8 c = c .read-goal .ensures ∙ ap lineAnswer (letter-Q _ _ (c .before .
 returns-9 : tie.Need-returns-9
 returns-9 c =
     let r = c .match .rest in
-    letter-other _ _ (r .0 .0 .0 .0 .0 .0 .0 .1) (r .0 .0 .0 .0 .0 .0 .1) (r .0 .0 .0 .0 .0 .1) (r .0 .0 .0 .0 .1) (r .0 .0 .0 .1) (r .0 .0 .1) (r .0 .1) (r .1)
+    letter-other _ _ (r .0 .0 .0 .0 .0 .0 .0 .1) (r .0 .0 .0 .0 .0 .0 .1) (r .0 .0 .0 .0 .0 .1) (r .0 .0 .0 .0 .1) (r .0 .0 .0 .1)
+    (r .0 .0 .1) (r .0 .1) (r .1)
 
 pub read-fields-spec : {M : Type 1} → statement M
 read-fields-spec =

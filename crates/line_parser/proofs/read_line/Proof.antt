@@ -14,7 +14,10 @@ returns-3 : tie.Need-returns-3
 returns-3 c = line-alone _ (c .before .before .if2 .taken) (c .if3 .left)
 
 returns-4 : tie.Need-returns-4
-returns-4 c = c .read-fields .ensures ∙ line-fields _ (c .before .before .before .before .before .before .if1 .left) (c .before .before .before .before .before .if2 .left) (c .before .before .before .if4 .taken)
+returns-4 c =
+    let at-if2 = c .before .before .before .before .before in
+    let at-if1 = at-if2 .before in
+    c .read-fields .ensures ∙ line-fields _ (at-if1 .if1 .left) (at-if2 .if2 .left) (c .before .before .before .if4 .taken)
 
 returns-5 : tie.Need-returns-5
 returns-5 c = line-long _ (c .before .before .before .if1 .left) (c .before .before .if2 .left) (c .if4 .left)

@@ -18,7 +18,8 @@ use Rattle.line_checking.specs.Bindings.{beginsWith, bindWith, bindTerm, bindsV
 -- B lines
 
 module _ (t : List ℕ) (goal : ℕ) (w : List ℕ) (r : Registers) (q i j k e : ℕ) where
-  pub bind-right : (w′ : List ℕ) (s : Registers) (v : ℕ) → j ≡ e → k ≡ 0 → w′ ≡ bindFrame w q (r .frame) (r .node) i j → v ≡ r .node → s ≡ bound t goal r (v + 1) q → made w′ s ≡ bindWith t goal w r q i j k e
+  pub bind-right : (w′ : List ℕ) (s : Registers) (v : ℕ) → j ≡ e → k ≡ 0 → w′ ≡ bindFrame w q (r .frame) (r .node) i j → v ≡ r .node
+      → s ≡ bound t goal r (v + 1) q → made w′ s ≡ bindWith t goal w r q i j k e
   unfolding bindWith
   bind-right w′ s v h z ew ev es = rw (es, ew, ev) (simp (bindWith, eq-eqb _ _ h, eq-eqb _ _ z))
 
@@ -32,7 +33,8 @@ module _ (t : List ℕ) (goal : ℕ) (w : List ℕ) (r : Registers) (q i j k e :
     bind-long h = em ∙ simp (bindWith, ne-eqb _ _ h)
 
 module _ (x : List ℕ) (i v : ℕ) (z : Bool) (ez : z ≡ beginsWith (ascii "B\t") x i) where
-  pub variable-named : (d u b : ℕ) → z ≡ true → d ≡ getD x (i + 2) 0 → u ≡ v → d ≡ 48 + u → b ≡ getD x (i + 3) 0 → eqb b 9 ≡ bindsVariable x i v
+  pub variable-named : (d u b : ℕ) → z ≡ true → d ≡ getD x (i + 2) 0 → u ≡ v → d ≡ 48 + u → b ≡ getD x (i + 3) 0
+      → eqb b 9 ≡ bindsVariable x i v
   unfolding bindsVariable
   variable-named d u b h ed eu f eb = rw (← ez, h, ← ed, ← eu, eq-eqb _ _ f, ← eb)
 
@@ -45,11 +47,13 @@ module _ (x : List ℕ) (i v : ℕ) (z : Bool) (ez : z ≡ beginsWith (ascii "B\
   variable-none h = rw (← ez, h)
 
 module _ (b t : List ℕ) (symbols goal : ℕ) (x w : List ℕ) (r : Registers) (q i e : ℕ) (m : Made) where
-  pub term-read : (j k : ℕ) (o : Scan) → o ≡ scanTerm (length x) b t symbols x i → o ≡ Term j k → m ≡ bindWith t goal w r q i j k e → m ≡ bindTerm b t symbols goal x w r q i e
+  pub term-read : (j k : ℕ) (o : Scan) → o ≡ scanTerm (length x) b t symbols x i → o ≡ Term j k → m ≡ bindWith t goal w r q i j k e
+      → m ≡ bindTerm b t symbols goal x w r q i e
   unfolding bindTerm
   term-read j k o eo h em = rw (bindTerm, ← eo, h) em
 
-  pub term-missing : (o : Scan) → o ≡ scanTerm (length x) b t symbols x i → o ≡ Malformed → m ≡ broken w r → m ≡ bindTerm b t symbols goal x w r q i e
+  pub term-missing : (o : Scan) → o ≡ scanTerm (length x) b t symbols x i → o ≡ Malformed → m ≡ broken w r
+      → m ≡ bindTerm b t symbols goal x w r q i e
   unfolding bindTerm
   term-missing o eo h em = rw (bindTerm, ← eo, h) em
 

@@ -11,16 +11,17 @@ use Rattle.scanning.specs.declared.Number.the-variants.{Value, Missing}
 use Rattle.scanning.specs.declared.Scan.{Scan}
 use Rattle.scanning.specs.declared.Scan.the-variants.{Term, Malformed}
 use Rattle.scanning.specs.Fields as fields
-use Rattle.scanning.specs.Ranges.{readNumber}
-use Rattle.scanning.specs.Frames.{copyFrame}
+use Rattle.scanning.specs.Ranges.{scanNumber}
+use Rattle.scanning.specs.Frames.{copyRanges}
 use Rattle.scanning.specs.Instances.{sameAtoms}
 use Rattle.line_checking.specs.declared.Registers.{Registers}
 use Rattle.line_checking.specs.declared.Place.{Place}
 use Rattle.line_checking.specs.declared.Place.the-variants.{At, Nowhere}
-use Rattle.line_checking.specs.Sequents.{Made, made, broken, onSequent, proceed}
+use Rattle.line_checking.specs.Sequents.{Made, made, broken, withSequent, nextSequent}
 use Rattle.line_checking.specs.Members.{hypothesisFrom}
 use Rattle.line_checking.specs.Bindings.{beginsWith}
-use Rattle.line_checking.specs.Clauses.{read, prefixFrom, onBody, useMember, useTerms, useFound, usePlace, usePlaceAt, clauseFields, clauseLine}
+use Rattle.line_checking.specs.Clauses.{read, prefixFrom, withBody, useMember, useTerms, useFound, usePlace, usePlaceAt, clauseFields}
+use Rattle.line_checking.specs.Clauses.{clauseLine}
 use Rattle.clause_members.specs.declared.Found.{Found}
 use Rattle.clause_members.specs.Members.{member, headOf}
 use lib.Dec.{eqb}
@@ -28,18 +29,18 @@ use lib.Dec.{eqb}
 -- the member
 
 module _ (t w : List ℕ) (r : Registers) (q n k : ℕ) (ek : k ≡ kindOf t n) where
-  pub body-due : (a : ℕ) (s : Registers) → k ≡ 6 → a ≡ childOf t n 0 → s ≡ onSequent r a q (r .hypotheses) (r .level) (r .rest)
-      → s ≡ onBody t w r q n
-  unfolding onBody
+  pub body-due : (a : ℕ) (s : Registers) → k ≡ 6 → a ≡ childOf t n 0 → s ≡ withSequent r a q (r .hypotheses) (r .level) (r .rest)
+      → s ≡ withBody t w r q n
+  unfolding withBody
   body-due a s h ea es = rw (es, ea, ← ek, eq-eqb _ _ h)
 
-  pub body-none : (s : Registers) → (k ≡ 6 → ⊥) → s ≡ proceed w r → s ≡ onBody t w r q n
-  unfolding onBody
+  pub body-none : (s : Registers) → (k ≡ 6 → ⊥) → s ≡ nextSequent w r → s ≡ withBody t w r q n
+  unfolding withBody
   body-none s h es = rw (es, ← ek, ne-eqb _ _ h)
 
 module _ (b t x w : List ℕ) (r : Registers) (q n : ℕ) where
   module _ (a : ℕ) (z : Bool) (ea : a ≡ headOf t n) (ez : z ≡ sameAtoms b t x w (r .frame) q (r .node) a) where
-    pub member-same : (s : Registers) → z ≡ true → s ≡ onBody t w r q n → made w s ≡ useMember b t x w r q n
+    pub member-same : (s : Registers) → z ≡ true → s ≡ withBody t w r q n → made w s ≡ useMember b t x w r q n
     unfolding useMember
     member-same s h es = rw (es, ← ea, ← ez, h)
 
@@ -51,7 +52,7 @@ module _ (b t x w : List ℕ) (r : Registers) (q n : ℕ) where
 
 module _ (b t : List ℕ) (symbols : ℕ) (x w : List ℕ) (r : Registers) (q i e : ℕ) (m : Made) where
   module _ (clauses : ℕ) where
-    module _ (o : Number) (eo : o ≡ readNumber x i) where
+    module _ (o : Number) (eo : o ≡ scanNumber x i) where
       pub place-missing : o ≡ Missing → m ≡ broken w r → m ≡ clauseFields b t symbols clauses x w r q i e
       unfolding clauseFields
       place-missing h em = rw (clauseFields, ← eo, h) em
@@ -74,7 +75,7 @@ module _ (b t : List ℕ) (symbols : ℕ) (x w : List ℕ) (r : Registers) (q i 
         place-nowhere f em = place-read (rw (usePlace, f) em)
 
         module _ (n f c : ℕ) (ef : p ≡ At n f c) (a : Found) (w₁ w₂ : List ℕ) (s : Scan) (ea : a ≡ member t n c)
-            (e₁ : w₁ ≡ copyFrame 16 w q f 0)
+            (e₁ : w₁ ≡ copyRanges 16 w q f 0)
             (e₂ : read w₂ s ≡ prefixFrom (a .count) b t symbols x w₁ q (a .names) j (r .level) e) where
           terms-read : m ≡ useTerms b t x r q (a .leaf) (read w₂ s) e → m ≡ clauseFields b t symbols clauses x w r q i e
           unfolding usePlace useFound

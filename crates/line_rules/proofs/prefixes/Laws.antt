@@ -11,13 +11,13 @@ use borrow.Author.Tests.{ltb-true, ltb-false, le-leb, lt-leb, eq-eqb, ne-eqb}
 use Rattle.scanning.specs.declared.Scan.{Scan}
 use Rattle.scanning.specs.declared.Scan.the-variants.{Term, Malformed}
 use Rattle.scanning.specs.Scanning.{scanTerm}
-use Rattle.scanning.specs.Frames.{putSlot}
+use Rattle.scanning.specs.Frames.{putRange}
 use Rattle.line_checking.specs.Clauses.{Read, read, prefixTerm, prefixAt, prefixFrom}
 
 -- terms of a prefix
 
 module _ (w : List ℕ) (q v i j k m e : ℕ) where
-  pub prefix-right : (w′ : List ℕ) → j ≤ e → k ≤ m → w′ ≡ putSlot w q v i j → read w′ (Term j k) ≡ prefixTerm w q v i j k m e
+  pub prefix-right : (w′ : List ℕ) → j ≤ e → k ≤ m → w′ ≡ putRange w q v i j → read w′ (Term j k) ≡ prefixTerm w q v i j k m e
   unfolding prefixTerm
   prefix-right w′ h l ew = rw (ew, le-leb _ _ h, le-leb _ _ l)
 
@@ -66,7 +66,8 @@ module _ (b t : List ℕ) (symbols : ℕ) (x w : List ℕ) (q : ℕ) where
       terms-wrong zero p h = absurd (omega arith)
       terms-wrong (suc n) p h = rw (prefixFrom, ← eo, h, ← eo, h)
 
-      pub terms-on : (n j k : ℕ) → 0 < n → o ≡ Term j k → prefixFrom n b t symbols x w q vs i m e ≡ prefixFrom (n - 1) b t symbols x w′ q (vs / 8) j m e
+      pub terms-on : (n j k : ℕ) → 0 < n → o ≡ Term j k
+          → prefixFrom n b t symbols x w q vs i m e ≡ prefixFrom (n - 1) b t symbols x w′ q (vs / 8) j m e
       unfolding prefixFrom
       terms-on zero j k p h = absurd (omega arith)
       terms-on (suc n) j k p h = rw (sub-one (suc n), prefixFrom, ← eo, h, ← eo)

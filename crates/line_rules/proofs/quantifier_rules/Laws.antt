@@ -12,14 +12,15 @@ use Rattle.scanning.specs.declared.Scan.the-variants.{Term, Malformed}
 use Rattle.scanning.specs.Scanning.{scanSymbol, scanTerm}
 use Rattle.scanning.specs.Frames.{bindFrame}
 use Rattle.line_checking.specs.declared.Registers.{Registers}
-use Rattle.line_checking.specs.Sequents.{Made, made, broken, onSequent}
+use Rattle.line_checking.specs.Sequents.{Made, made, broken, withSequent}
 use Rattle.line_checking.specs.Bindings.{beginsWith}
 use Rattle.line_checking.specs.Rules.{bindGoal, someWith, someTerm, someLine, allWith, allConstant, allLine}
 
 -- lines with a term
 
 module _ (t w : List ℕ) (r : Registers) (q i j k : ℕ) where
-  pub goal-bound : (v a : ℕ) (w′ : List ℕ) (s : Registers) → v ≡ labelOf t (r .node) → a ≡ childOf t (r .node) 0 → w′ ≡ bindFrame w q (r .frame) v i j → s ≡ onSequent r a q (r .hypotheses) k (r .rest) → made w′ s ≡ bindGoal t w r q i j k
+  pub goal-bound : (v a : ℕ) (w′ : List ℕ) (s : Registers) → v ≡ labelOf t (r .node) → a ≡ childOf t (r .node) 0
+      → w′ ≡ bindFrame w q (r .frame) v i j → s ≡ withSequent r a q (r .hypotheses) k (r .rest) → made w′ s ≡ bindGoal t w r q i j k
   unfolding bindGoal
   goal-bound v a w′ s ev ea ew es = rw (es, ew, ea, ev)
 
@@ -50,11 +51,13 @@ module _ (t w : List ℕ) (r : Registers) (q i j k : ℕ) where
     all-long h em = rw (ne-eqb _ _ h) em
 
 module _ (b t : List ℕ) (symbols : ℕ) (x w : List ℕ) (r : Registers) (q i e : ℕ) (m : Made) where
-  pub term-read : (j k : ℕ) (o : Scan) → o ≡ scanTerm (length x) b t symbols x i → o ≡ Term j k → m ≡ someWith t w r q i j k e → m ≡ someTerm b t symbols x w r q i e
+  pub term-read : (j k : ℕ) (o : Scan) → o ≡ scanTerm (length x) b t symbols x i → o ≡ Term j k → m ≡ someWith t w r q i j k e
+      → m ≡ someTerm b t symbols x w r q i e
   unfolding someTerm
   term-read j k o eo h em = rw (someTerm, ← eo, h) em
 
-  pub term-missing : (o : Scan) → o ≡ scanTerm (length x) b t symbols x i → o ≡ Malformed → m ≡ broken w r → m ≡ someTerm b t symbols x w r q i e
+  pub term-missing : (o : Scan) → o ≡ scanTerm (length x) b t symbols x i → o ≡ Malformed → m ≡ broken w r
+      → m ≡ someTerm b t symbols x w r q i e
   unfolding someTerm
   term-missing o eo h em = rw (someTerm, ← eo, h) em
 
@@ -68,7 +71,8 @@ module _ (b t : List ℕ) (symbols : ℕ) (x w : List ℕ) (r : Registers) (q i 
     some-wrong h em = rw (← ez, h) em
 
 module _ (t x w : List ℕ) (r : Registers) (q i e : ℕ) (m : Made) where
-  pub constant-read : (j k : ℕ) (o : Scan) → o ≡ scanSymbol x (i + 1) → o ≡ Term j k → m ≡ allWith t w r q i j k e → m ≡ allConstant t x w r q i e
+  pub constant-read : (j k : ℕ) (o : Scan) → o ≡ scanSymbol x (i + 1) → o ≡ Term j k → m ≡ allWith t w r q i j k e
+      → m ≡ allConstant t x w r q i e
   unfolding allConstant
   constant-read j k o eo h em = rw (allConstant, ← eo, h) em
 

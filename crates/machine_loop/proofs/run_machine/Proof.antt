@@ -6,7 +6,13 @@ use Rattle.machine_loop.proofs.run_machine.Tie as tie
 returns : tie.Need-returns
 unfolding runMachine
 returns c =
-    simp (runMachine, ← c .before .before .run .ensures, ← c .before .before .before .start-registers .ensures, ← c .before .before .before .before .before .before .before .start-memory .ensures)
+    let at-start-memory = c .before .before .before .before .before .before .before in
+    simp (
+      runMachine,
+      ← c .before .before .run-acts .ensures,
+      ← c .before .before .before .start-registers .ensures,
+      ← at-start-memory .start-memory .ensures,
+    )
 
 pub run-machine-spec : {M : Type 1} → statement M
 run-machine-spec =

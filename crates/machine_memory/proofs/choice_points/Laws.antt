@@ -6,26 +6,33 @@ use borrow.Author.Tests.{eq-eqb, ne-eqb}
 use Rattle.machine.specs.declared.Registers.{Registers}
 use Rattle.machine.specs.Fields as fields
 use Rattle.machine.specs.Records.{made, noMode, tryMode, takeMode}
-use Rattle.machine.specs.Changes.{onMode, onNext, onTrail, onChoice, onGoals, onPath, onGoal, onMember}
+use Rattle.machine.specs.RegisterUpdates.{withMode, withNext, withTrail, withChoice, withGoals, withPath, withGoal, withMember}
 use Rattle.machine.specs.Trail.{undo}
-use Rattle.machine.specs.Choices.{resumeGoal, resumeMember, resumeBranch, resume, takeUp, failed}
+use Rattle.machine.specs.ChoicePoints.{resumeGoal, resumeMember, resumeBranch, resume, backtrack, failed}
 use Rattle.memory.specs.Records.{field}
 
 -- Going on with what was saved in record q.
 module _ (w : List ℕ) (r : Registers) (q : ℕ) where
-  pub goal-resumed : (n f h i : ℕ) (s : Registers) → n ≡ field w q fields.choiceNode → f ≡ field w q fields.choiceFrame → h ≡ field w q fields.choiceProgram → i ≡ field w q fields.choiceLevel → s ≡ onGoal r n f h i → s ≡ resumeGoal w r q
+  pub goal-resumed : (n f h i : ℕ) (s : Registers) → n ≡ field w q fields.choiceNode → f ≡ field w q fields.choiceFrame
+      → h ≡ field w q fields.choiceProgram → i ≡ field w q fields.choiceLevel → s ≡ withGoal r n f h i → s ≡ resumeGoal w r q
   unfolding resumeGoal
   goal-resumed n f h i s en ef eh ei es = rw (es, en, ef, eh, ei)
 
-  pub no-member-resumed : (p h c k : ℕ) (m s : Registers) → p ≡ field w q fields.choicePlace → h ≡ field w q fields.choiceHypothesis → c ≡ field w q fields.choiceClause → k ≡ field w q fields.choiceMember → m ≡ onMember r h c k p → p ≡ 0 → s ≡ onMode m takeMode → s ≡ resumeMember w r q
+  pub no-member-resumed : (p h c k : ℕ) (m s : Registers) → p ≡ field w q fields.choicePlace → h ≡ field w q fields.choiceHypothesis
+      → c ≡ field w q fields.choiceClause → k ≡ field w q fields.choiceMember → m ≡ withMember r h c k p → p ≡ 0 → s ≡ withMode m takeMode
+      → s ≡ resumeMember w r q
   unfolding resumeMember
   no-member-resumed p h c k m s ep eh ec ek em z es = rw (es, em, eh, ec, ek, ← ep, eq-eqb _ _ z)
 
-  pub member-resumed : (p h c k : ℕ) (m s : Registers) → p ≡ field w q fields.choicePlace → h ≡ field w q fields.choiceHypothesis → c ≡ field w q fields.choiceClause → k ≡ field w q fields.choiceMember → m ≡ onMember r h c k p → (p ≡ 0 → ⊥) → s ≡ onMode m tryMode → s ≡ resumeMember w r q
+  pub member-resumed : (p h c k : ℕ) (m s : Registers) → p ≡ field w q fields.choicePlace → h ≡ field w q fields.choiceHypothesis
+      → c ≡ field w q fields.choiceClause → k ≡ field w q fields.choiceMember → m ≡ withMember r h c k p → (p ≡ 0 → ⊥)
+      → s ≡ withMode m tryMode → s ≡ resumeMember w r q
   unfolding resumeMember
   member-resumed p h c k m s ep eh ec ek em z es = rw (es, em, eh, ec, ek, ← ep, ne-eqb _ _ z)
 
-  pub branch-resumed : (n h o g p l : ℕ) → n ≡ field w q fields.variables → h ≡ field w q fields.choiceTrail → o ≡ field w q fields.choiceBefore → g ≡ field w q fields.choiceGoals → p ≡ field w q fields.choicePath → l ≡ field w q fields.choiceLine → onPath (onGoals (onChoice (onTrail (onNext r n) h) o) g) p l ≡ resumeBranch w r q
+  pub branch-resumed : (n h o g p l : ℕ) → n ≡ field w q fields.variables → h ≡ field w q fields.choiceTrail
+      → o ≡ field w q fields.choiceBefore → g ≡ field w q fields.choiceGoals → p ≡ field w q fields.choicePath
+      → l ≡ field w q fields.choiceLine → withPath (withGoals (withChoice (withTrail (withNext r n) h) o) g) p l ≡ resumeBranch w r q
   unfolding resumeBranch
   branch-resumed n h o g p l en eh eo eg ep el = rw (en, eh, eo, eg, ep, el)
 
@@ -33,15 +40,17 @@ module _ (w : List ℕ) (r : Registers) (q : ℕ) where
   unfolding resume
   all-resumed a b s ea eb es = rw (es, eb, ea)
 
-  pub taken-up : (w′ : List ℕ) (m : ℕ) (s : Registers) → s ≡ resume w r q → m ≡ field w q fields.choiceTrail → w′ ≡ undo (r .trail) w (r .trail) m → made w′ s ≡ takeUp w r q
-  unfolding takeUp
-  taken-up w′ m s es em ew = rw (ew, em, es)
+  pub backtracked : (w′ : List ℕ) (m : ℕ) (s : Registers) → s ≡ resume w r q → m ≡ field w q fields.choiceTrail
+      → w′ ≡ undo (r .trail) w (r .trail) m → made w′ s ≡ backtrack w r q
+  unfolding backtrack
+  backtracked w′ m s es em ew = rw (ew, em, es)
 
 -- Failure.
-pub failed-all : (w : List ℕ) (r s : Registers) → r .choice ≡ 0 → s ≡ onMode r noMode → made w s ≡ failed w r
+pub failed-all : (w : List ℕ) (r s : Registers) → r .choice ≡ 0 → s ≡ withMode r noMode → made w s ≡ failed w r
 unfolding failed
 failed-all w r s z es = rw (es, eq-eqb _ _ z)
 
-pub failed-here : (w w′ : List ℕ) (r s : Registers) → (r .choice ≡ 0 → ⊥) → made w′ s ≡ takeUp w r (r .choice - 1) → made w′ s ≡ failed w r
+pub failed-here : (w w′ : List ℕ) (r s : Registers) → (r .choice ≡ 0 → ⊥) → made w′ s ≡ backtrack w r (r .choice - 1)
+    → made w′ s ≡ failed w r
 unfolding failed
 failed-here w w′ r s z es = es ∙ rw (ne-eqb _ _ z)

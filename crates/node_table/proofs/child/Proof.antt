@@ -6,7 +6,7 @@ use Rattle.node_table.proofs.child.Tie as tie
 returns : tie.Need-returns
 unfolding childOf
 returns c =
-    simp (childOf, ← c .node-field .ensures, ← c .before .wide .ensures .0)
+    simp (childOf, ← c .node-field .ensures, ← c .before .widen .ensures .0)
 
 pub child-spec : {M : Type 1} → statement M
 child-spec = tie.close (tie.spec (λ c κs. search needs) (λ c. search needs) (λ c κs. search needs) returns)

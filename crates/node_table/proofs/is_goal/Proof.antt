@@ -2,11 +2,9 @@ use borrow.Author.Needs.{needs}
 use Rattle.node_table.proofs.is_goal.Statement.{statement}
 use Rattle.node_table.proofs.is_goal.Tie as tie
 
--- src/lib.rt:79:5
 goal-bit-requires : tie.Need-goal-bit-requires
 goal-bit-requires c κs = search needs
 
--- src/lib.rt:76:1
 returns : tie.Need-returns
 returns c = simp (← c .goal-bit .ensures .0)
 

@@ -4,7 +4,8 @@ use Rattle.node_table.proofs.node_field.Tie as tie
 
 returns : tie.Need-returns
 returns c =
-    simp (← c .get .ensures, ← c .before .wide .ensures .0)
+    simp (← c .get .ensures, ← c .before .widen .ensures .0)
 
 pub node-field-spec : {M : Type 1} → statement M
-node-field-spec = tie.close (tie.spec (λ c κs. search needs) (λ c. search needs) (λ c. search needs) (λ c. search needs) (λ c κs. search needs) returns)
+node-field-spec =
+    tie.close (tie.spec (λ c κs. search needs) (λ c. search needs) (λ c. search needs) (λ c. search needs) (λ c κs. search needs) returns)

@@ -7,7 +7,11 @@ returns : tie.Need-returns
 returns c = order-new _ _ _ _ (c .before .number-after .ensures .0) (c .if1 .taken)
 
 returns-2 : tie.Need-returns-2
-returns-2 c = order-old _ _ _ _ _ _ _ (c .before .before .before .before .before .number-after .ensures .0) (c .before .before .before .before .if1 .left) (c .before .before .before .if2 .taken) (c .before .before .byte .ensures) (c .before .first-level .ensures) (c .level-at .ensures)
+returns-2 c =
+    let at-if1 = c .before .before .before .before in
+    let at-number-after = at-if1 .before in
+    order-old _ _ _ _ _ _ _ (at-number-after .number-after .ensures .0) (at-if1 .if1 .left) (c .before .before .before .if2 .taken)
+    (c .before .before .byte .ensures) (c .before .first-level .ensures) (c .level-at .ensures)
 
 returns-3 : tie.Need-returns-3
 returns-3 c = order-none _ _ _ _ (c .before .before .number-after .ensures .0) (c .before .if1 .left) (c .if2 .left)

@@ -5,7 +5,13 @@ use Rattle.rules.proofs.put_check.Statement.{statement}
 use Rattle.rules.proofs.put_check.Tie as tie
 
 returns : tie.Need-returns
-returns c = (refl, and-put _ _ _ _ _ (and-put _ _ _ _ _ (first-put _ _ _ (c .before .before .before .before .before .before .before .before .before .before .put .ensures)) (c .before .before .before .before .before .before .put2 .ensures)) (c .before .before .put3 .ensures))
+returns c =
+    let at-put2 = c .before .before .before .before .before .before in
+    let at-put = at-put2 .before .before .before .before in (
+      refl,
+      and-put _ _ _ _ _ (and-put _ _ _ _ _ (first-put _ _ _ (at-put .put .ensures)) (at-put2 .put2 .ensures))
+          (c .before .before .put3 .ensures),
+    )
 
 pub put-check-spec : {M : Type 1} → statement M
 put-check-spec =

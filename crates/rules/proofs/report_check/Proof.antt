@@ -6,15 +6,21 @@ use Rattle.rules.proofs.report_check.Tie as tie
 
 returns : tie.Need-returns
 unfolding verdictCode verdictLine verdictNumber
-returns c = check-reported _ _ _ _ _ (c .before .before .before .before .enum-told .given .1) (c .before .before .put-check .ensures)
+returns c =
+    let at-enum-told = c .before .before .before .before in
+    check-reported _ _ _ _ _ (at-enum-told .enum-told .given .1) (c .before .before .put-check .ensures)
 
 returns-2 : tie.Need-returns-2
 unfolding verdictCode verdictLine verdictNumber
-returns-2 c = check-reported _ _ _ _ _ (c .before .before .before .before .before .v .given .1) (c .before .before .put-check2 .ensures)
+returns-2 c =
+    let at-v = c .before .before .before .before .before in
+    check-reported _ _ _ _ _ (at-v .v .given .1) (c .before .before .put-check2 .ensures)
 
 returns-3 : tie.Need-returns-3
 unfolding verdictCode verdictLine verdictNumber
-returns-3 c = check-reported _ _ _ _ _ (c .before .before .before .before .before .v2 .given .1) (c .before .before .put-check3 .ensures)
+returns-3 c =
+    let at-v2 = c .before .before .before .before .before in
+    check-reported _ _ _ _ _ (at-v2 .v2 .given .1) (c .before .before .put-check3 .ensures)
 
 pub report-check-spec : {M : Type 1} → statement M
 report-check-spec =

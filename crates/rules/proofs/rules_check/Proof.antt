@@ -4,7 +4,9 @@ use Rattle.rules.proofs.rules_check.Statement.{statement}
 use Rattle.rules.proofs.rules_check.Tie as tie
 
 returns : tie.Need-returns
-returns c = rules-check _ _ _ _ _ _ _ _ _ _ (c .before .before .before .before .before .before .before .before .check .ensures) (c .before .before .report-check .ensures)
+returns c =
+    let at-check = c .before .before .before .before .before .before .before .before in
+    rules-check _ _ _ _ _ _ _ _ _ _ (at-check .check .ensures) (c .before .before .report-check .ensures)
 
 pub rules-check-spec : {M : Type 1} → statement M
 rules-check-spec =

@@ -4,7 +4,9 @@ use Rattle.rules.proofs.rules_run.Statement.{statement}
 use Rattle.rules.proofs.rules_run.Tie as tie
 
 returns : tie.Need-returns
-returns c = rules-run _ _ _ _ _ _ _ _ _ _ _ _ (c .before .before .before .before .before .before .before .before .before .before .run .ensures) (c .before .before .report-run .ensures)
+returns c =
+    let at-run = c .before .before .before .before .before .before .before .before .before .before in
+    rules-run _ _ _ _ _ _ _ _ _ _ _ _ (at-run .run .ensures) (c .before .before .report-run .ensures)
 
 pub rules-run-spec : {M : Type 1} → statement M
 rules-run-spec =

@@ -6,7 +6,7 @@ use Rattle.sheet_reader.proofs.finish.Tie as tie
 
 returns : tie.Need-returns
 unfolding finished
-returns c = simp (lt-ltb _ _ (c .before .if1 .taken), c .refused .ensures)
+returns c = simp (lt-ltb _ _ (c .before .if1 .taken), c .refused-read .ensures)
 
 returns-2 : tie.Need-returns-2
 unfolding finished

@@ -20,7 +20,8 @@ ends : (c : tie.Else1 Inv-loop μ-loop)
     × LineEnds (c .before .before .before .before .before .before .args .sheet .now) (c .before .before .before .loop .at)
     (c .before .before .before .loop .line) (c .before .line-end .result)
 ends c =
-    let start = c .before .before .before .before .before .before in
+    let at-point = c .before .before .before .before .before .before in
+    let start = at-point in
     (start .pre .0, reading-line (c .before .before .before .loop .inv) (c .before .line-end .ensures) (c .if1 .left))
 
 loop-holds : tie.Need-loop-holds Inv-loop μ-loop
@@ -30,18 +31,19 @@ returns : tie.Need-returns Inv-loop μ-loop
 returns c =
     let at-line-end = c .before .before in
     reading-open _ _ _ _ _ _ _ (at-line-end .before .before .loop .inv) _ (at-line-end .before .loop-test .taken)
-    (at-line-end .line-end .ensures) (c .before .if1 .taken) (c .refused .ensures)
+    (at-line-end .line-end .ensures) (c .before .if1 .taken) (c .refused-read .ensures)
 
 read-at-requires : tie.Need-read-at-requires Inv-loop μ-loop
 read-at-requires c κs = let e = ends (c .before) in (e .0, e .1 .from, search needs)
 
 returns-2 : tie.Need-returns-2 Inv-loop μ-loop
 returns-2 c =
-    let at-read-at = c .before .before .before .before .before .before in
+    let at-point = c .before .before .before .before .before .before in
+    let at-read-at = at-point in
     let at-if1 = at-read-at .before .before in
     reading-stops _ _ _ _ _ _ _ _ _ (at-if1 .before .before .before .loop .inv) (at-if1 .before .before .loop-test .taken)
     (at-if1 .before .line-end .ensures) (at-if1 .if1 .left) (at-read-at .read-at .ensures) _ _ (c .before .before .taken2 .given .1)
-    (c .refused2 .ensures)
+    (c .refused-read2 .ensures)
 
 add-finish : tie.Need-add-finish Inv-loop μ-loop
 add-finish c = let e = ends (c .before .before .before .before .before .before .before) in omega arith
@@ -51,7 +53,8 @@ add-finish-2 c = let e = ends (c .before .before .before .before .before .before
 
 returns-3 : tie.Need-returns-3 Inv-loop μ-loop
 returns-3 c =
-    let at-read-at = c .before .before .before .before .before .before in
+    let at-point = c .before .before .before .before .before .before in
+    let at-read-at = at-point in
     let at-if1 = at-read-at .before .before in
     reading-ends _ _ _ _ _ _ _ _ _ (at-if1 .before .before .before .loop .inv) (at-if1 .before .before .loop-test .taken)
     (at-if1 .before .line-end .ensures) (at-if1 .if1 .left) (at-read-at .read-at .ensures) _ _ (c .before .before .taken3 .given .1)
@@ -68,13 +71,14 @@ loop-less c = let e = ends (c .before .before .before .before .before .before .b
 
 loop-again : tie.Need-loop-again Inv-loop μ-loop
 loop-again c =
-    let at-read-at = c .before .before .before .before .before in
+    let at-point = c .before .before .before .before .before in
+    let at-read-at = at-point in
     let at-if1 = at-read-at .before .before in
     reading-on _ _ _ _ _ _ _ _ _ (at-if1 .before .before .before .loop .inv) (at-if1 .before .before .loop-test .taken)
     (at-if1 .before .line-end .ensures) (at-if1 .if1 .left) (at-read-at .read-at .ensures) _ (c .before .taken .given .1)
 
 returns-4 : tie.Need-returns-4 Inv-loop μ-loop
-returns-4 c = reading-none _ _ _ _ _ _ _ (c .before .before .loop .inv) (c .before .loop-test .left) (c .refused3 .ensures)
+returns-4 c = reading-none _ _ _ _ _ _ _ (c .before .before .loop .inv) (c .before .loop-test .left) (c .refused-read3 .ensures)
 
 pub read-sheet-spec : {M : Type 1} → statement M
 read-sheet-spec =

@@ -11,7 +11,7 @@ use lib.ListN.{length, drop, length-drop, drop-of-length-le}
 use borrow.Author.Tests.{ltb-true, ltb-false}
 use Rattle.sheet_format.proofs.Bytes.{linesOf-other}
 use Rattle.sheet_format.specs.Limits.{tableNumbers}
-use Rattle.sheet_format.specs.Bytes.{lf, Lines, onLine, linesOf}
+use Rattle.sheet_format.specs.Bytes.{lf, Lines, extendLine, linesOf}
 use Rattle.sheet_format.specs.SheetLines.{parseLine}
 use Rattle.sheet_format.specs.Sheets.{Sheet, refusal, sheet, refused, Table, next, stop, last, atEnd, afterGoal, readFrom, readSheet}
 use Rattle.sheet_format.specs.Sheets.{Read as SheetRead, Taken as SheetTaken, takeLine as sheetLine}
@@ -20,12 +20,13 @@ use Rattle.node_table.specs.WellMade.{IsGoal}
 use Rattle.table_builder.specs.declared.node_info.Counts.{Counts}
 use Rattle.table_builder.specs.declared.node_info.Taken.{Taken}
 use Rattle.table_builder.specs.declared.node_info.Taken.the-variants.{Next, Stop, Last}
-use Rattle.table_builder.specs.Making.{made, counts}
-use Rattle.table_decoding.specs.Standing.{nodesFrom, tableOf, Stands, Agrees, Follows}
+use Rattle.table_builder.specs.Nodes.{made, counts}
+use Rattle.table_decoding.specs.Decoding.{nodesFrom, tableOf, Decodes, Agrees, Follows}
 use Rattle.table_decoding.proofs.Lines.{stands-empty, well-made, all-named}
 use Rattle.sheet_reader.specs.declared.sheet_lines.Read.{Read}
 use Rattle.sheet_reader.specs.declared.sheet_lines.Read.the-variants.{Done}
-use Rattle.sheet_reader.specs.Reader.{readOf, WellRead, NamedRead, nodesIn, nodeCount, goalOr, goalNamed, Counted, ReadContract, lineEnd, lineTaken, refusedRead, finished}
+use Rattle.sheet_reader.specs.Reader.{readOf, WellRead, NamedRead, nodesIn, nodeCount, goalOr, goalNamed, Counted, ReadContract}
+use Rattle.sheet_reader.specs.Reader.{lineEnd, lineTaken, refusedRead, finished}
 use Rattle.sheet_reader.proofs.sheet_lines.Lines.{linesOf-lf, line-at, open-at, end-within}
 use Rattle.sheet_reader.proofs.sheet_lines.Steps.{between, next-adds, line-follows, EndsAt, line-last}
 
@@ -39,10 +40,11 @@ readOn b line table = readFrom (linesOf b .whole) (linesOf b .rest) line table
 unfoldable afterLine : SheetTaken → List ℕ → ℕ → Table → SheetRead
 afterLine (next u) b line table = readOn b (suc line) u
 afterLine (stop n) b line table = refused (refusal n line)
-afterLine (last g) b line table = afterGoal (linesOf b .whole) (linesOf b .rest) (suc line) (record { symbols = table .symbols; clauses = table .clauses; goal = g })
+afterLine (last g) b line table =
+    afterGoal (linesOf b .whole) (linesOf b .rest) (suc line) (record { symbols = table .symbols; clauses = table .clauses; goal = g })
 
 module _ (s : List ℕ) (at line : ℕ) (table : Table) where
-  -- a whole line
+  -- A whole line is taken, and reading goes on after its LF.
   on-line : (end : ℕ) → at ≤ length s → end ≡ lineEnd s at → (end ≡ length s → ⊥)
       → readOn (drop at s) line table ≡ afterLine (sheetLine table (parseLine (between s at end))) (drop (end + 1) s) line table
   unfolding readOn readFrom afterLine
@@ -51,36 +53,40 @@ module _ (s : List ℕ) (at line : ℕ) (table : Table) where
       ∙ go (sheetLine table (parseLine (between s at end))) refl
     where
       go : (x : SheetTaken) → sheetLine table (parseLine (between s at end)) ≡ x
-          → readFrom (between s at end ∷ linesOf (drop (end + 1) s) .whole) (linesOf (drop (end + 1) s) .rest) line table ≡ afterLine x (drop (end + 1) s) line table
+          → readFrom (between s at end ∷ linesOf (drop (end + 1) s) .whole) (linesOf (drop (end + 1) s) .rest) line table ≡ afterLine x
+          (drop (end + 1) s) line table
       go (next u) e = rw (e, readFrom)
       go (stop n) e = rw (e, readFrom)
       go (last g) e = rw (e, readFrom)
 
-  -- a line without LF
+  -- A line without LF is refused with 6.
   on-open : (end : ℕ) → at < length s → end ≡ lineEnd s at → end ≡ length s → readOn (drop at s) line table ≡ refused (refusal 6 line)
   unfolding readOn readFrom atEnd
-  on-open end h e n = ap (λ (l : Lines). readFrom (l .whole) (l .rest) line table) (open-at s at end (omega arith) e n) ∙ some-left (drop at s) (omega (arith, length-drop at s))
+  on-open end h e n =
+      ap (λ (l : Lines). readFrom (l .whole) (l .rest) line table) (open-at s at end (omega arith) e n)
+      ∙ some-left (drop at s) (omega (arith, length-drop at s))
     where
       some-left : (b : List ℕ) → 0 < length b → atEnd b line ≡ refused (refusal 6 line)
       some-left [] h = absurd (omega arith)
       some-left (c ∷ cs) h = refl
 
-  -- nothing
+  -- Where no byte is left, the sheet is refused with 11.
   on-none : length s ≤ at → readOn (drop at s) line table ≡ refused (refusal 11 line)
   unfolding readOn readFrom linesOf atEnd
   on-none h = rw (drop-of-length-le s h)
 
 -- after the Q line
 
--- any byte is one too many
-after-some : (c : ℕ) (cs : List ℕ) (line : ℕ) (x : Sheet) → afterGoal (linesOf (c ∷ cs) .whole) (linesOf (c ∷ cs) .rest) line x ≡ refused (refusal 11 line)
-unfolding afterGoal onLine
+-- Any byte after the Q line is one too many.
+after-some : (c : ℕ) (cs : List ℕ) (line : ℕ) (x : Sheet)
+    → afterGoal (linesOf (c ∷ cs) .whole) (linesOf (c ∷ cs) .rest) line x ≡ refused (refusal 11 line)
+unfolding afterGoal extendLine
 after-some c cs line x = go (eqb c lf) refl
   where
     after : Lines → SheetRead
     after l = afterGoal (l .whole) (l .rest) line x
 
-    on : (ls : List (List ℕ)) (r : List ℕ) → after (onLine c ls r) ≡ refused (refusal 11 line)
+    on : (ls : List (List ℕ)) (r : List ℕ) → after (extendLine c ls r) ≡ refused (refusal 11 line)
     on [] r = refl
     on (l ∷ ls) r = refl
 
@@ -88,20 +94,22 @@ after-some c cs line x = go (eqb c lf) refl
     go true e = ap after (linesOf-lf c cs e)
     go false e = ap after (linesOf-other c cs e) ∙ on (linesOf cs .whole) (linesOf cs .rest)
 
--- none is none
-after-none : (s : List ℕ) (at line : ℕ) (x : Sheet) → length s ≤ at → afterGoal (linesOf (drop at s) .whole) (linesOf (drop at s) .rest) line x ≡ sheet x
+-- If no byte follows the Q line, the sheet is read.
+after-none : (s : List ℕ) (at line : ℕ) (x : Sheet) → length s ≤ at
+    → afterGoal (linesOf (drop at s) .whole) (linesOf (drop at s) .rest) line x ≡ sheet x
 unfolding afterGoal linesOf
 after-none s at line x h = rw (drop-of-length-le s h)
 
--- bytes from there on
-after-more : (s : List ℕ) (at line : ℕ) (x : Sheet) → at < length s → afterGoal (linesOf (drop at s) .whole) (linesOf (drop at s) .rest) line x ≡ refused (refusal 11 line)
+-- If bytes follow the Q line from `at` on, the sheet is refused with 11.
+after-more : (s : List ℕ) (at line : ℕ) (x : Sheet) → at < length s
+    → afterGoal (linesOf (drop at s) .whole) (linesOf (drop at s) .rest) line x ≡ refused (refusal 11 line)
 after-more s at line x h = go (drop at s) (omega (arith, length-drop at s))
   where
     go : (b : List ℕ) → 0 < length b → afterGoal (linesOf b .whole) (linesOf b .rest) line x ≡ refused (refusal 11 line)
     go [] h = absurd (omega arith)
     go (c ∷ cs) h = after-some c cs line x
 
--- as many nodes as are counted
+-- The nodes read from the table are as many as are counted.
 nodes-length : (t : List ℕ) (c n : ℕ) → length (nodesFrom t c n) ≡ c
 unfolding nodesFrom
 nodes-length t zero n = refl
@@ -115,14 +123,14 @@ table-nodes bytes t k = nodes-length t (k .nodes) 0
 pub record Reading (bytes t₀ t : List ℕ) (k : Counts) (at line : ℕ) : Type 0 where
   pub within : at ≤ length bytes
   pub few : line ≤ at + 1
-  pub stands : Stands bytes t k
+  pub stands : Decodes bytes t k
   pub ahead : readSheet bytes ≡ readOn (drop at bytes) line (tableOf bytes t k)
   pub nodes : nodeCount (linesOf bytes .whole) ≡ k .nodes + nodeCount (linesOf (drop at bytes) .whole)
   pub goal : goalNamed (linesOf bytes .whole) ≡ goalNamed (linesOf (drop at bytes) .whole)
   pub long : length t ≡ length t₀
   pub rest : drop tableNumbers t ≡ drop tableNumbers t₀
 
--- the first line
+-- The invariant `Reading` holds before the first line.
 pub reading-begins : (bytes t : List ℕ) → tableNumbers ≤ length t → Reading bytes t t (counts 0 0 0) 0 1
 unfolding readSheet readOn tableOf declarationsFrom nodesFrom clausesFrom
 reading-begins bytes t h = record {
@@ -142,62 +150,71 @@ pub record LineEnds (bytes : List ℕ) (at line end : ℕ) : Type 0 where
   pub within : end < length bytes
   pub few : line ≤ at + 1
 
--- of the line that is read
-pub reading-line : {bytes t₀ t : List ℕ} {k : Counts} {at line end : ℕ} → Reading bytes t₀ t k at line → end ≡ lineEnd bytes at → (end ≡ length bytes → ⊥)
+-- The line that is read ends at an LF within the bytes.
+pub reading-line : {bytes t₀ t : List ℕ} {k : Counts} {at line end : ℕ} → Reading bytes t₀ t k at line → end ≡ lineEnd bytes at
+    → (end ≡ length bytes → ⊥)
     → LineEnds bytes at line end
 reading-line {bytes} {t₀} {t} {k} {at} {line} {end} h e n =
     let w = end-within bytes at end (h .within) e in
     record { from = w .0; within = omega arith; few = h .few }
 
-module _ (bytes t₀ t t′ : List ℕ) (k : Counts) (at line end : ℕ) (x : Taken) (h : Reading bytes t₀ t k at line) (i : at < length bytes) (e : end ≡ lineEnd bytes at)
+module _ (bytes t₀ t t′ : List ℕ) (k : Counts) (at line end : ℕ) (x : Taken) (h : Reading bytes t₀ t k at line) (i : at < length bytes)
+    (e : end ≡ lineEnd bytes at)
     (n : end ≡ length bytes → ⊥) (m : made t′ x ≡ lineTaken bytes t k at end) where
-  -- where it ends
+  -- The end of the line lies between its start and the end of the bytes.
   ends : (at ≤ end) × (end ≤ length bytes)
   ends = end-within bytes at end (h .within) e
 
-  -- what is made of it
+  -- The code makes of the line what document 01's definition makes of it.
   follows : Follows bytes t k (made t′ x) (sheetLine (tableOf bytes t k) (parseLine (between bytes at end)))
   follows = rw m (line-follows bytes t k (h .stands) at end (ends .0) (ends .1))
 
-  -- and so of the sheet
-  ahead-line : readSheet bytes ≡ afterLine (sheetLine (tableOf bytes t k) (parseLine (between bytes at end))) (drop (end + 1) bytes) line (tableOf bytes t k)
+  -- The sheet is what the definition makes of the line and of the bytes after it.
+  ahead-line : readSheet bytes ≡ afterLine (sheetLine (tableOf bytes t k) (parseLine (between bytes at end))) (drop (end + 1) bytes) line
+      (tableOf bytes t k)
   ahead-line = h .ahead ∙ on-line bytes at line (tableOf bytes t k) end (h .within) e n
 
-  -- its nodes and its goal, and those of the lines after it
-  nodes-line : nodeCount (linesOf (drop at bytes) .whole) ≡ nodesIn (parseLine (between bytes at end)) + nodeCount (linesOf (drop (end + 1) bytes) .whole)
+  -- The nodes and the goal of the lines from here on are those of this line and of the lines after it.
+  nodes-line : nodeCount (linesOf (drop at bytes) .whole) ≡ nodesIn (parseLine (between bytes at end)) + nodeCount
+      (linesOf (drop (end + 1) bytes) .whole)
   unfolding nodeCount
   nodes-line = ap (λ (l : Lines). nodeCount (l .whole)) (line-at bytes at end (h .within) e n)
 
-  goal-line : goalNamed (linesOf (drop at bytes) .whole) ≡ goalOr (parseLine (between bytes at end)) (goalNamed (linesOf (drop (end + 1) bytes) .whole))
+  goal-line : goalNamed (linesOf (drop at bytes) .whole) ≡ goalOr (parseLine (between bytes at end))
+      (goalNamed (linesOf (drop (end + 1) bytes) .whole))
   unfolding goalNamed
   goal-line = ap (λ (l : Lines). goalNamed (l .whole)) (line-at bytes at end (h .within) e n)
 
-  -- it is taken
+  -- If the line is taken, `Reading` holds before the next line.
   pub reading-on : (j : Counts) → x ≡ Next j → Reading bytes t₀ t′ j (end + 1) (line + 1)
   unfolding Agrees afterLine
   reading-on j q =
-      let a = subst (λ (y : Taken). Agrees bytes t′ k y (sheetLine (tableOf bytes t k) (parseLine (between bytes at end)))) q (follows .agrees) in
+      let a = subst (λ (y : Taken). Agrees bytes t′ k y (sheetLine (tableOf bytes t k) (parseLine (between bytes at end)))) q
+      (follows .agrees) in
       let w = reading-line h e n in
       let d = next-adds (tableOf bytes t k) (parseLine (between bytes at end)) (tableOf bytes t′ j) (a .0) in
-      let c : j .nodes ≡ k .nodes + nodesIn (parseLine (between bytes at end)) = rw (table-nodes bytes t k, table-nodes bytes t′ j) at (d .nodes) in
+      let c : j .nodes ≡ k .nodes + nodesIn (parseLine (between bytes at end)) =
+      rw (table-nodes bytes t k, table-nodes bytes t′ j) at (d .nodes) in
       let p = h .nodes in
       let y = nodes-line in
       record {
         within = omega arith;
         few = omega arith;
         stands = a .1;
-        ahead = rw (add-one line) (ahead-line ∙ ap (λ (y : SheetTaken). afterLine y (drop (end + 1) bytes) line (tableOf bytes t k)) (a .0));
+        ahead =
+            rw (add-one line) (ahead-line ∙ ap (λ (y : SheetTaken). afterLine y (drop (end + 1) bytes) line (tableOf bytes t k)) (a .0));
         nodes = omega arith;
         goal = h .goal ∙ goal-line ∙ d .goal _;
         long = follows .long ∙ h .long;
         rest = follows .rest ∙ h .rest;
       }
 
-  -- it is refused
+  -- If the line is refused, the contract holds.
   pub reading-stops : (number : ℕ) (r : Read) → x ≡ Stop number → r ≡ refusedRead number line → ReadContract bytes t₀ t′ r
   unfolding Agrees afterLine readOf WellRead NamedRead Counted
   reading-stops number r q z =
-      let a = subst (λ (y : Taken). Agrees bytes t′ k y (sheetLine (tableOf bytes t k) (parseLine (between bytes at end)))) q (follows .agrees) in
+      let a = subst (λ (y : Taken). Agrees bytes t′ k y (sheetLine (tableOf bytes t k) (parseLine (between bytes at end)))) q
+      (follows .agrees) in
       rw z (record {
         read = ahead-line ∙ ap (λ (y : SheetTaken). afterLine y (drop (end + 1) bytes) line (tableOf bytes t k)) a;
         wellMade = tt;
@@ -207,7 +224,7 @@ module _ (bytes t₀ t t′ : List ℕ) (k : Counts) (at line end : ℕ) (x : Ta
         named = tt;
       })
 
-  -- it is the Q line
+  -- If the line is the Q line, the contract holds.
   pub reading-ends : (goal : ℕ) (r : Read) → x ≡ Last goal → r ≡ finished bytes k goal (end + 1) (line + 1) → ReadContract bytes t₀ t′ r
   unfolding finished Agrees afterLine readOf WellRead NamedRead Counted decodeSheet tableOf nodesIn nodeCount goalOr linesOf
   reading-ends goal r q z = rw (z, here .same) (ended (ltb (end + 1) (length bytes)) refl)
@@ -217,10 +234,13 @@ module _ (bytes t₀ t t′ : List ℕ) (k : Counts) (at line end : ℕ) (x : Ta
 
       agreed : (sheetLine (tableOf bytes t k) (parseLine (between bytes at end)) ≡ last (goalAt t goal)) × (goal < k .nodes) × IsGoal t goal
       agreed =
-          subst (λ (u : List ℕ). (sheetLine (tableOf bytes t k) (parseLine (between bytes at end)) ≡ last (goalAt u goal)) × (goal < k .nodes) × IsGoal u goal) (here .same)
-          (subst (λ (y : Taken). Agrees bytes t′ k y (sheetLine (tableOf bytes t k) (parseLine (between bytes at end)))) q (follows .agrees))
+          subst (λ (u : List ℕ). (sheetLine (tableOf bytes t k) (parseLine (between bytes at end)) ≡ last (goalAt u goal))
+          × (goal < k .nodes) × IsGoal u goal) (here .same)
+          (subst (λ (y : Taken). Agrees bytes t′ k y (sheetLine (tableOf bytes t k) (parseLine (between bytes at end)))) q
+          (follows .agrees))
 
-      ahead-goal : readSheet bytes ≡ afterGoal (linesOf (drop (end + 1) bytes) .whole) (linesOf (drop (end + 1) bytes) .rest) (suc line) (decodeSheet bytes t (k .symbols) (k .clauses) goal)
+      ahead-goal : readSheet bytes ≡ afterGoal (linesOf (drop (end + 1) bytes) .whole) (linesOf (drop (end + 1) bytes) .rest) (suc line)
+          (decodeSheet bytes t (k .symbols) (k .clauses) goal)
       ahead-goal = ahead-line ∙ ap (λ (y : SheetTaken). afterLine y (drop (end + 1) bytes) line (tableOf bytes t k)) (agreed .0)
 
       nodes-end : length bytes ≤ end + 1 → k .nodes ≡ nodeCount (linesOf bytes .whole)
@@ -253,15 +273,17 @@ module _ (bytes t₀ t t′ : List ℕ) (k : Counts) (at line end : ℕ) (x : Ta
       }
 
 module _ (bytes t₀ t : List ℕ) (k : Counts) (at line : ℕ) (r : Read) (h : Reading bytes t₀ t k at line) where
-  -- a refusal that leaves the table
-  refuses : (number : ℕ) → readOn (drop at bytes) line (tableOf bytes t k) ≡ refused (refusal number line) → r ≡ refusedRead number line → ReadContract bytes t₀ t r
+  -- A refusal that leaves the table as it is satisfies the contract.
+  refuses : (number : ℕ) → readOn (drop at bytes) line (tableOf bytes t k) ≡ refused (refusal number line) → r ≡ refusedRead number line
+      → ReadContract bytes t₀ t r
   unfolding readOf WellRead NamedRead Counted
   refuses number e z = rw z (record { read = h .ahead ∙ e; wellMade = tt; counted = tt; long = h .long; rest = h .rest; named = tt })
 
-  -- a line without LF
-  pub reading-open : (end : ℕ) → at < length bytes → end ≡ lineEnd bytes at → end ≡ length bytes → r ≡ refusedRead 6 line → ReadContract bytes t₀ t r
+  -- The contract holds for a line without LF.
+  pub reading-open : (end : ℕ) → at < length bytes → end ≡ lineEnd bytes at → end ≡ length bytes → r ≡ refusedRead 6 line
+      → ReadContract bytes t₀ t r
   reading-open end i e n = refuses 6 (on-open bytes at line (tableOf bytes t k) end i e n)
 
-  -- no line
+  -- The contract holds where no line is left.
   pub reading-none : length bytes ≤ at → r ≡ refusedRead 11 line → ReadContract bytes t₀ t r
   reading-none i = refuses 11 (on-none bytes at line (tableOf bytes t k) i)

@@ -12,7 +12,9 @@ use Rattle.sheet_format.specs.Limits.{variableNames, maxSymbols, maxNodes, maxC
 use Rattle.sheet_format.specs.Bytes.{linesOf}
 use Rattle.sheet_format.specs.SheetLines.{SheetLine, declareLine, nodeLine, clauseLine, goalLine, parseLine}
 use Rattle.sheet_format.specs.Nodes.{Node, nodeOf, isSomething}
-use Rattle.sheet_format.specs.Sheets.{Sheet, Refusal, refusal, Read, sheet, refused, Table, Taken, next, stop, last, isDeclared, takeDeclaration, addNode, takeNode, anyFree, addClause, clauseAt, takeClause, lastGoal, goalAt, takeLine, atEnd, afterGoal, readFrom, readSheet}
+use Rattle.sheet_format.specs.Sheets.{Sheet, Refusal, refusal, Read, sheet, refused, Table, Taken, next, stop, last, isDeclared}
+use Rattle.sheet_format.specs.Sheets.{takeDeclaration, addNode, takeNode, anyFree, addClause, clauseAt, takeClause, lastGoal, goalAt}
+use Rattle.sheet_format.specs.Sheets.{takeLine, atEnd, afterGoal, readFrom, readSheet}
 
 -- A line that is refused, and a sheet.
 abbrev LateLine : Taken → Type 0
@@ -24,12 +26,12 @@ abbrev LateRead : Read → Type 0
 LateRead (sheet s) = Unit {0}
 LateRead (refused r) = 6 ≤ r .number
 
--- of a test's two sides
+-- If the refusals in both results of a test are past 5, so is that in the result picked.
 cond-late : (b : Bool) (x y : Taken) → LateLine x → LateLine y → LateLine (cond b x y)
 cond-late true x y h k = h
 cond-late false x y h k = k
 
--- the kinds of lines
+-- The refusals of each kind of line are past 5.
 addNode-late : (t : Table) (o : Option Node) → LateLine (addNode t o)
 unfolding addNode
 addNode-late t none = omega arith
@@ -55,19 +57,20 @@ unfolding goalAt
 goalAt-late none = omega arith
 goalAt-late (some n) = lastGoal-late (n .goal)
 
--- any line
+-- The refusals of any line are past 5.
 takeLine-late : (t : Table) (o : Option SheetLine) → LateLine (takeLine t o)
 unfolding takeLine takeDeclaration takeNode takeClause
 takeLine-late t none = omega arith
 takeLine-late t (some (declareLine k n a)) =
-    cond-late (not (ltb (length (t .symbols)) maxSymbols)) (stop 7) _ (omega arith) (cond-late (isDeclared n (t .symbols)) (stop 8) _ (omega arith) tt)
+    cond-late (not (ltb (length (t .symbols)) maxSymbols)) (stop 7) _ (omega arith)
+    (cond-late (isDeclared n (t .symbols)) (stop 8) _ (omega arith) tt)
 takeLine-late t (some (nodeLine l)) =
     cond-late (not (ltb (length (t .nodes)) maxNodes)) (stop 7) _ (omega arith) (addNode-late t (nodeOf (t .symbols) (t .nodes) l))
 takeLine-late t (some (clauseLine n)) =
     cond-late (not (ltb (length (t .clauses)) maxClauses)) (stop 7) _ (omega arith) (clauseAt-late t (getElem? (t .nodes) n))
 takeLine-late t (some (goalLine n)) = goalAt-late (getElem? (t .nodes) n)
 
--- the end of the sheet
+-- The refusals at the end of the sheet are past 5.
 atEnd-late : (r : List ℕ) (k : ℕ) → LateRead (atEnd r k)
 unfolding atEnd
 atEnd-late [] k = omega arith
@@ -79,7 +82,7 @@ afterGoal-late [] [] k s = tt
 afterGoal-late [] (c ∷ cs) k s = omega arith
 afterGoal-late (l ∷ ls) r k s = omega arith
 
--- the lines
+-- The refusals of a sheet's lines are past 5.
 readFrom-late : (ls : List (List ℕ)) (r : List ℕ) (k : ℕ) (t : Table) → LateRead (readFrom ls r k t)
 unfolding readFrom
 readFrom-late [] r k t = atEnd-late r k
@@ -97,4 +100,5 @@ readFrom-late (l ∷ ls) r k t = go (takeLine t (parseLine l)) (takeLine-late t 
 
 pub refused-late : (bytes : List ℕ) (r : Refusal) → readSheet bytes ≡ refused r → 6 ≤ r .number
 unfolding readSheet
-refused-late bytes r e = subst LateRead e (readFrom-late (linesOf bytes .whole) (linesOf bytes .rest) 1 (record { symbols = []; nodes = []; clauses = [] }))
+refused-late bytes r e =
+    subst LateRead e (readFrom-late (linesOf bytes .whole) (linesOf bytes .rest) 1 (record { symbols = []; nodes = []; clauses = [] }))

@@ -16,7 +16,8 @@ use Rattle.sheet_format.specs.SheetLines.{NodeLine as SheetNode}
 use Rattle.sheet_format.specs.Nodes.{nodeOf, isSomething}
 use Rattle.sheet_format.specs.Nodes.{Node as TreeNode}
 use Rattle.sheet_format.specs.Sheets.{Table, next, stop, last, isDeclared, addNode, addClause, anyFree, clauseAt, lastGoal, goalAt}
-use Rattle.sheet_format.specs.Sheets.{Taken as SheetTaken, takeLine as sheetLine, takeDeclaration as sheetDeclaration, takeNode as sheetNode, takeClause as sheetClause}
+use Rattle.sheet_format.specs.Sheets.{Taken as SheetTaken, takeLine as sheetLine, takeDeclaration as sheetDeclaration}
+use Rattle.sheet_format.specs.Sheets.{takeNode as sheetNode, takeClause as sheetClause}
 use Rattle.sheet_format.proofs.SheetLines.{FormedNodeLine}
 use Rattle.line_parser.specs.declared.lines.NodeLine.{NodeLine}
 use Rattle.line_parser.specs.declared.lines.NodeLine.the-variants.{Variable, Apply, True, And, Or, Implies, Exists, Forall}
@@ -27,9 +28,10 @@ use Rattle.line_parser.proofs.lines.Lines.{line-is, line-formed, declare-bounds
 use Rattle.node_table.specs.Layout.{goalBit}
 use Rattle.table_builder.specs.declared.node_info.Counts.{Counts}
 use Rattle.table_builder.specs.declared.node_info.Taken.the-variants.{Stop, Last}
-use Rattle.table_builder.specs.Making.{Made, made, takeGoal}
-use Rattle.table_decoding.specs.Standing.{tableOf, Stands, Agrees, Follows}
-use Rattle.table_decoding.proofs.Lines.{follows-variable, follows-true, follows-and, follows-or, follows-implies, follows-exists, follows-forall, follows-application, follows-clause, follows-goal, follows-declaration}
+use Rattle.table_builder.specs.Nodes.{Made, made, checkGoal}
+use Rattle.table_decoding.specs.Decoding.{tableOf, Decodes, Agrees, Follows}
+use Rattle.table_decoding.proofs.Lines.{follows-variable, follows-true, follows-and, follows-or, follows-implies, follows-exists}
+use Rattle.table_decoding.proofs.Lines.{follows-forall, follows-application, follows-clause, follows-goal, follows-declaration}
 use Rattle.sheet_reader.specs.Reader.{nodesIn, goalOr, FormedNode, FormedLine, takeNode, takeLine, lineTaken}
 
 -- The bytes from `at` up to `end`.
@@ -38,7 +40,7 @@ between s at end = take (end - at) (drop at s)
 
 -- what is required
 
--- of a line that makes a node
+-- A line that makes a node satisfies what the table's functions require.
 node-formed : (s : List ℕ) (l : NodeLine) → Node l ≡ lineAnswer (parseLine s) → FormedNodeLine (nodeBack l) → FormedNode l
 unfolding FormedNode nodeBack
 node-formed s (Variable v) e h = h
@@ -50,8 +52,9 @@ node-formed s (Implies n m) e h = tt
 node-formed s (Exists v n) e h = h
 node-formed s (Forall v n) e h = h
 
--- of any line
-pub line-fits : (s : List ℕ) (at end : ℕ) → at ≤ end → end ≤ length s → (r : Line) → r ≡ lineAnswer (parseLine (between s at end)) → FormedLine s at r
+-- Any line that is read satisfies what the table's functions require.
+pub line-fits : (s : List ℕ) (at end : ℕ) → at ≤ end → end ≤ length s → (r : Line) → r ≡ lineAnswer (parseLine (between s at end))
+    → FormedLine s at r
 unfolding FormedLine lineBack
 line-fits s at end h k (Declare function n arity) e =
     let b = declare-bounds (between s at end) function n arity e in
@@ -59,14 +62,15 @@ line-fits s at end h k (Declare function n arity) e =
     let d = length-drop at s in
     let i = b .within in
     (omega arith, b .arity)
-line-fits s at end h k (Node l) e = node-formed (between s at end) l e (line-formed (between s at end) (Node l) (nodeLine (nodeBack l)) e refl)
+line-fits s at end h k (Node l) e =
+    node-formed (between s at end) l e (line-formed (between s at end) (Node l) (nodeLine (nodeBack l)) e refl)
 line-fits s at end h k (ClauseLine n) e = tt
 line-fits s at end h k (GoalLine n) e = tt
 line-fits s at end h k Malformed e = tt
 
 -- what is answered
 
--- bytes of a part
+-- Bytes taken from no bytes are no bytes.
 part-nil : (n : ℕ) → _≡_ {A = List ℕ} [] (take n [])
 part-nil zero = refl
 part-nil (suc n) = refl
@@ -76,8 +80,9 @@ drop-part n [] = part-nil n
 drop-part n (c ∷ []) = part-nil n
 drop-part n (c ∷ d ∷ l) = refl
 
--- a declared name, from the line and from the sheet
-named-at : (s : List ℕ) (at end n : ℕ) → at ≤ end → end ≤ length s → 2 + n ≤ length (between s at end) → take n (drop 2 (between s at end)) ≡ take n (drop (at + 2) s)
+-- A declared name has the same bytes in its line as on the sheet.
+named-at : (s : List ℕ) (at end n : ℕ) → at ≤ end → end ≤ length s → 2 + n ≤ length (between s at end)
+    → take n (drop 2 (between s at end)) ≡ take n (drop (at + 2) s)
 named-at s at end n h k i =
     let w = length-take (end - at) (drop at s) in
     let d = length-drop at s in
@@ -93,7 +98,7 @@ OnTaken P Q (next u) = P u
 OnTaken P Q (stop n) = Unit {0}
 OnTaken P Q (last g) = Q
 
--- both sides of a test
+-- What holds of both results of a test holds of the result picked.
 cond-on : (P : Table → Type 0) (Q : Type 0) (b : Bool) (x y : SheetTaken) → OnTaken P Q x → OnTaken P Q y → OnTaken P Q (cond b x y)
 cond-on P Q true x y h k = h
 cond-on P Q false x y h k = k
@@ -111,11 +116,13 @@ pub record Adds (table : Table) (o : Option SheetLine) (u : Table) : Type 0 wher
   pub nodes : length (u .nodes) ≡ length (table .nodes) + nodesIn o
   pub goal : (m : ℕ) → goalOr o m ≡ m
 
--- no node, one node
-adds-none : (table : Table) (o : Option SheetLine) (u : Table) → u .nodes ≡ table .nodes → nodesIn o ≡ 0 → ((m : ℕ) → goalOr o m ≡ m) → Adds table o u
+-- A line that makes no node adds none, and a node line adds one.
+adds-none : (table : Table) (o : Option SheetLine) (u : Table) → u .nodes ≡ table .nodes → nodesIn o ≡ 0 → ((m : ℕ) → goalOr o m ≡ m)
+    → Adds table o u
 adds-none table o u e z g = record { nodes = let f = ap length e in omega arith; goal = g }
 
-adds-one : (table : Table) (l : SheetNode) (n : TreeNode) → Adds table (some (nodeLine l)) (record { symbols = table .symbols; nodes = table .nodes ++ (n ∷ []); clauses = table .clauses })
+adds-one : (table : Table) (l : SheetNode) (n : TreeNode)
+    → Adds table (some (nodeLine l)) (record { symbols = table .symbols; nodes = table .nodes ++ (n ∷ []); clauses = table .clauses })
 unfolding nodesIn goalOr
 adds-one table l n = record { nodes = length-append (table .nodes) (n ∷ []); goal = λ m. refl }
 
@@ -125,8 +132,10 @@ module _ (table : Table) where
   unfolding sheetLine sheetDeclaration sheetNode addNode sheetClause clauseAt addClause goalAt lastGoal OnTaken IsLast nodesIn goalOr
   line-adds none = tt
   line-adds (some (declareLine function name arity)) =
-      cond-on _ _ (not (ltb (length (table .symbols)) maxSymbols)) _ _ tt (cond-on _ _ (isDeclared name (table .symbols)) _ _ tt (adds-none _ _ _ refl refl (λ m. refl)))
-  line-adds (some (nodeLine l)) = cond-on _ _ (not (ltb (length (table .nodes)) maxNodes)) _ _ tt (go (nodeOf (table .symbols) (table .nodes) l))
+      cond-on _ _ (not (ltb (length (table .symbols)) maxSymbols)) _ _ tt
+      (cond-on _ _ (isDeclared name (table .symbols)) _ _ tt (adds-none _ _ _ refl refl (λ m. refl)))
+  line-adds (some (nodeLine l)) =
+      cond-on _ _ (not (ltb (length (table .nodes)) maxNodes)) _ _ tt (go (nodeOf (table .symbols) (table .nodes) l))
     where
       go : (o : Option TreeNode) → OnTaken (Adds table (some (nodeLine l))) ⊥ (addNode table o)
       go none = tt
@@ -150,19 +159,19 @@ module _ (table : Table) where
       at none = tt
       at (some m) = go (m .goal)
 
-  -- so of one that is taken
+  -- A line that is taken adds its nodes and names no goal.
   pub next-adds : (o : Option SheetLine) (u : Table) → sheetLine table o ≡ next u → Adds table o u
   unfolding OnTaken
   next-adds o u e = subst (OnTaken (Adds table o) (IsLast o)) e (line-adds o)
 
-  -- and of the last
+  -- A line that ends the sheet is a Q line.
   last-is : (o : Option SheetLine) (g : Goal) → sheetLine table o ≡ last g → IsLast o
   unfolding OnTaken
   last-is o g e = subst (OnTaken (Adds table o) (IsLast o)) e (line-adds o)
 
--- the node that the Q line names
-goal-number : (t : List ℕ) (k : Counts) (n goal : ℕ) → Last goal ≡ takeGoal t k n → n ≡ goal
-unfolding takeGoal
+-- The goal's node is the one that the Q line names.
+goal-number : (t : List ℕ) (k : Counts) (n goal : ℕ) → Last goal ≡ checkGoal t k n → n ≡ goal
+unfolding checkGoal
 goal-number t k n goal e = go (leb (k .nodes) n) (eqb (goalBit t n) 1) e
   where
     go : (a b : Bool) → Last goal ≡ cond a (Stop 8) (cond b (Last n) (Stop 9)) → n ≡ goal
@@ -170,9 +179,10 @@ goal-number t k n goal e = go (leb (k .nodes) n) (eqb (goalBit t n) 1) e
     go false true e = cc
     go false false e = absurd (let z : _≡_ {A = ℕ} 0 1 = cc in omega arith)
 
-module _ (bytes t : List ℕ) (k : Counts) (h : Stands bytes t k) where
-  -- a line that makes a node
-  node-follows : (l : NodeLine) → FormedNodeLine (nodeBack l) → FormedNode l → Follows bytes t k (takeNode t k l) (sheetLine (tableOf bytes t k) (some (nodeLine (nodeBack l))))
+module _ (bytes t : List ℕ) (k : Counts) (h : Decodes bytes t k) where
+  -- A line that makes a node is answered as document 01's definitions say.
+  node-follows : (l : NodeLine) → FormedNodeLine (nodeBack l) → FormedNode l
+      → Follows bytes t k (takeNode t k l) (sheetLine (tableOf bytes t k) (some (nodeLine (nodeBack l))))
   unfolding takeNode nodeBack nodeList FormedNode
   node-follows (Variable v) f g = follows-variable bytes t k h v f
   node-follows (Apply f ns) p g = follows-application bytes t k h f (ns .count) (ns .a) (ns .b) (ns .c) (ns .d) g
@@ -183,21 +193,22 @@ module _ (bytes t : List ℕ) (k : Counts) (h : Stands bytes t k) where
   node-follows (Exists v n) f g = follows-exists bytes t k h v n f
   node-follows (Forall v n) f g = follows-forall bytes t k h v n f
 
-  -- a malformed line
+  -- A malformed line is refused with 6, as document 01's definitions say.
   malformed-follows : Follows bytes t k (made t (Stop 6)) (stop 6)
   unfolding Agrees
   malformed-follows = record { agrees = refl; long = refl; rest = refl }
 
   module _ (at end : ℕ) (a : at ≤ end) (b : end ≤ length bytes) where
-    -- a declared name lies within the sheet
+    -- A declared name lies within the sheet.
     declared-within : (n : ℕ) → 2 + n ≤ length (between bytes at end) → at + 2 + n ≤ length bytes
     declared-within n h =
         let w = length-take (end - at) (drop at bytes) in
         let d = length-drop at bytes in
         omega arith
 
-    -- any line
-    answer-follows : (r : Line) → r ≡ lineAnswer (parseLine (between bytes at end)) → Follows bytes t k (takeLine bytes t k at r) (sheetLine (tableOf bytes t k) (lineBack (between bytes at end) r))
+    -- Any parsed line is answered as document 01's definitions say.
+    answer-follows : (r : Line) → r ≡ lineAnswer (parseLine (between bytes at end))
+        → Follows bytes t k (takeLine bytes t k at r) (sheetLine (tableOf bytes t k) (lineBack (between bytes at end) r))
     unfolding takeLine sheetLine lineBack
     answer-follows (Declare function n arity) e =
         let d = declare-bounds (between bytes at end) function n arity e in
@@ -210,38 +221,45 @@ module _ (bytes t : List ℕ) (k : Counts) (h : Stands bytes t k) where
     answer-follows (GoalLine n) e = follows-goal bytes t k h n
     answer-follows Malformed e = malformed-follows
 
-    -- the line as it is read
+    -- The line as it is read is answered as document 01's definitions say.
     pub line-follows : Follows bytes t k (lineTaken bytes t k at end) (sheetLine (tableOf bytes t k) (parseLine (between bytes at end)))
     unfolding lineTaken
     line-follows =
         let r = lineAnswer (parseLine (between bytes at end)) in
-        subst (λ (o : Option SheetLine). Follows bytes t k (takeLine bytes t k at r) (sheetLine (tableOf bytes t k) o)) (sym (line-is (between bytes at end) r refl)) (answer-follows r refl)
+        subst (λ (o : Option SheetLine). Follows bytes t k (takeLine bytes t k at r) (sheetLine (tableOf bytes t k) o))
+        (sym (line-is (between bytes at end) r refl)) (answer-follows r refl)
 
     -- The answer to a Q line: the table stays, and the line names the goal's node.
     pub record EndsAt (t′ : List ℕ) (goal : ℕ) (o : Option SheetLine) : Type 0 where
       pub same : t′ ≡ t
       pub named : o ≡ some (goalLine goal)
 
-    -- no other line has it
-    other-line : (m : Made) (o : Option SheetLine) (t′ : List ℕ) (goal : ℕ) → Follows bytes t k m (sheetLine (tableOf bytes t k) o) → made t′ (Last goal) ≡ m → (IsLast o → ⊥) → EndsAt t′ goal o
+    -- A line that is no Q line does not have the answer of one.
+    other-line : (m : Made) (o : Option SheetLine) (t′ : List ℕ) (goal : ℕ) → Follows bytes t k m (sheetLine (tableOf bytes t k) o)
+        → made t′ (Last goal) ≡ m → (IsLast o → ⊥) → EndsAt t′ goal o
     unfolding Agrees
     other-line m o t′ goal f e n =
         let g : Follows bytes t k (made t′ (Last goal)) (sheetLine (tableOf bytes t k) o) = rw e f in
         absurd (n (last-is (tableOf bytes t k) o _ (g .agrees .0)))
 
-    -- any line
-    answer-last : (r : Line) → r ≡ lineAnswer (parseLine (between bytes at end)) → (t′ : List ℕ) (goal : ℕ) → made t′ (Last goal) ≡ takeLine bytes t k at r
+    -- Any parsed line that ends the sheet leaves the table and names the goal's node.
+    answer-last : (r : Line) → r ≡ lineAnswer (parseLine (between bytes at end)) → (t′ : List ℕ) (goal : ℕ)
+        → made t′ (Last goal) ≡ takeLine bytes t k at r
         → EndsAt t′ goal (lineBack (between bytes at end) r)
     unfolding takeLine lineBack IsLast
     answer-last (Declare function n arity) e t′ goal q = other-line _ _ t′ goal (answer-follows (Declare function n arity) e) q (λ i. i)
     answer-last (Node l) e t′ goal q = other-line _ _ t′ goal (answer-follows (Node l) e) q (λ i. i)
     answer-last (ClauseLine n) e t′ goal q = other-line _ _ t′ goal (answer-follows (ClauseLine n) e) q (λ i. i)
     answer-last (GoalLine n) e t′ goal q =
-        record { same = ap (λ (m : Made). m .table) q; named = ap (λ (m : ℕ). some (goalLine m)) (goal-number t k n goal (ap (λ (m : Made). m .answer) q)) }
+        record {
+          same = ap (λ (m : Made). m .table) q;
+          named = ap (λ (m : ℕ). some (goalLine m)) (goal-number t k n goal (ap (λ (m : Made). m .answer) q));
+        }
     answer-last Malformed e t′ goal q = other-line _ _ t′ goal (answer-follows Malformed e) q (λ i. i)
 
-    -- the line as it is read
-    pub line-last : (t′ : List ℕ) (goal : ℕ) → made t′ (Last goal) ≡ lineTaken bytes t k at end → EndsAt t′ goal (parseLine (between bytes at end))
+    -- The line as it is read, if it ends the sheet, leaves the table and names the goal's node.
+    pub line-last : (t′ : List ℕ) (goal : ℕ) → made t′ (Last goal) ≡ lineTaken bytes t k at end
+        → EndsAt t′ goal (parseLine (between bytes at end))
     unfolding lineTaken
     line-last t′ goal e =
         let r = lineAnswer (parseLine (between bytes at end)) in

@@ -8,12 +8,12 @@ use Rattle.engine_spec.proofs.Promises.{callersTold}
 use Rattle.sheet_runner.proofs.main.Statement.{statement}
 use Rattle.sheet_runner.proofs.main.Tie as tie
 
--- the text lies in the answer buffer
-told : (c : tie.At-match-keys2) → c .before .wide .result ≤ 16384
+-- The text lies within the answer buffer.
+told : (c : tie.At-match-keys2) → c .before .widen .result ≤ 16384
 unfolding handed
 told c =
     let f = callersTold _ _ _ _ _ _ _ _ _ (c .before .before .before .before .before .run .ensures) .fits in
-    omega (arith, f, c .before .wide .ensures .0, c .before .before .before .before .before .run .kept)
+    omega (arith, f, c .before .widen .ensures .0, c .before .before .before .before .before .run .kept)
 
 array-share-prefix-answer : tie.Need-array-share-prefix-answer
 array-share-prefix-answer c = omega (arith, told c)

@@ -39,7 +39,8 @@ module _ (t : List ℕ) (i : ℕ) (l : List ℕ) where
   unfolding allTerms
   terms-end h = rw (drop-of-length-le l h)
 
-  pub sizes-on : (sum s : ℕ) → i < length l → s ≡ sizeOf t (getD l i 0) → sizesFrom t sum (drop i l) ≡ sizesFrom t (sum + s) (drop (i + 1) l)
+  pub sizes-on : (sum s : ℕ) → i < length l → s ≡ sizeOf t (getD l i 0)
+      → sizesFrom t sum (drop i l) ≡ sizesFrom t (sum + s) (drop (i + 1) l)
   unfolding sizesFrom
   sizes-on sum s h e = rw (drop-cons l i 0 h, add-one i, e)
 
@@ -47,7 +48,8 @@ module _ (t : List ℕ) (i : ℕ) (l : List ℕ) where
   unfolding sizesFrom
   sizes-end sum h = rw (drop-of-length-le l h)
 
-  pub masks-on : (free m : ℕ) → i < length l → m ≡ maskOf t (getD l i 0) → masksFrom t free (drop i l) ≡ masksFrom t (bitOr free m) (drop (i + 1) l)
+  pub masks-on : (free m : ℕ) → i < length l → m ≡ maskOf t (getD l i 0)
+      → masksFrom t free (drop i l) ≡ masksFrom t (bitOr free m) (drop (i + 1) l)
   unfolding masksFrom
   masks-on free m h e = rw (drop-cons l i 0 h, add-one i, e)
 

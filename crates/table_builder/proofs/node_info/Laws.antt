@@ -3,7 +3,7 @@ use Prim.Native.Nat.{ℕ, zero, suc, _+_, _-_, _*_, _/_, _%_, _<_}
 use native.Mathlib.Numerals.{sub-one}
 use native.Mathlib.Omega.{arith}
 use mathlib.Core.Path.{_≡_, refl}
-use Rattle.table_builder.specs.Making.{onlyBit, withoutBit}
+use Rattle.table_builder.specs.Nodes.{onlyBit, withoutBit}
 
 -- bits
 

@@ -7,12 +7,20 @@ use borrow.Author.Tests.{lt-leb, eq-eqb, ne-eqb}
 use Rattle.node_table.specs.Layout.{maskOf, membersOf}
 use Rattle.table_builder.specs.declared.node_info.Counts.{Counts}
 use Rattle.table_builder.specs.declared.node_info.Taken.the-variants.{Next}
-use Rattle.table_builder.specs.Making.{made, counts, takeClause}
+use Rattle.table_builder.specs.Nodes.{made, counts, insertClause}
 
 -- C
 
-pub clause-taken : (t t′ : List ℕ) (k : Counts) (n m free i : ℕ) → k .clauses < 128 → n < k .nodes → m ≡ membersOf t n → (m ≡ 0 → ⊥) → free ≡ maskOf t n → free ≡ 0
-    → i ≡ k .clauses → t′ ≡ set t (7936 + i) n → made t′ (Next (counts (k .symbols) (k .nodes) (k .clauses + 1))) ≡ takeClause t k n
-unfolding takeClause
+pub clause-taken : (t t′ : List ℕ) (k : Counts) (n m free i : ℕ) → k .clauses < 128 → n < k .nodes → m ≡ membersOf t n → (m ≡ 0 → ⊥)
+    → free ≡ maskOf t n → free ≡ 0
+    → i ≡ k .clauses → t′ ≡ set t (7936 + i) n → made t′ (Next (counts (k .symbols) (k .nodes) (k .clauses + 1))) ≡ insertClause t k n
+unfolding insertClause
 clause-taken t t′ k n m free i h l e p f q j s =
-    rw (lt-leb 128 (k .clauses) h, lt-leb (k .nodes) n l, ne-eqb (membersOf t n) 0 (λ z. p (e ∙ z)), eq-eqb (maskOf t n) 0 (sym f ∙ q), s, j)
+    rw (
+      lt-leb 128 (k .clauses) h,
+      lt-leb (k .nodes) n l,
+      ne-eqb (membersOf t n) 0 (λ z. p (e ∙ z)),
+      eq-eqb (maskOf t n) 0 (sym f ∙ q),
+      s,
+      j,
+    )

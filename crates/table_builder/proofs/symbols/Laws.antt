@@ -13,8 +13,8 @@ use borrow.Author.Tests.{lt-leb, eq-eqb, ne-eqb}
 use Rattle.node_table.specs.Layout.{symbolAt}
 use Rattle.table_builder.specs.declared.node_info.Counts.{Counts}
 use Rattle.table_builder.specs.declared.node_info.Taken.the-variants.{Next, Stop}
-use Rattle.table_builder.specs.Making.{made, counts}
-use Rattle.table_builder.specs.Symbols.{symbolWritten, firstOf, sameAt, nameIs, findFrom, findName, symbolWord, takeDeclaration}
+use Rattle.table_builder.specs.Nodes.{made, counts}
+use Rattle.table_builder.specs.Symbols.{symbolWritten, firstOf, sameAt, nameIs, findFrom, findName, symbolWord, insertDeclaration}
 
 -- writes
 
@@ -26,11 +26,13 @@ symbol-puts t t₀ t₁ t₂ i start len word e₀ e₁ e₂ = rw (e₂, e₁, e
 -- names
 
 module _ (s : List ℕ) (at i : ℕ) (name : List ℕ) where
-  same-step : i < length name → sameAt s (at + i) (drop i name) ≡ cond (eqb (getD s (at + i) 0) (getD name i 0)) (sameAt s (at + (i + 1)) (drop (i + 1) name)) false
+  same-step : i < length name → sameAt s (at + i) (drop i name) ≡ cond (eqb (getD s (at + i) 0) (getD name i 0))
+      (sameAt s (at + (i + 1)) (drop (i + 1) name)) false
   unfolding sameAt
   same-step h = rw (drop-cons name i 0 h, ← add-assoc at i 1, add-one i)
 
-  pub same-on : (b : ℕ) → i < length name → b ≡ getD s (at + i) 0 → b ≡ getD name i 0 → sameAt s (at + i) (drop i name) ≡ sameAt s (at + (i + 1)) (drop (i + 1) name)
+  pub same-on : (b : ℕ) → i < length name → b ≡ getD s (at + i) 0 → b ≡ getD name i 0
+      → sameAt s (at + i) (drop i name) ≡ sameAt s (at + (i + 1)) (drop (i + 1) name)
   same-on b h e f = same-step h ∙ simp (eq-eqb _ _ (sym e ∙ f))
 
   pub same-off : (b : ℕ) → i < length name → b ≡ getD s (at + i) 0 → (b ≡ getD name i 0 → ⊥) → sameAt s (at + i) (drop i name) ≡ false
@@ -52,7 +54,8 @@ module _ (s t : List ℕ) (n i : ℕ) (name : List ℕ) where
       let z : n - i ≡ suc (n - (i + 1)) = omega arith in
       rw z (simp (sym e ∙ f))
 
-  pub find-on : (b : Bool) → i < n → b ≡ nameIs s t i name → b ≡ false → findFrom (n - i) s t i name ≡ findFrom (n - (i + 1)) s t (i + 1) name
+  pub find-on : (b : Bool) → i < n → b ≡ nameIs s t i name → b ≡ false
+      → findFrom (n - i) s t i name ≡ findFrom (n - (i + 1)) s t (i + 1) name
   unfolding findFrom
   find-on b h e f =
       let z : n - i ≡ suc (n - (i + 1)) = omega arith in
@@ -72,25 +75,29 @@ find-first s t n name =
 
 -- lines with many steps
 
--- the first n of four
+-- The first n of four numbers are n numbers.
 pub first-length : (n count a b c d : ℕ) → count ≤ 4 → n ≡ count → n ≡ length (firstOf n a b c d)
 first-length n count a b c d h e = sym (length-take-le n (a ∷ b ∷ c ∷ d ∷ []) (omega arith))
 
--- the name's bytes as the code lends them
-named-part : (s t : List ℕ) (n start len : ℕ) → findName s t n (take (start + len - start) (drop start s)) ≡ findName s t n (take len (drop start s))
+-- The name is found in the bytes that the code lends exactly if it is found in its bytes on the sheet.
+named-part : (s t : List ℕ) (n start len : ℕ)
+    → findName s t n (take (start + len - start) (drop start s)) ≡ findName s t n (take len (drop start s))
 named-part s t n start len =
     let e : start + len - start ≡ len = omega arith in
     ap (λ (z : ℕ). findName s t n (take z (drop start s))) e
 
 pub declaration-found : (s t : List ℕ) (k : Counts) (function : Bool) (start len arity : ℕ) (found : Bool) → k .symbols < 256
-    → found ≡ findName s t (k .symbols) (take (start + len - start) (drop start s)) → found ≡ true → made t (Stop 8) ≡ takeDeclaration s t k function start len arity
-unfolding takeDeclaration
-declaration-found s t k function start len arity found h e f = rw (lt-leb 256 (k .symbols) h, ← named-part s t (k .symbols) start len, ← e, f)
+    → found ≡ findName s t (k .symbols) (take (start + len - start) (drop start s)) → found ≡ true
+    → made t (Stop 8) ≡ insertDeclaration s t k function start len arity
+unfolding insertDeclaration
+declaration-found s t k function start len arity found h e f =
+    rw (lt-leb 256 (k .symbols) h, ← named-part s t (k .symbols) start len, ← e, f)
 
 pub declaration-taken : (s t t′ : List ℕ) (k : Counts) (function : Bool) (start len arity word a b : ℕ) (found : Bool) → k .symbols < 256
-    → found ≡ findName s t (k .symbols) (take (start + len - start) (drop start s)) → found ≡ false → word ≡ symbolWord function arity → a ≡ start → b ≡ len
+    → found ≡ findName s t (k .symbols) (take (start + len - start) (drop start s)) → found ≡ false → word ≡ symbolWord function arity
+    → a ≡ start → b ≡ len
     → t′ ≡ symbolWritten t (k .symbols) a b word
-    → made t′ (Next (counts (k .symbols + 1) (k .nodes) (k .clauses))) ≡ takeDeclaration s t k function start len arity
-unfolding takeDeclaration
+    → made t′ (Next (counts (k .symbols + 1) (k .nodes) (k .clauses))) ≡ insertDeclaration s t k function start len arity
+unfolding insertDeclaration
 declaration-taken s t t′ k function start len arity word a b found h e f w x y z =
     rw (lt-leb 256 (k .symbols) h, ← named-part s t (k .symbols) start len, ← e, f, z, w, x, y)

@@ -1,5 +1,5 @@
 use Prim.Native.Nat.{_+_, _-_, _<_, _≤_, ℕ}
-use Rattle.term_printer.proofs.Grown.{emit-after, name-after, term-after}
+use Rattle.term_printer.proofs.PositionsRise.{emit-after, name-after, term-after}
 use Rattle.term_printer.proofs.Laws.{
   arguments-end,
   arguments-first,
@@ -12,8 +12,8 @@ use Rattle.term_printer.proofs.Laws.{
   term-variable,
 }
 use Rattle.term_printer.proofs.cursor.States.{arguments-same, emit-same, less, past, small-same, sought, term-same, within}
-use Rattle.term_printer.specs.State.{boundsIn, penIn}
-use Rattle.printing.specs.Marks.{page}
+use Rattle.term_printer.specs.State.{boundsIn, cursorIn}
+use Rattle.printing.specs.Numbering.{printer}
 use Rattle.printing.specs.WriteTerms.{argumentsBy, writeTerm}
 use borrow.Author.Needs.{needs}
 use lib.ListN.{length}
@@ -31,11 +31,11 @@ use Rattle.machine_memory.proofs.words.node_of.Reads as node-of-reads
 use Rattle.machine_memory.proofs.words.tag_of.Reads as tag-of-reads
 use Rattle.machine_memory.proofs.words.word_of.Reads as word-of-reads
 use Rattle.machine_memory.proofs.words.deref.Reads as deref-reads
-use Rattle.term_printer.proofs.cursor.show_constant_in.Reads as show-constant-in-reads
+use Rattle.term_printer.proofs.cursor.write_constant_in.Reads as write-constant-in-reads
 use Rattle.term_printer.proofs.cursor.emit_in.Reads as emit-in-reads
 use Rattle.term_printer.proofs.cursor.write_name_in.Reads as write-name-in-reads
 use Rattle.term_printer.proofs.cursor.separator.Reads as separator-reads
-use Rattle.term_printer.proofs.cursor.show_variable_in.Reads as show-variable-in-reads
+use Rattle.term_printer.proofs.cursor.write_variable_in.Reads as write-variable-in-reads
 use Rattle.node_table.proofs.child.Reads as child-reads
 use Rattle.node_table.proofs.child_count.Reads as child-count-reads
 use Rattle.node_table.proofs.label.Reads as label-reads
@@ -43,7 +43,7 @@ use Rattle.term_printer.proofs.+write_term.{statement}
 use Rattle.term_printer.proofs.+write_term.Tie.{close}
 
 abbrev μ : Measures 7 kinds.ps ℕ
-μ κs a = boundsIn (a .1 .1 .1 .1 .1 .0 .now) .limit - penIn (a .1 .1 .1 .1 .1 .0 .now) .at + a .0
+μ κs a = boundsIn (a .1 .1 .1 .1 .1 .0 .now) .limit - cursorIn (a .1 .1 .1 .1 .1 .0 .now) .at + a .0
 
 abbrev at : ℕ → In 7 kinds.ps
 at t = and 7 kinds.ps (is 7 kinds.ps μ t) own.Pre
@@ -59,10 +59,10 @@ claims t = (
   tag-of-reads.Learnt,
   name-of-reads.Asked,
   name-of-reads.Learnt,
-  show-variable-in-reads.Asked,
-  show-variable-in-reads.Learnt,
-  show-constant-in-reads.Asked,
-  show-constant-in-reads.Learnt,
+  write-variable-in-reads.Asked,
+  write-variable-in-reads.Learnt,
+  write-constant-in-reads.Asked,
+  write-constant-in-reads.Learnt,
   node-of-reads.Asked,
   node-of-reads.Learnt,
   label-reads.Asked,
@@ -87,11 +87,11 @@ claims t = (
 
 abbrev Inv-loop : lts.InvT-loop
 Inv-loop rank sheet t w₀ out₀ s₀ a b tag n c f j₀ w out s j =
-    (length w ≡ length w₀) × (length out ≡ length out₀) × (penIn s₀ .at ≤ penIn s .at) × (boundsIn s ≡ boundsIn s₀)
+    (length w ≡ length w₀) × (length out ≡ length out₀) × (cursorIn s₀ .at ≤ cursorIn s .at) × (boundsIn s ≡ boundsIn s₀)
     × (argumentsBy (writeTerm (rank - 1) (sheet .now) (t .now) (boundsIn s₀ .turns) (boundsIn s₀ .limit)) (t .now)
-    (boundsIn s₀ .limit) c n f 0 (page w₀ out₀ (penIn s₀))
+    (boundsIn s₀ .limit) c n f 0 (printer w₀ out₀ (cursorIn s₀))
     ≡ argumentsBy (writeTerm (rank - 1) (sheet .now) (t .now) (boundsIn s₀ .turns) (boundsIn s₀ .limit)) (t .now) (boundsIn s₀ .limit)
-    (c - j) n f j (page w out (penIn s)))
+    (c - j) n f j (printer w out (cursorIn s)))
 
 abbrev μ-loop : lts.MeasureT-loop
 μ-loop rank sheet t w₀ out₀ s₀ a b tag n c f j₀ w out s j = c - j
@@ -104,30 +104,33 @@ returns-2 t c = (term-past _ _ _ _ _ _ _ _ _ (c .before .before .before .if1 .le
 
 returns-3 : (t : ℕ) → lts.Need-returns-3 (claims t) (at t) own.Post Inv-loop μ-loop
 returns-3 t c =
-    let at-show-variable-in = c .before .before .before .before in
-    let at-if3 = at-show-variable-in .before .before .before .before .before in
+    let at-point = c .before .before .before .before in
+    let at-write-variable-in = at-point in
+    let at-if3 = at-write-variable-in .before .before .before .before .before in
     let at-if2 = at-if3 .before .before .before .before .before in (
       term-variable _ _ _ _ _ _ _ _ _ _ _ (at-if2 .before .before .before .if1 .left) (within _ (at-if2 .if2 .left))
           (sought _ _ _ _ (at-if3 .before .before .deref .ensures)) (at-if3 .before .tag-of .ensures) _ _ (at-if3 .if3 .taken)
-          (at-show-variable-in .before .name-of .ensures) (at-show-variable-in .show-variable-in .ensures .0),
-      at-show-variable-in .show-variable-in .ensures .1,
+          (at-write-variable-in .before .name-of .ensures) (at-write-variable-in .write-variable-in .ensures .0),
+      at-write-variable-in .write-variable-in .ensures .1,
     )
 
 returns-4 : (t : ℕ) → lts.Need-returns-4 (claims t) (at t) own.Post Inv-loop μ-loop
 returns-4 t c =
-    let at-show-constant-in = c .before .before .before .before in
-    let at-if4 = at-show-constant-in .before .before .before .before .before in
+    let at-point = c .before .before .before .before in
+    let at-write-constant-in = at-point in
+    let at-if4 = at-write-constant-in .before .before .before .before .before in
     let at-if2 = at-if4 .before .before .before .before .before .before in (
       term-constant _ _ _ _ _ _ _ _ _ _ _ (at-if2 .before .before .before .if1 .left) (within _ (at-if2 .if2 .left))
           (sought _ _ _ _ (at-if4 .before .before .before .deref .ensures)) (at-if4 .before .before .tag-of .ensures) _ _
-          (at-if4 .before .if3 .left) (at-if4 .if4 .taken) (at-show-constant-in .before .name-of2 .ensures)
-          (at-show-constant-in .show-constant-in .ensures .0),
-      at-show-constant-in .show-constant-in .ensures .1,
+          (at-if4 .before .if3 .left) (at-if4 .if4 .taken) (at-write-constant-in .before .name-of2 .ensures)
+          (at-write-constant-in .write-constant-in .ensures .0),
+      at-write-constant-in .write-constant-in .ensures .1,
     )
 
 returns-5 : (t : ℕ) → lts.Need-returns-5 (claims t) (at t) own.Post Inv-loop μ-loop
 returns-5 t c =
-    let at-write-name-in = c .before .before .before .before .before in
+    let at-point = c .before .before .before .before .before in
+    let at-write-name-in = at-point in
     let at-node-of = at-write-name-in .before .before .before .before .before .before .before in
     let at-deref = at-node-of .before .before .before .before in
     let at-if1 = at-deref .before .before .before .before .before .before in (
@@ -144,15 +147,18 @@ loop-holds t c = (search needs, search needs, search needs, refl, arguments-firs
 
 sub-write-term : (t : ℕ) → lts.Need-sub-write-term (claims t) (at t) own.Post Inv-loop μ-loop
 sub-write-term t c =
+    let at-point =
+    c .before .before .before .before .before .before .before .before .before .before .before .before .before .before .before .before in
     let at-if1 =
-    c .before .before .before .before .before .before .before .before .before .before .before .before .before .before .before .before
+    at-point
     .before .before .before .before .before .before .before .before .before .before .before .before .before .before .before .before
     .before .before .before .before in
     omega (arith, at-if1 .if1 .left)
 
 write-term-requires : (t : ℕ) → lts.Need-write-term-requires (claims t) (at t) own.Post Inv-loop μ-loop
 write-term-requires t c κs =
-    let at-emit-in = c .before .before .before .before .before .before .before .before .before .before in
+    let at-point = c .before .before .before .before .before .before .before .before .before .before in
+    let at-emit-in = at-point in
     let at-loop = at-emit-in .before .before .before .before .before in
     let at-write-name-in = at-loop .before .before .before .before .before .before .before in
     let at-if1 =
@@ -171,7 +177,8 @@ write-term-requires t c κs =
 
 loop-again : (t : ℕ) → lts.Need-loop-again (claims t) (at t) own.Post Inv-loop μ-loop
 loop-again t c =
-    let at-write-term = c .before .before .before .before in
+    let at-point = c .before .before .before .before in
+    let at-write-term = at-point in
     let at-word-of = at-write-term .before .before .before .before in
     let at-emit-in = at-word-of .before .before .before .before .before .before .before in
     let at-loop-test = at-emit-in .before .before .before .before in
@@ -202,13 +209,15 @@ same-length-7 t c = c .before .before .before .before .before .before .loop .inv
 
 same-length-8 : (t : ℕ) → lts.Need-same-length-8 (claims t) (at t) own.Post Inv-loop μ-loop
 same-length-8 t c =
-    let at-loop = c .before .before .before .before .before .before in
+    let at-point = c .before .before .before .before .before .before in
+    let at-loop = at-point in
     let at-write-name-in = at-loop .before .before .before .before .before .before .before in
     c .before .before .emit-in2 .kept .0 ∙ at-loop .loop .inv .1 ∙ at-write-name-in .write-name-in .kept .1 .1 .0
 
 returns-6 : (t : ℕ) → lts.Need-returns-6 (claims t) (at t) own.Post Inv-loop μ-loop
 returns-6 t c =
-    let at-loop-test = c .before .before .before .before .before in
+    let at-point = c .before .before .before .before .before in
+    let at-loop-test = at-point in
     let at-child-count = at-loop-test .before .before .before .before in
     let at-write-name-in = at-child-count .before .before .before .before in
     let at-node-of = at-write-name-in .before .before .before .before .before .before .before in

@@ -1,47 +1,49 @@
--- Calls on the state of a writing, in the words of its pen and its bounds.
+-- Calls on the state of a writing, in the words of its cursor and its bounds.
 use Prim.Native.Nat.{ℕ, _-_, _+_, _≤_, _<_}
 use native.Mathlib.Omega.{arith}
 use mathlib.Core.Path.{_≡_, _∙_, ap, subst}
 use mathlib.Core.List.{List, [], _∷_}
 use lib.ListN.{getD}
 use Rattle.machine.specs.Words.{deref}
-use Rattle.printing.specs.declared.Pen.{Pen}
-use Rattle.printing.specs.Marks.{Page, page}
+use Rattle.printing.specs.declared.Cursor.{Cursor}
+use Rattle.printing.specs.Numbering.{Printer, printer}
 use Rattle.printing.specs.WriteTerms.{emitTo, argumentsBy, writeTerm}
-use Rattle.term_printer.specs.State.{stateOf, penIn, boundsIn}
+use Rattle.term_printer.specs.State.{stateOf, cursorIn, boundsIn}
 use Rattle.term_printer.specs.declared.Bounds.{Bounds}
 
--- A call took the pen, and its pen was put back.
-module _ (s s′ : List ℕ) (q : Pen) (e : s′ ≡ stateOf q (boundsIn s)) where
-  pub pen-put : (f : ℕ → Page → Page) (w w′ out out′ : List ℕ) (p : Pen) → p ≡ penIn s
-      → page w′ out′ q ≡ f (getD s 4 0) (page w out p) → page w′ out′ (penIn s′) ≡ f (boundsIn s .limit) (page w out (penIn s))
-  unfolding penIn boundsIn stateOf
-  pen-put f w w′ out out′ p ep ef = ap (λ (l : List ℕ). page w′ out′ (penIn l)) e ∙ ef ∙ ap (λ (x : Pen). f (getD s 4 0) (page w out x)) ep
+-- A call took the cursor, and its cursor was put back.
+module _ (s s′ : List ℕ) (q : Cursor) (e : s′ ≡ stateOf q (boundsIn s)) where
+  pub cursor-put : (f : ℕ → Printer → Printer) (w w′ out out′ : List ℕ) (p : Cursor) → p ≡ cursorIn s
+      → printer w′ out′ q ≡ f (getD s 4 0) (printer w out p)
+      → printer w′ out′ (cursorIn s′) ≡ f (boundsIn s .limit) (printer w out (cursorIn s))
+  unfolding cursorIn boundsIn stateOf
+  cursor-put f w w′ out out′ p ep ef =
+      ap (λ (l : List ℕ). printer w′ out′ (cursorIn l)) e ∙ ef ∙ ap (λ (x : Cursor). f (getD s 4 0) (printer w out x)) ep
 
   pub bounds-kept : boundsIn s′ ≡ boundsIn s
   unfolding boundsIn stateOf
   bounds-kept = ap boundsIn e
 
--- The pen is taken out of the state.
-pub pen-taken : (w out s : List ℕ) (q : Pen) (u : Page) → q ≡ penIn s → page w out (penIn s) ≡ u → page w out q ≡ u
-pen-taken w out s q u e h = ap (λ (x : Pen). page w out x) e ∙ h
+-- The cursor is taken out of the state.
+pub cursor-taken : (w out s : List ℕ) (q : Cursor) (u : Printer) → q ≡ cursorIn s → printer w out (cursorIn s) ≡ u → printer w out q ≡ u
+cursor-taken w out s q u e h = ap (λ (x : Cursor). printer w out x) e ∙ h
 
--- The state is made of a pen and bounds.
-pub state-made : (p : Pen) (turns limit rank : ℕ) (sheet t w out : List ℕ) (a : ℕ) (u : Page)
+-- The state is made of a cursor and bounds.
+pub state-made : (p : Cursor) (turns limit rank : ℕ) (sheet t w out : List ℕ) (a : ℕ) (u : Printer)
     → (let s : List ℕ = p .at ∷ p .variables ∷ p .constants ∷ turns ∷ limit ∷ [] in
-    u ≡ writeTerm rank sheet t (boundsIn s .turns) (boundsIn s .limit) (page w out (penIn s)) a)
-    → u ≡ writeTerm rank sheet t turns limit (page w out p) a
-unfolding boundsIn penIn
+    u ≡ writeTerm rank sheet t (boundsIn s .turns) (boundsIn s .limit) (printer w out (cursorIn s)) a)
+    → u ≡ writeTerm rank sheet t turns limit (printer w out p) a
+unfolding boundsIn cursorIn
 state-made p turns limit rank sheet t w out a u h = h
 
 -- What the code reads of the state.
 module _ (s : List ℕ) where
-  pub past : getD s 4 0 < getD s 0 0 → boundsIn s .limit < penIn s .at
-  unfolding penIn boundsIn
+  pub past : getD s 4 0 < getD s 0 0 → boundsIn s .limit < cursorIn s .at
+  unfolding cursorIn boundsIn
   past h = h
 
-  pub within : getD s 0 0 ≤ getD s 4 0 → penIn s .at ≤ boundsIn s .limit
-  unfolding penIn boundsIn
+  pub within : getD s 0 0 ≤ getD s 4 0 → cursorIn s .at ≤ boundsIn s .limit
+  unfolding cursorIn boundsIn
   within h = h
 
   pub sought : (w : List ℕ) (a b : ℕ) → b ≡ deref (getD s 3 0) w a → b ≡ deref (boundsIn s .turns) w a
@@ -50,14 +52,14 @@ module _ (s : List ℕ) where
 
 -- The same at equal bounds.
 module _ (k k′ : Bounds) (e : k ≡ k′) where
-  pub emit-same : (g u : Page) (b : ℕ) → u ≡ emitTo (k .limit) g b → u ≡ emitTo (k′ .limit) g b
+  pub emit-same : (g u : Printer) (b : ℕ) → u ≡ emitTo (k .limit) g b → u ≡ emitTo (k′ .limit) g b
   emit-same g u b h = subst (λ (i : Bounds). u ≡ emitTo (i .limit) g b) e h
 
-  pub term-same : (rank : ℕ) (sheet t : List ℕ) (g u : Page) (a : ℕ) → u ≡ writeTerm rank sheet t (k .turns) (k .limit) g a
+  pub term-same : (rank : ℕ) (sheet t : List ℕ) (g u : Printer) (a : ℕ) → u ≡ writeTerm rank sheet t (k .turns) (k .limit) g a
       → u ≡ writeTerm rank sheet t (k′ .turns) (k′ .limit) g a
   term-same rank sheet t g u a h = subst (λ (i : Bounds). u ≡ writeTerm rank sheet t (i .turns) (i .limit) g a) e h
 
-  pub arguments-same : (rank : ℕ) (sheet t : List ℕ) (c n f j : ℕ) (g : Page)
+  pub arguments-same : (rank : ℕ) (sheet t : List ℕ) (c n f j : ℕ) (g : Printer)
       → argumentsBy (writeTerm rank sheet t (k .turns) (k .limit)) t (k .limit) c n f j g
       ≡ argumentsBy (writeTerm rank sheet t (k′ .turns) (k′ .limit)) t (k′ .limit) c n f j g
   arguments-same rank sheet t c n f j g =

@@ -9,13 +9,13 @@ use borrow.Author.Tests.{eq-eqb, ne-eqb}
 use lib.Dec.{eqb}
 use Rattle.machine.specs.Fields as fields
 use Rattle.machine.specs.Records.{cellOf, putCell}
-use Rattle.machine.specs.Words.{narrow, tagOf}
-use Rattle.printing.specs.Links.{linkWord, linked, linkPath, clearConstants, clearVariables, nextLineField}
-use Rattle.printing.specs.Marks.{constantNumberField}
+use Rattle.machine.specs.Words.{truncate, tagOf}
+use Rattle.printing.specs.PathLinks.{linkWord, linked, linkPath, clearConstants, clearVariables, nextLineField}
+use Rattle.printing.specs.Numbering.{constantNumberField}
 use Rattle.memory.specs.Records.{field, putField}
 
 -- Links.
-pub link-of : (p k a b r : ℕ) → a ≡ p → b ≡ k → r ≡ narrow (8 * a + b) → r ≡ linkWord p k
+pub link-of : (p k a b r : ℕ) → a ≡ p → b ≡ k → r ≡ truncate (8 * a + b) → r ≡ linkWord p k
 unfolding linkWord
 link-of p k a b r ea eb er = rw (er, ea, eb)
 
@@ -30,7 +30,9 @@ module _ (w : List ℕ) (p k e : ℕ) where
   link-first zero h = refl
   link-first (suc n) h = simp (linkPath, eq-eqb _ _ h)
 
-  pub link-on : (n u b l a : ℕ) (w′ : List ℕ) → 0 < n → (p ≡ 0 → ⊥) → u ≡ p - 1 → b ≡ field w u fields.pathBefore → l ≡ field w u fields.pathLine → w′ ≡ putField w u nextLineField e → a ≡ linkWord p k → linkPath n w p k e ≡ linkPath (n - 1) w′ b l a
+  pub link-on : (n u b l a : ℕ) (w′ : List ℕ) → 0 < n → (p ≡ 0 → ⊥) → u ≡ p - 1 → b ≡ field w u fields.pathBefore
+      → l ≡ field w u fields.pathLine → w′ ≡ putField w u nextLineField e → a ≡ linkWord p k
+      → linkPath n w p k e ≡ linkPath (n - 1) w′ b l a
   unfolding linkPath
   link-on zero u b l a w′ h z eu eb el ew ea = absurd (omega arith)
   link-on (suc n) u b l a w′ h z eu eb el ew ea = rw (sub-one (suc n), ea, ew, el, eb, eu) (simp (linkPath, ne-eqb _ _ z))
@@ -41,15 +43,18 @@ unfolding clearConstants
 constants-end zero w h = refl
 constants-end (suc n) w h = absurd (omega arith)
 
-pub constants-on : (n : ℕ) (w w′ : List ℕ) → 0 < n → w′ ≡ putField w (n - 1) constantNumberField 0 → clearConstants n w ≡ clearConstants (n - 1) w′
+pub constants-on : (n : ℕ) (w w′ : List ℕ) → 0 < n → w′ ≡ putField w (n - 1) constantNumberField 0
+    → clearConstants n w ≡ clearConstants (n - 1) w′
 unfolding clearConstants
 constants-on zero w w′ h e = absurd (omega arith)
 constants-on (suc n) w w′ h e = rw (e, sub-one (suc n))
 
-pub cell-kept : (w : List ℕ) (x b a : ℕ) → b ≡ cellOf w x → a ≡ tagOf b → (a ≡ 0 → ⊥) → w ≡ cond (eqb (tagOf (cellOf w x)) 0) (putCell w x 0) w
+pub cell-kept : (w : List ℕ) (x b a : ℕ) → b ≡ cellOf w x → a ≡ tagOf b → (a ≡ 0 → ⊥)
+    → w ≡ cond (eqb (tagOf (cellOf w x)) 0) (putCell w x 0) w
 cell-kept w x b a eb ea e = simp (← eb, ← ea, ne-eqb _ _ e)
 
-pub cell-cleared : (w w′ : List ℕ) (x b a : ℕ) → b ≡ cellOf w x → a ≡ tagOf b → a ≡ 0 → w′ ≡ putCell w x 0 → w′ ≡ cond (eqb (tagOf (cellOf w x)) 0) (putCell w x 0) w
+pub cell-cleared : (w w′ : List ℕ) (x b a : ℕ) → b ≡ cellOf w x → a ≡ tagOf b → a ≡ 0 → w′ ≡ putCell w x 0
+    → w′ ≡ cond (eqb (tagOf (cellOf w x)) 0) (putCell w x 0) w
 cell-cleared w w′ x b a eb ea e ew = rw ew (simp (← eb, ← ea, eq-eqb _ _ e))
 
 pub variables-end : (n : ℕ) (w : List ℕ) → n ≤ 0 → clearVariables n w ≡ w
@@ -57,7 +62,8 @@ unfolding clearVariables
 variables-end zero w h = refl
 variables-end (suc n) w h = absurd (omega arith)
 
-pub variables-on : (n : ℕ) (w w′ : List ℕ) → 0 < n → w′ ≡ cond (eqb (tagOf (cellOf w (n - 1))) 0) (putCell w (n - 1) 0) w → clearVariables n w ≡ clearVariables (n - 1) w′
+pub variables-on : (n : ℕ) (w w′ : List ℕ) → 0 < n → w′ ≡ cond (eqb (tagOf (cellOf w (n - 1))) 0) (putCell w (n - 1) 0) w
+    → clearVariables n w ≡ clearVariables (n - 1) w′
 unfolding clearVariables
 variables-on zero w w′ h e = absurd (omega arith)
 variables-on (suc n) w w′ h e = rw (e, sub-one (suc n))

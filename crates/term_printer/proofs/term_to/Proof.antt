@@ -1,5 +1,5 @@
 use Rattle.term_printer.proofs.Laws.{term-ranked}
-use Rattle.term_printer.proofs.cursor.States.{pen-taken, state-made}
+use Rattle.term_printer.proofs.cursor.States.{cursor-taken, state-made}
 use Rattle.term_printer.specs.State.{boundsIn}
 use borrow.Author.Needs.{needs}
 use Rattle.term_printer.proofs.term_to.Statement.{statement}
@@ -7,10 +7,18 @@ use Rattle.term_printer.proofs.term_to.Tie as tie
 
 write-term-requires : tie.Need-write-term-requires
 unfolding boundsIn
-write-term-requires c κs = c .before .before .before .before .before .before .before .before .before .before .pre
+write-term-requires c κs =
+    let at-pre = c .before .before .before .before .before .before .before .before .before .before in
+    at-pre .pre
 
 returns : tie.Need-returns
-returns c = term-ranked _ _ _ _ _ _ _ _ _ _ (c .before .before .before .before .before .before .before .before .before .before .before .before .up .ensures) (state-made (c .before .before .before .before .before .before .before .before .before .before .before .before .before .before .before .before .before .args .p) _ _ _ _ _ _ _ _ _ (pen-taken _ _ _ _ _ (c .pen-in .ensures) (c .before .before .before .before .before .before .write-term .ensures .0)))
+returns c =
+    let at-write-term = c .before .before .before .before .before .before in
+    let at-increment = at-write-term .before .before .before .before .before .before in
+    let at-entry = at-increment .before .before .before .before .before in
+    term-ranked _ _ _ _ _ _ _ _ _ _ (at-increment .increment .ensures)
+    (state-made (at-entry .args .p) _ _ _ _ _ _ _ _ _
+    (cursor-taken _ _ _ _ _ (c .cursor-in .ensures) (at-write-term .write-term .ensures .0)))
 
 pub term-to-spec : {M : Type 1} → statement M
 term-to-spec =

@@ -17,17 +17,19 @@ unfolding sameRange
 range-end zero a i b j h = refl
 range-end (suc n) a i b j h = absurd (omega arith)
 
-pub range-on : (n : ℕ) (a : List ℕ) (i : ℕ) (b : List ℕ) (j c d : ℕ) → 0 < n → c ≡ getD a i 0 → d ≡ getD b j 0 → c ≡ d → sameRange n a i b j ≡ sameRange (n - 1) a (i + 1) b (j + 1)
+pub range-on : (n : ℕ) (a : List ℕ) (i : ℕ) (b : List ℕ) (j c d : ℕ) → 0 < n → c ≡ getD a i 0 → d ≡ getD b j 0 → c ≡ d
+    → sameRange n a i b j ≡ sameRange (n - 1) a (i + 1) b (j + 1)
 unfolding sameRange
 range-on zero a i b j c d h p q e = absurd (omega arith)
 range-on (suc n) a i b j c d h p q e = rw (sub-one (suc n), ← p, ← q, eq-eqb c d e)
 
-pub range-off : (n : ℕ) (a : List ℕ) (i : ℕ) (b : List ℕ) (j c d : ℕ) → 0 < n → c ≡ getD a i 0 → d ≡ getD b j 0 → (c ≡ d → ⊥) → sameRange n a i b j ≡ false
+pub range-off : (n : ℕ) (a : List ℕ) (i : ℕ) (b : List ℕ) (j c d : ℕ) → 0 < n → c ≡ getD a i 0 → d ≡ getD b j 0 → (c ≡ d → ⊥)
+    → sameRange n a i b j ≡ false
 unfolding sameRange
 range-off zero a i b j c d h p q e = absurd (omega arith)
 range-off (suc n) a i b j c d h p q e = rw (← p, ← q, ne-eqb c d e)
 
--- past the end every place reads as 0
+-- past the end every position reads as 0
 
 past-left : (n : ℕ) (a : List ℕ) (i k : ℕ) (b : List ℕ) (j : ℕ) → length a ≤ i → length a ≤ k → sameRange n a i b j ≡ sameRange n a k b j
 unfolding sameRange
@@ -45,14 +47,16 @@ past-right (suc n) a i b j k h g =
     let q : length b ≤ k + 1 = omega arith in
     rw (List·getD-eq-default b 0 h, List·getD-eq-default b 0 g, past-right n a (i + 1) b (j + 1) (k + 1) p q)
 
-after-left : (n : ℕ) (a : List ℕ) (i : ℕ) (b : List ℕ) (j p : ℕ) → p ≡ cond (ltb i (length a)) (i + 1) i → sameRange n a (i + 1) b j ≡ sameRange n a p b j
+after-left : (n : ℕ) (a : List ℕ) (i : ℕ) (b : List ℕ) (j p : ℕ) → p ≡ cond (ltb i (length a)) (i + 1) i
+    → sameRange n a (i + 1) b j ≡ sameRange n a p b j
 after-left n a i b j p e = go (ltb i (length a)) refl e
   where
     go : (z : Bool) → ltb i (length a) ≡ z → p ≡ cond z (i + 1) i → sameRange n a (i + 1) b j ≡ sameRange n a p b j
     go true h e = rw e
     go false h e = let l = ltb-false i (length a) h in past-left n a (i + 1) p b j (omega arith) (omega arith)
 
-after-right : (n : ℕ) (a : List ℕ) (i : ℕ) (b : List ℕ) (j q : ℕ) → q ≡ cond (ltb j (length b)) (j + 1) j → sameRange n a i b (j + 1) ≡ sameRange n a i b q
+after-right : (n : ℕ) (a : List ℕ) (i : ℕ) (b : List ℕ) (j q : ℕ) → q ≡ cond (ltb j (length b)) (j + 1) j
+    → sameRange n a i b (j + 1) ≡ sameRange n a i b q
 after-right n a i b j q e = go (ltb j (length b)) refl e
   where
     go : (z : Bool) → ltb j (length b) ≡ z → q ≡ cond z (j + 1) j → sameRange n a i b (j + 1) ≡ sameRange n a i b q
@@ -70,7 +74,8 @@ pub range-none : (a : List ℕ) (i : ℕ) (b : List ℕ) (j : ℕ) → true ≡ 
 unfolding sameRange
 range-none a i b j = refl
 
-range-last : (k : ℕ) (a : List ℕ) (i : ℕ) (b : List ℕ) (j : ℕ) → sameRange (suc k) a i b j ≡ (sameRange k a i b j && eqb (getD a (i + k) 0) (getD b (j + k) 0))
+range-last : (k : ℕ) (a : List ℕ) (i : ℕ) (b : List ℕ) (j : ℕ)
+    → sameRange (suc k) a i b j ≡ (sameRange k a i b j && eqb (getD a (i + k) 0) (getD b (j + k) 0))
 unfolding sameRange
 range-last zero a i b j =
     let p : i + 0 ≡ i = omega arith in
@@ -84,21 +89,24 @@ range-last (suc k) a i b j =
     let p : i + suc k ≡ (i + 1) + k = omega arith in
     let q : j + suc k ≡ (j + 1) + k = omega arith in
     rw (p, q)
-    (go (sameRange k a (i + 1) b (j + 1)) (sameRange (suc k) a (i + 1) b (j + 1)) (eqb (getD a ((i + 1) + k) 0) (getD b ((j + 1) + k) 0)) (eqb (getD a i 0) (getD b j 0)) (range-last k a (i + 1) b (j + 1)))
+    (go (sameRange k a (i + 1) b (j + 1)) (sameRange (suc k) a (i + 1) b (j + 1)) (eqb (getD a ((i + 1) + k) 0) (getD b ((j + 1) + k) 0))
+    (eqb (getD a i 0) (getD b j 0)) (range-last k a (i + 1) b (j + 1)))
   where
     go : (s l e z : Bool) → l ≡ (s && e) → cond z l false ≡ (cond z s false && e)
     go s l e true h = h
     go s l e false h = refl
 
-pub range-more : (k : ℕ) (a : List ℕ) (i : ℕ) (b : List ℕ) (j : ℕ) (z : Bool) → z ≡ sameRange k a i b j → (z && eqb (getD a (i + k) 0) (getD b (j + k) 0)) ≡ sameRange (k + 1) a i b j
+pub range-more : (k : ℕ) (a : List ℕ) (i : ℕ) (b : List ℕ) (j : ℕ) (z : Bool) → z ≡ sameRange k a i b j
+    → (z && eqb (getD a (i + k) 0) (getD b (j + k) 0)) ≡ sameRange (k + 1) a i b j
 range-more k a i b j z h = rw (h, add-one k) (sym (range-last k a i b j))
 
-pub range-all : (n k : ℕ) (a : List ℕ) (i : ℕ) (b : List ℕ) (j : ℕ) (z : Bool) → k ≤ n → n ≤ k → z ≡ sameRange k a i b j → z ≡ sameRange n a i b j
+pub range-all : (n k : ℕ) (a : List ℕ) (i : ℕ) (b : List ℕ) (j : ℕ) (z : Bool) → k ≤ n → n ≤ k → z ≡ sameRange k a i b j
+    → z ≡ sameRange n a i b j
 range-all n k a i b j z p q h = let e : k ≡ n = omega arith in rw e at h
 
 -- finding a byte
 
--- what is left after one place
+-- The positions left from i on are one more than those left from i + 1 on.
 pub one-less : (x : List ℕ) (i : ℕ) → i < length x → length x - i ≡ suc (length x - (i + 1))
 one-less x i h = omega arith
 
@@ -110,13 +118,14 @@ pub find-here : (x : List ℕ) (c i : ℕ) → i < length x → getD x i 0 ≡ c
 unfolding findByte
 find-here x c i h e = rw (one-less x i h, eq-eqb (getD x i 0) c e)
 
-pub find-on : (x : List ℕ) (c i : ℕ) → i < length x → (getD x i 0 ≡ c → ⊥) → findByte (length x - i) x c i ≡ findByte (length x - (i + 1)) x c (i + 1)
+pub find-on : (x : List ℕ) (c i : ℕ) → i < length x → (getD x i 0 ≡ c → ⊥)
+    → findByte (length x - i) x c i ≡ findByte (length x - (i + 1)) x c (i + 1)
 unfolding findByte
 find-on x c i h e = rw (one-less x i h, ne-eqb (getD x i 0) c e)
 
--- places that are read
+-- positions that are read
 
--- a byte that is not 0 stands within the text
+-- A byte that is not 0 stands within the text.
 pub inside : (x : List ℕ) (i b c : ℕ) → b ≡ getD x i 0 → b ≡ c → 0 < c → i < length x
 inside x i b c e h z = go (ltb i (length x)) refl
   where

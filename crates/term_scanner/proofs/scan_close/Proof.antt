@@ -6,7 +6,8 @@ use Rattle.term_scanner.proofs.scan_close.Statement.{statement}
 use Rattle.term_scanner.proofs.scan_close.Tie as tie
 
 add-t6 : tie.Need-add-t6
-add-t6 c = omega (arith, inside (c .before .before .before .args .text .now) _ _ 41 (c .before .byte .ensures) (c .if1 .taken) (omega arith))
+add-t6 c =
+    omega (arith, inside (c .before .before .before .args .text .now) _ _ 41 (c .before .byte .ensures) (c .if1 .taken) (omega arith))
 
 returns : tie.Need-returns
 returns c = simp (← (c .before .byte .ensures), eq-eqb _ _ (c .if1 .taken))

@@ -2,44 +2,17 @@
 use Prim.Native.Nat.{ℕ, _+_, _-_, _*_, _<_, _≤_}
 use native.Mathlib.Omega.{arith}
 use mathlib.Core.Path.{_≡_, refl, sym, _∙_}
-use mathlib.Core.Bool.{Bool, true, false, _&&_, _||_, cond}
+use mathlib.Core.Bool.{Bool, true, false, _&&_, cond}
 use mathlib.Core.List.{List}
 use lib.Dec.{eqb, leb}
 use lib.ListN.{length, getD}
 use borrow.Author.Tests.{le-leb, lt-leb, eq-eqb, ne-eqb}
-use Rattle.sheet_format.specs.Bytes.{isDigit, isLetter, isNameByte}
+use Rattle.sheet_format.specs.Bytes.{isDigit, isNameByte}
 use Rattle.sheet_format.proofs.Bytes.{digit-bounds}
 use Rattle.scanning.specs.declared.Number.the-variants.{Value, Missing}
 use Rattle.scanning.specs.Ranges.{numberFrom}
 use Rattle.scanning.specs.Scanning.{nameFrom, nameEnd}
 use Rattle.term_scanner.proofs.ranges.Laws.{inside, one-less}
-
--- bytes of names
-
-pub name-letter : (b : ℕ) (z : Bool) → z ≡ isLetter b → z ≡ true → isNameByte b ≡ true
-unfolding isNameByte
-name-letter b z e h = rw (← e, h)
-
-pub name-digit : (b : ℕ) (z : Bool) → z ≡ isDigit b → z ≡ true → isNameByte b ≡ true
-unfolding isNameByte
-name-digit b z e h = rw (← e, h) (go (isLetter b))
-  where
-    go : (a : Bool) → (a || true || eqb b 95) ≡ true
-    go true = refl
-    go false = refl
-
-pub name-mark : (b : ℕ) → b ≡ 95 → isNameByte b ≡ true
-unfolding isNameByte
-name-mark b h = rw (eq-eqb b 95 h) (go (isLetter b) (isDigit b))
-  where
-    go : (a c : Bool) → (a || c || true) ≡ true
-    go true c = refl
-    go false true = refl
-    go false false = refl
-
-pub name-none : (b : ℕ) (z y : Bool) → z ≡ isLetter b → z ≡ false → y ≡ isDigit b → y ≡ false → (b ≡ 95 → ⊥) → isNameByte b ≡ false
-unfolding isNameByte
-name-none b z y e h d k n = rw (← e, h, ← d, k, ne-eqb b 95 n)
 
 -- the end of a name
 
@@ -55,7 +28,8 @@ pub end-here : (x : List ℕ) (i : ℕ) (z : Bool) → i < length x → z ≡ is
 unfolding nameFrom
 end-here x i z h e k = rw (one-less x i h, ← e, k)
 
-pub end-on : (x : List ℕ) (i : ℕ) (z : Bool) → i < length x → z ≡ isNameByte (getD x i 0) → z ≡ true → nameFrom (length x - i) x i ≡ nameFrom (length x - (i + 1)) x (i + 1)
+pub end-on : (x : List ℕ) (i : ℕ) (z : Bool) → i < length x → z ≡ isNameByte (getD x i 0) → z ≡ true
+    → nameFrom (length x - i) x i ≡ nameFrom (length x - (i + 1)) x (i + 1)
 unfolding nameFrom
 end-on x i z h e k = rw (one-less x i h, ← e, k)
 
@@ -73,18 +47,23 @@ pub number-high : (x : List ℕ) (i v : ℕ) → i < length x → 57 < getD x i 
 unfolding numberFrom isDigit
 number-high x i v h e = rw (one-less x i h, lt-leb (getD x i 0) 57 e) (go (leb 48 (getD x i 0)))
   where
-    go : (b : Bool) → cond (b && false) (cond (leb (10 * v + (getD x i 0 - 48)) 65535) (numberFrom (length x - (i + 1)) x (i + 1) (10 * v + (getD x i 0 - 48))) Missing) (Value v i) ≡ Value v i
+    go : (b : Bool)
+        → cond (b && false) (cond (leb (10 * v + (getD x i 0 - 48)) 65535)
+        (numberFrom (length x - (i + 1)) x (i + 1) (10 * v + (getD x i 0 - 48))) Missing) (Value v i) ≡ Value v i
     go true = refl
     go false = refl
 
-pub number-much : (x : List ℕ) (i v : ℕ) → i < length x → 48 ≤ getD x i 0 → getD x i 0 ≤ 57 → 65535 < 10 * v + (getD x i 0 - 48) → numberFrom (length x - i) x i v ≡ Missing
+pub number-much : (x : List ℕ) (i v : ℕ) → i < length x → 48 ≤ getD x i 0 → getD x i 0 ≤ 57 → 65535 < 10 * v + (getD x i 0 - 48)
+    → numberFrom (length x - i) x i v ≡ Missing
 unfolding numberFrom isDigit
-number-much x i v h a b e = rw (one-less x i h, le-leb 48 (getD x i 0) a, le-leb (getD x i 0) 57 b, lt-leb (10 * v + (getD x i 0 - 48)) 65535 e)
+number-much x i v h a b e =
+    rw (one-less x i h, le-leb 48 (getD x i 0) a, le-leb (getD x i 0) 57 b, lt-leb (10 * v + (getD x i 0 - 48)) 65535 e)
 
 pub number-on : (x : List ℕ) (i v : ℕ) → i < length x → 48 ≤ getD x i 0 → getD x i 0 ≤ 57 → 10 * v + (getD x i 0 - 48) ≤ 65535
     → numberFrom (length x - i) x i v ≡ numberFrom (length x - (i + 1)) x (i + 1) (10 * v + (getD x i 0 - 48))
 unfolding numberFrom isDigit
-number-on x i v h a b e = rw (one-less x i h, le-leb 48 (getD x i 0) a, le-leb (getD x i 0) 57 b, le-leb (10 * v + (getD x i 0 - 48)) 65535 e)
+number-on x i v h a b e =
+    rw (one-less x i h, le-leb 48 (getD x i 0) a, le-leb (getD x i 0) 57 b, le-leb (10 * v + (getD x i 0 - 48)) 65535 e)
 
 -- digits
 

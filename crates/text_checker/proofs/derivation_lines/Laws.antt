@@ -33,7 +33,8 @@ module _ (b t : List ℕ) (symbols : ℕ) (x w : List ℕ) (r : Registers) (q i 
   unfolding connectiveLine
   assume-due n₄ n₅ h em = rw (← ek, ne-eqb _ _ n₄, ne-eqb _ _ n₅, eq-eqb _ _ h) em
 
-  pub quantifier-due : (k ≡ 4 → ⊥) → (k ≡ 5 → ⊥) → (k ≡ 6 → ⊥) → m ≡ quantifierLine b t symbols x w r q i e → m ≡ connectiveLine b t symbols x w r q i e
+  pub quantifier-due : (k ≡ 4 → ⊥) → (k ≡ 5 → ⊥) → (k ≡ 6 → ⊥) → m ≡ quantifierLine b t symbols x w r q i e
+      → m ≡ connectiveLine b t symbols x w r q i e
   unfolding connectiveLine
   quantifier-due n₄ n₅ n₆ em = rw (← ek, ne-eqb _ _ n₄, ne-eqb _ _ n₅, ne-eqb _ _ n₆) em
 
@@ -46,6 +47,7 @@ module _ (b t : List ℕ) (symbols : ℕ) (x w : List ℕ) (r : Registers) (q i 
     unfolding sequentLine
     true-due n₂ h em = rw (← ek, ne-eqb _ _ n₂, eq-eqb _ _ h) em
 
-    pub connective-due : (k ≡ 2 → ⊥) → (k ≡ 3 → ⊥) → m ≡ connectiveLine b t symbols x w r q i e → m ≡ sequentLine b t symbols clauses x w r q i e
+    pub connective-due : (k ≡ 2 → ⊥) → (k ≡ 3 → ⊥) → m ≡ connectiveLine b t symbols x w r q i e
+        → m ≡ sequentLine b t symbols clauses x w r q i e
     unfolding sequentLine
     connective-due n₂ n₃ em = rw (← ek, ne-eqb _ _ n₂, ne-eqb _ _ n₃) em

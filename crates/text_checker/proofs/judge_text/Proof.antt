@@ -2,7 +2,7 @@ use Prim.Native.Nat.{_-_, _≤_}
 use native.Mathlib.Omega.{arith}
 use mathlib.Core.Path.{_≡_, sym}
 use lib.ListN.{length}
-use Rattle.scanning.specs.Ranges.{lineEnd}
+use Rattle.scanning.specs.Ranges.{textLineEnd}
 use Rattle.line_checking.specs.Judging.{judgeText}
 use Rattle.text_checker.proofs.Laws.{Rest, end-after, text-start, text-ends, text-breaks, text-on}
 use borrow.Author.Needs.{needs}
@@ -11,7 +11,7 @@ use Rattle.text_checker.proofs.judge_text.Tie as tie
 
 abbrev Inv-loop : tie.InvT-loop
 Inv-loop sheet t shape text w₀ r₀ q₀ i₀ e₀ w r q i e =
-    (length w ≡ length w₀) × (i ≤ length text) × (q ≤ i) × (e ≡ lineEnd text i)
+    (length w ≡ length w₀) × (i ≤ length text) × (q ≤ i) × (e ≡ textLineEnd text i)
     × Rest (judgeText sheet t (shape .symbols) (shape .clauses) (shape .goal) text w₀) sheet t (shape .symbols) (shape .clauses)
     (shape .goal) text w r q i
 
@@ -19,7 +19,8 @@ abbrev μ-loop : tie.MeasureT-loop
 μ-loop sheet t shape text w₀ r₀ q₀ i₀ e₀ w r q i e = length text - i
 
 loop-holds : tie.Need-loop-holds Inv-loop μ-loop
-loop-holds c = (search needs, search needs, search needs, (c .line-end .ensures), text-start _ _ _ _ _ _ _ _ (c .before .start .ensures))
+loop-holds c =
+    (search needs, search needs, search needs, (c .text-line-end .ensures), text-start _ _ _ _ _ _ _ _ (c .before .start .ensures))
 
 judge-line-requires : tie.Need-judge-line-requires Inv-loop μ-loop
 judge-line-requires c κs =
@@ -29,26 +30,32 @@ judge-line-requires c κs =
 
 returns : tie.Need-returns Inv-loop μ-loop
 returns c =
-    sym (text-breaks _ _ _ _ _ _ _ _ _ _ _ _ (c .before .before .before .before .before .before .loop .inv .1)
-    (c .before .before .before .before .before .before .loop .inv .3) _ _ (c .before .before .before .judge-line .ensures)
-    (c .before .before .before .before .before .loop-test .taken)
-    (c .before .before .before .before .before .before .loop .inv .4) (c .if1 .taken))
+    let at-loop-test = c .before .before .before .before .before in
+    let at-loop = at-loop-test .before in
+    sym (text-breaks _ _ _ _ _ _ _ _ _ _ _ _ (at-loop .loop .inv .1)
+    (at-loop .loop .inv .3) _ _ (c .before .before .before .judge-line .ensures)
+    (at-loop-test .loop-test .taken)
+    (at-loop .loop .inv .4) (c .if1 .taken))
 
 loop-less : tie.Need-loop-less Inv-loop μ-loop
 loop-less c =
-    let l = c .before .before .before .before .before .before .before in
+    let at-point = c .before .before .before .before .before .before .before in
+    let l = at-point in
     omega (arith, end-after (l .before .before .before .before .before .before .before .args .text .now) _ _ (l .loop .inv .3))
 
 loop-again : tie.Need-loop-again Inv-loop μ-loop
 loop-again c =
-    let l = c .before .before .before .before .before .before .before in
+    let at-judge-line = c .before .before .before .before in
+    let at-loop-test = at-judge-line .before .before in
+    let at-point = at-loop-test .before in
+    let l = at-point in
     let h = end-after (l .before .before .before .before .before .before .before .args .text .now) _ _ (l .loop .inv .3) in (
       search needs,
       search needs,
       omega arith,
-      c .line-end2 .ensures,
-      text-on _ _ _ _ _ _ _ _ _ _ _ _ (l .loop .inv .1) (l .loop .inv .3) _ _ (c .before .before .before .before .judge-line .ensures)
-          (c .before .before .before .before .before .before .loop-test .taken) (l .loop .inv .4) (c .before .if1 .left),
+      c .text-line-end2 .ensures,
+      text-on _ _ _ _ _ _ _ _ _ _ _ _ (l .loop .inv .1) (l .loop .inv .3) _ _ (at-judge-line .judge-line .ensures)
+          (at-loop-test .loop-test .taken) (l .loop .inv .4) (c .before .if1 .left),
     )
 
 returns-2 : tie.Need-returns-2 Inv-loop μ-loop

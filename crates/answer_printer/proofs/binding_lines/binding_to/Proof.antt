@@ -11,15 +11,20 @@ returns c = binding-none _ _ _ (c .if1 .taken)
 returns-2 : tie.Need-returns-2
 unfolding ascii
 returns-2 c =
+    let at-last-term = c .before .before .before .before in
+    let at-variable-word = at-last-term .before in
+    let at-point = at-variable-word .before .before .before .before .before in
+    let at-point′ = at-point .before .before in
+    let at-point′′ = at-point′ .before .before .before in
     binding-some _ _ _ _ _ _ _ _ _ _ _ _
-    (c .before .before .before .before .before .before .before .before .before .before .before .before
+    (at-point′
     .before .before .before .before .before .before .before .before .before .before .if1 .left)
-    (c .before .before .before .before .before .before .before .before .before .before
+    (at-point
     .before .before .before .before .before .before .before .before .before .bytes-to .ensures _)
-    (c .before .before .before .before .before .before .before .before .before .before .before .before .before .before .before
+    (at-point′′
     .number-to .ensures _)
-    (c .before .before .before .before .before .before .before .before .before .before .bytes-to2 .ensures _)
-    (c .before .before .before .before .before .variable-word .ensures) (c .before .before .before .before .last-term .ensures)
+    (at-point .bytes-to2 .ensures _)
+    (at-variable-word .variable-word .ensures) (at-last-term .last-term .ensures)
 
 pub binding-to-spec : {M : Type 1} → statement M
 binding-to-spec =

@@ -5,7 +5,8 @@ use Rattle.answer_printer.proofs.line_parts.last_term.Tie as tie
 
 returns : tie.Need-returns
 returns c =
-    line-ended _ _ _ _ _ _ _ _ (c .before .before .before .before .before .before .before .before .term-to .ensures)
+    let at-term-to = c .before .before .before .before .before .before .before .before in
+    line-ended _ _ _ _ _ _ _ _ (at-term-to .term-to .ensures)
     (c .before .before .emit-to .ensures _)
 
 pub last-term-spec : {M : Type 1} → statement M

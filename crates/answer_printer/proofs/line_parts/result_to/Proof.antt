@@ -4,7 +4,11 @@ use Rattle.answer_printer.proofs.line_parts.result_to.Statement.{statem
 use Rattle.answer_printer.proofs.line_parts.result_to.Tie as tie
 
 returns : tie.Need-returns
-returns c = λ m. result-written _ _ _ _ _ _ _ (c .before .before .before .before .before .before .before .before .before .before .bytes-to .ensures m) (c .before .before .before .before .before .before .number-to .ensures m) (c .before .before .emit-to .ensures m)
+returns c =
+    let at-number-to = c .before .before .before .before .before .before in
+    let at-bytes-to = at-number-to .before .before .before .before in
+    λ m. result-written _ _ _ _ _ _ _ (at-bytes-to .bytes-to .ensures m) (at-number-to .number-to .ensures m)
+    (c .before .before .emit-to .ensures m)
 
 pub result-to-spec : {M : Type 1} → statement M
 result-to-spec =

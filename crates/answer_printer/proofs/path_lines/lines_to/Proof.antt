@@ -1,5 +1,5 @@
 use Rattle.answer_printer.proofs.path_lines.Laws.{lines-end, lines-last, lines-on}
-use Rattle.printing.specs.Marks.{page}
+use Rattle.printing.specs.Numbering.{printer}
 use Rattle.printing.specs.WriteLines.{linesTo}
 use borrow.Author.Needs.{needs}
 use lib.ListN.{length}
@@ -10,8 +10,8 @@ use Rattle.answer_printer.proofs.path_lines.lines_to.Tie as tie
 abbrev Inv-loop : tie.InvT-loop
 Inv-loop sheet t bounds w₀ out₀ e left₀ link₀ q₀ w out left link q =
     (length w ≡ length w₀) × (length out ≡ length out₀)
-    × (linesTo sheet t (bounds .turns) (bounds .limit) (bounds .turns) (page w₀ out₀ q₀) e
-    ≡ linesTo sheet t (bounds .turns) (bounds .limit) left (page w out q) link)
+    × (linesTo sheet t (bounds .turns) (bounds .limit) (bounds .turns) (printer w₀ out₀ q₀) e
+    ≡ linesTo sheet t (bounds .turns) (bounds .limit) left (printer w out q) link)
 
 abbrev μ-loop : tie.MeasureT-loop
 μ-loop sheet t bounds w₀ out₀ e left₀ link₀ q₀ w out left link q = left
@@ -21,12 +21,15 @@ returns c = sym (c .before .before .loop .inv .2 ∙ lines-last _ _ _ _ _ _ _ (c
 
 loop-again : tie.Need-loop-again Inv-loop μ-loop
 loop-again c =
-    let c₁ = c .before .before .before .before .before .before .before .before in (
-      c .before .before .before .before .line-to .kept .1 .1 .1 .0 ∙ c₁ .before .before .before .before .loop .inv .0,
-      c .before .before .before .before .line-to .kept .1 .1 .1 .1 .0 ∙ c₁ .before .before .before .before .loop .inv .1,
+    let at-line-to = c .before .before .before .before in
+    let at-field = at-line-to .before .before .before in
+    let at-point = at-field .before in
+    let c₁ = at-point in (
+      at-line-to .line-to .kept .1 .1 .1 .0 ∙ c₁ .before .before .before .before .loop .inv .0,
+      at-line-to .line-to .kept .1 .1 .1 .1 .0 ∙ c₁ .before .before .before .before .loop .inv .1,
       c₁ .before .before .before .before .loop .inv .2 ∙ lines-on _ _ _ _ _ _ _ _ _ _ _ _ (c₁ .before .before .before .loop-test .taken)
           (c₁ .before .before .if1 .left) (c₁ .before .record-of .ensures)
-          (c .before .before .before .before .before .before .before .field .ensures) (c .before .before .before .before .line-to .ensures),
+          (at-field .field .ensures) (at-line-to .line-to .ensures),
     )
 
 returns-2 : tie.Need-returns-2 Inv-loop μ-loop

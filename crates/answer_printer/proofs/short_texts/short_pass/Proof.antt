@@ -4,7 +4,11 @@ use Rattle.answer_printer.proofs.short_texts.short_pass.Statement.{stat
 use Rattle.answer_printer.proofs.short_texts.short_pass.Tie as tie
 
 returns : tie.Need-returns
-returns c = short-written _ _ _ _ _ _ _ _ _ (c .before .before .before .before .before .before .before .before .before .before .write-bytes .ensures) (c .before .before .before .before .before .before .write-number .ensures) (c .before .before .emit .ensures)
+returns c =
+    let at-write-number = c .before .before .before .before .before .before in
+    let at-write-bytes = at-write-number .before .before .before .before in
+    short-written _ _ _ _ _ _ _ _ _ (at-write-bytes .write-bytes .ensures) (at-write-number .write-number .ensures)
+    (c .before .before .emit .ensures)
 
 pub short-pass-spec : {M : Type 1} → statement M
 short-pass-spec =

@@ -16,10 +16,16 @@ loop-holds : tie.Need-loop-holds Inv-loop μ-loop
 loop-holds c = clause-start _ _ _
 
 returns : tie.Need-returns Inv-loop μ-loop
-returns c = sym ((c .before .before .before .before .loop .inv) ∙ clause-here _ _ _ _ _ _ (c .before .before .before .loop-test .taken) (c .before .before .clause-node .ensures) (c .before .members .ensures .0) (c .if1 .taken))
+returns c =
+    let at-loop = c .before .before .before .before in
+    sym ((at-loop .loop .inv) ∙ clause-here _ _ _ _ _ _ (c .before .before .before .loop-test .taken)
+    (c .before .before .clause-node .ensures) (c .before .members .ensures .0) (c .if1 .taken))
 
 loop-again : tie.Need-loop-again Inv-loop μ-loop
-loop-again c = (c .before .before .before .before .loop .inv) ∙ clause-on _ _ _ _ _ _ (c .before .before .before .loop-test .taken) (c .before .before .clause-node .ensures) (c .before .members .ensures .0) (c .if1 .left)
+loop-again c =
+    let at-loop = c .before .before .before .before in
+    (at-loop .loop .inv) ∙ clause-on _ _ _ _ _ _ (c .before .before .before .loop-test .taken) (c .before .before .clause-node .ensures)
+    (c .before .members .ensures .0) (c .if1 .left)
 
 returns-2 : tie.Need-returns-2 Inv-loop μ-loop
 returns-2 c = sym ((c .before .loop .inv) ∙ clause-none _ _ _ _ (c .loop-test .left))

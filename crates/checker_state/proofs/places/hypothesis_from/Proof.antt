@@ -6,19 +6,32 @@ use Rattle.checker_state.proofs.places.hypothesis_from.Statement.{state
 use Rattle.checker_state.proofs.places.hypothesis_from.Tie as tie
 
 abbrev Inv-loop : tie.InvT-loop
-Inv-loop n t clauses w h k turns₀ next₀ left₀ turns next left = hypothesisFrom n t clauses w h k ≡ hypothesisFrom turns t clauses w next left
+Inv-loop n t clauses w h k turns₀ next₀ left₀ turns next left =
+    hypothesisFrom n t clauses w h k ≡ hypothesisFrom turns t clauses w next left
 
 abbrev μ-loop : tie.MeasureT-loop
 μ-loop n t clauses w h k turns₀ next₀ left₀ turns next left = turns
 
 returns : tie.Need-returns Inv-loop μ-loop
-returns c = sym ((c .before .before .before .loop .inv) ∙ hypothesis-none _ _ _ _ _ _ _ (c .before .before .loop-test .taken) (c .before .if1 .taken) (c .clause-from .ensures))
+returns c =
+    sym ((c .before .before .before .loop .inv)
+    ∙ hypothesis-none _ _ _ _ _ _ _ (c .before .before .loop-test .taken) (c .before .if1 .taken) (c .clause-from .ensures))
 
 returns-2 : tie.Need-returns-2 Inv-loop μ-loop
-returns-2 c = sym ((c .before .before .before .before .before .before .loop .inv) ∙ hypothesis-here _ _ _ _ _ _ _ _ _ (c .before .before .before .before .before .loop-test .taken) (c .before .before .before .before .if1 .left) (c .before .before .before .field .ensures) (c .before .before .members .ensures .0) (c .before .if2 .taken) (c .field2 .ensures))
+returns-2 c =
+    let at-if1 = c .before .before .before .before in
+    let at-loop-test = at-if1 .before in
+    let at-loop = at-loop-test .before in
+    sym ((at-loop .loop .inv) ∙ hypothesis-here _ _ _ _ _ _ _ _ _ (at-loop-test .loop-test .taken) (at-if1 .if1 .left)
+    (c .before .before .before .field .ensures) (c .before .before .members .ensures .0) (c .before .if2 .taken) (c .field2 .ensures))
 
 loop-again : tie.Need-loop-again Inv-loop μ-loop
-loop-again c = (c .before .before .before .before .before .before .loop .inv) ∙ hypothesis-on _ _ _ _ _ _ _ _ _ (c .before .before .before .before .before .loop-test .taken) (c .before .before .before .before .if1 .left) (c .before .before .before .field .ensures) (c .before .before .members .ensures .0) (c .before .if2 .left) (c .field3 .ensures)
+loop-again c =
+    let at-if1 = c .before .before .before .before in
+    let at-loop-test = at-if1 .before in
+    let at-loop = at-loop-test .before in
+    (at-loop .loop .inv) ∙ hypothesis-on _ _ _ _ _ _ _ _ _ (at-loop-test .loop-test .taken) (at-if1 .if1 .left)
+    (c .before .before .before .field .ensures) (c .before .before .members .ensures .0) (c .before .if2 .left) (c .field3 .ensures)
 
 returns-3 : tie.Need-returns-3 Inv-loop μ-loop
 returns-3 c = sym ((c .before .before .loop .inv) ∙ hypothesis-end _ _ _ _ _ _ _ (c .before .loop-test .left) (c .clause-from2 .ensures))

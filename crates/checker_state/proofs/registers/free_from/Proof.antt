@@ -13,10 +13,13 @@ abbrev μ-loop : tie.MeasureT-loop
 μ-loop mask v at₀ at = 8 - at
 
 returns : tie.Need-returns Inv-loop μ-loop
-returns c = sym ((c .before .before .before .loop .inv) ∙ free-here _ _ _ (c .before .before .loop-test .taken) (c .before .bit-of .ensures) (c .if1 .taken))
+returns c =
+    sym ((c .before .before .before .loop .inv)
+    ∙ free-here _ _ _ (c .before .before .loop-test .taken) (c .before .bit-of .ensures) (c .if1 .taken))
 
 loop-again : tie.Need-loop-again Inv-loop μ-loop
-loop-again c = (c .before .before .before .loop .inv) ∙ free-on _ _ _ (c .before .before .loop-test .taken) (c .before .bit-of .ensures) (c .if1 .left)
+loop-again c =
+    (c .before .before .before .loop .inv) ∙ free-on _ _ _ (c .before .before .loop-test .taken) (c .before .bit-of .ensures) (c .if1 .left)
 
 returns-2 : tie.Need-returns-2 Inv-loop μ-loop
 returns-2 c = sym ((c .before .loop .inv) ∙ free-none _ _ (c .loop-test .left))

@@ -1,18 +1,41 @@
 use borrow.Author.Tests.{eq-eqb, ne-eqb}
 use borrow.Author.Needs.{needs}
-use Rattle.machine.specs.Trying.{tryFound}
+use Rattle.machine.specs.Backchaining.{tryFound}
 use Rattle.clause_acts.proofs.backchaining.try_found.Statement.{statement}
 use Rattle.clause_acts.proofs.backchaining.try_found.Tie as tie
 
 returns : tie.Need-returns
 unfolding tryFound
 returns c =
-    simp (tryFound, ← c .before .before .try-member .ensures, eq-eqb _ _ (c .before .before .before .before .if1 .taken), ← c .before .before .before .before .before .label2 .ensures, ← c .before .before .before .before .before .before .head-of .ensures, ← c .before .before .before .before .before .before .before .label .ensures)
+    let at-if1 = c .before .before .before .before in
+    let at-label2 = at-if1 .before in
+    let at-head-of = at-label2 .before in
+    let at-label = at-head-of .before in
+    simp (
+      tryFound,
+      ← c .before .before .try-member .ensures,
+      eq-eqb _ _ (at-if1 .if1 .taken),
+      ← at-label2 .label2 .ensures,
+      ← at-head-of .head-of .ensures,
+      ← at-label .label .ensures,
+    )
 
 returns-2 : tie.Need-returns-2
 unfolding tryFound
 returns-2 c =
-    simp (tryFound, ← c .before .before .try-from .ensures, ← c .before .before .before .next-member .ensures, ne-eqb _ _ (c .before .before .before .before .before .before .if1 .left), ← c .before .before .before .before .before .before .before .label2 .ensures, ← c .before .before .before .before .before .before .before .before .head-of .ensures, ← c .before .before .before .before .before .before .before .before .before .label .ensures)
+    let at-if1 = c .before .before .before .before .before .before in
+    let at-label2 = at-if1 .before in
+    let at-head-of = at-label2 .before in
+    let at-label = at-head-of .before in
+    simp (
+      tryFound,
+      ← c .before .before .try-from .ensures,
+      ← c .before .before .before .next-member .ensures,
+      ne-eqb _ _ (at-if1 .if1 .left),
+      ← at-label2 .label2 .ensures,
+      ← at-head-of .head-of .ensures,
+      ← at-label .label .ensures,
+    )
 
 pub try-found-spec : {M : Type 1} → statement M
 try-found-spec =

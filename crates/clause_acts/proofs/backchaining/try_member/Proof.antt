@@ -5,11 +5,23 @@ use Rattle.clause_acts.proofs.backchaining.try_member.Statement.{statem
 use Rattle.clause_acts.proofs.backchaining.try_member.Tie as tie
 
 same-length : tie.Need-same-length
-same-length c = c .before .before .before .before .before .before .put-pairs .kept .0 ∙ c .before .before .before .before .before .before .before .before .before .before .before .before .put-try .kept .1 .1 .0 ∙ c .before .before .before .before .before .before .before .before .before .before .before .before .before .before .before .before .put-prefix .kept .0
+same-length c =
+    let at-put-pairs = c .before .before .before .before .before .before in
+    let at-put-try = at-put-pairs .before .before .before .before .before .before in
+    let at-put-prefix = at-put-try .before .before .before .before in
+    at-put-pairs .put-pairs .kept .0 ∙ at-put-try .put-try .kept .1 .1 .0 ∙ at-put-prefix .put-prefix .kept .0
 
 returns : tie.Need-returns
 returns c =
-    member-tried _ _ _ _ _ _ _ _ _ _ _ _ _ _ (c .before .before .before .before .before .before .before .before .before .before .before .before .before .before .before .before .before .before .next-member .ensures) (c .before .before .before .before .before .before .before .before .before .before .before .before .before .before .before .before .put-prefix .ensures) (c .before .before .before .before .before .before .before .before .before .before .before .before .put-try .ensures) (c .before .before .before .before .before .before .before .before .before .up .ensures) (c .before .before .before .before .before .before .before .head-of .ensures) (c .before .before .before .before .before .before .put-pairs .ensures) (c .before .before .tried .ensures) (c .before .pairs-from .ensures) (c .due-pairs .ensures)
+    let at-put-pairs = c .before .before .before .before .before .before in
+    let at-head-of = at-put-pairs .before in
+    let at-increment = at-head-of .before .before in
+    let at-put-try = at-increment .before .before .before in
+    let at-put-prefix = at-put-try .before .before .before .before in
+    let at-next-member = at-put-prefix .before .before in
+    member-tried _ _ _ _ _ _ _ _ _ _ _ _ _ _ (at-next-member .next-member .ensures) (at-put-prefix .put-prefix .ensures)
+    (at-put-try .put-try .ensures) (at-increment .increment .ensures) (at-head-of .head-of .ensures) (at-put-pairs .put-pairs .ensures)
+    (c .before .before .tried .ensures) (c .before .pairs-from .ensures) (c .due-pairs .ensures)
 
 pub try-member-spec : {M : Type 1} → statement M
 try-member-spec =

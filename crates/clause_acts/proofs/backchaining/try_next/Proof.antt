@@ -1,12 +1,14 @@
 use borrow.Author.Needs.{needs}
-use Rattle.machine.specs.Trying.{tryNext}
+use Rattle.machine.specs.Backchaining.{tryNext}
 use Rattle.clause_acts.proofs.backchaining.try_next.Statement.{statement}
 use Rattle.clause_acts.proofs.backchaining.try_next.Tie as tie
 
 returns : tie.Need-returns
 unfolding tryNext
 returns c =
-    simp (tryNext, ← c .before .before .try-found .ensures, ← c .before .before .before .before .member .ensures, ← c .before .before .before .before .before .clause-of .ensures)
+    let at-member = c .before .before .before .before in
+    let at-clause-of = at-member .before in
+    simp (tryNext, ← c .before .before .try-found .ensures, ← at-member .member .ensures, ← at-clause-of .clause-of .ensures)
 
 pub try-next-spec : {M : Type 1} → statement M
 try-next-spec =

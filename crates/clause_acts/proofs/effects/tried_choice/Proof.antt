@@ -4,7 +4,7 @@ use Rattle.clause_acts.proofs.effects.tried_choice.Tie as tie
 
 returns : tie.Need-returns
 returns c =
-    simp (← c .up .ensures, c .before .if1 .taken, ← c .before .before .members-left .ensures)
+    simp (← c .increment .ensures, c .before .if1 .taken, ← c .before .before .members-left .ensures)
 
 returns-2 : tie.Need-returns-2
 returns-2 c =

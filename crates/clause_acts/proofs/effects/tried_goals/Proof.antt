@@ -5,7 +5,7 @@ use Rattle.clause_acts.proofs.effects.tried_goals.Tie as tie
 
 returns : tie.Need-returns
 returns c =
-    simp (← c .up .ensures, eq-eqb _ _ (c .before .if1 .taken), ← c .before .before .kind .ensures)
+    simp (← c .increment .ensures, eq-eqb _ _ (c .before .if1 .taken), ← c .before .before .kind .ensures)
 
 returns-2 : tie.Need-returns-2
 returns-2 c =

@@ -1,6 +1,6 @@
 use borrow.Author.Tests.{eq-eqb, ne-eqb}
 use borrow.Author.Needs.{needs}
-use Rattle.machine.specs.Trying.{clauseFrame}
+use Rattle.machine.specs.Backchaining.{clauseFrame}
 use Rattle.clause_acts.proofs.next_member.clause_frame.Statement.{statement}
 use Rattle.clause_acts.proofs.next_member.clause_frame.Tie as tie
 

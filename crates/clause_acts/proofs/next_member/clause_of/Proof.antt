@@ -1,6 +1,6 @@
 use borrow.Author.Tests.{eq-eqb, ne-eqb}
 use borrow.Author.Needs.{needs}
-use Rattle.machine.specs.Trying.{clauseOf}
+use Rattle.machine.specs.Backchaining.{clauseOf}
 use Rattle.clause_acts.proofs.next_member.clause_of.Statement.{statement}
 use Rattle.clause_acts.proofs.next_member.clause_of.Tie as tie
 

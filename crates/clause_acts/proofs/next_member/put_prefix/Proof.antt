@@ -1,12 +1,19 @@
 use borrow.Author.Needs.{needs}
-use Rattle.machine.specs.Trying.{putPrefix}
+use Rattle.machine.specs.Backchaining.{putPrefix}
 use Rattle.clause_acts.proofs.next_member.put_prefix.Statement.{statement}
 use Rattle.clause_acts.proofs.next_member.put_prefix.Tie as tie
 
 returns : tie.Need-returns
 unfolding putPrefix
 returns c =
-    simp (putPrefix, ← c .before .before .put-fresh .ensures, ← c .before .before .before .before .before .before .copy-frame .ensures, ← c .before .before .before .before .before .before .before .before .clause-frame .ensures)
+    let at-copy-frame = c .before .before .before .before .before .before in
+    let at-clause-frame = at-copy-frame .before .before in
+    simp (
+      putPrefix,
+      ← c .before .before .put-fresh .ensures,
+      ← at-copy-frame .copy-frame .ensures,
+      ← at-clause-frame .clause-frame .ensures,
+    )
 
 pub put-prefix-spec : {M : Type 1} → statement M
 put-prefix-spec =

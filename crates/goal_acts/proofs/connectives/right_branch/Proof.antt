@@ -5,7 +5,9 @@ use Rattle.goal_acts.proofs.connectives.right_branch.Tie as tie
 
 returns : tie.Need-returns
 returns c =
-    right-branch-is _ _ _ _ _ _ _ (c .before .before .child .ensures) (c .before .before .before .before .up .ensures) (c .before .before .before .on-path .ensures) (c .before .on-goal .ensures) (c .on-member .ensures)
+    let at-increment = c .before .before .before .before in
+    right-branch-is _ _ _ _ _ _ _ (c .before .before .child .ensures) (at-increment .increment .ensures)
+    (c .before .before .before .with-path .ensures) (c .before .with-goal .ensures) (c .with-member .ensures)
 
 pub right-branch-spec : {M : Type 1} → statement M
 right-branch-spec =

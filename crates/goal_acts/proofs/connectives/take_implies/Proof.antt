@@ -5,11 +5,20 @@ use Rattle.goal_acts.proofs.connectives.take_implies.Statement.{stateme
 use Rattle.goal_acts.proofs.connectives.take_implies.Tie as tie
 
 same-length : tie.Need-same-length
-same-length c = c .before .before .before .before .before .put-assumption .kept .0 ∙ c .before .before .before .before .before .before .before .before .before .put-path .kept .0
+same-length c =
+    let at-put-assumption = c .before .before .before .before .before in
+    let at-put-path = at-put-assumption .before .before .before .before in
+    at-put-assumption .put-assumption .kept .0 ∙ at-put-path .put-path .kept .0
 
 returns : tie.Need-returns
 returns c =
-    implies-taken _ _ _ _ _ _ _ _ _ _ (c .before .before .before .before .before .before .before .before .before .before .before .before .child .ensures) (c .before .before .before .before .before .before .before .before .before .before .before .child2 .ensures) (c .before .before .before .before .before .before .before .before .before .put-path .ensures) (c .before .before .before .before .before .put-assumption .ensures) (c .before .before .up .ensures) (c .before .on-path .ensures) (c .on-goal .ensures)
+    let at-put-assumption = c .before .before .before .before .before in
+    let at-put-path = at-put-assumption .before .before .before .before in
+    let at-child2 = at-put-path .before .before in
+    let at-child = at-child2 .before in
+    implies-taken _ _ _ _ _ _ _ _ _ _ (at-child .child .ensures) (at-child2 .child2 .ensures) (at-put-path .put-path .ensures)
+    (at-put-assumption .put-assumption .ensures) (c .before .before .increment .ensures) (c .before .with-path .ensures)
+    (c .with-goal .ensures)
 
 pub take-implies-spec : {M : Type 1} → statement M
 take-implies-spec =

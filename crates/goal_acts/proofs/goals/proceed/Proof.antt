@@ -5,7 +5,7 @@ use Rattle.goal_acts.proofs.goals.proceed.Tie as tie
 
 returns : tie.Need-returns
 returns c =
-    all-proved _ _ _ (c .before .if1 .taken) (c .on-mode .ensures)
+    all-proved _ _ _ (c .before .if1 .taken) (c .with-mode .ensures)
 
 returns-2 : tie.Need-returns-2
 returns-2 c =

@@ -5,7 +5,9 @@ use Rattle.goal_acts.proofs.goals.take_true.Tie as tie
 
 returns : tie.Need-returns
 returns c =
-    true-taken _ _ _ _ _ _ (c .before .before .before .before .before .before .put-path .ensures) (c .before .before .up .ensures) (c .before .on-path .ensures) (c .proceed .ensures)
+    let at-put-path = c .before .before .before .before .before .before in
+    true-taken _ _ _ _ _ _ (at-put-path .put-path .ensures) (c .before .before .increment .ensures) (c .before .with-path .ensures)
+    (c .proceed .ensures)
 
 pub take-true-spec : {M : Type 1} → statement M
 take-true-spec =

@@ -5,11 +5,27 @@ use Rattle.goal_acts.proofs.quantifiers.take_exists.Statement.{statemen
 use Rattle.goal_acts.proofs.quantifiers.take_exists.Tie as tie
 
 same-length : tie.Need-same-length
-same-length c = c .before .before .before .before .before .before .before .before .put-field .kept .0 ∙ c .before .before .before .before .before .before .before .before .before .before .before .before .put-path .kept .0 ∙ c .before .before .before .before .before .before .before .before .before .before .before .before .before .before .before .before .put-fresh .kept .1 .0 ∙ c .before .before .before .before .before .before .before .before .before .before .before .before .before .before .before .before .before .before .before .before .copy-frame .kept .1 .0
+same-length c =
+    let at-put-field = c .before .before .before .before .before .before .before .before in
+    let at-put-path = at-put-field .before .before .before .before in
+    let at-put-fresh = at-put-path .before .before .before .before in
+    let at-copy-frame = at-put-fresh .before .before .before .before in
+    at-put-field .put-field .kept .0 ∙ at-put-path .put-path .kept .0 ∙ at-put-fresh .put-fresh .kept .1 .0
+    ∙ at-copy-frame .copy-frame .kept .1 .0
 
 returns : tie.Need-returns
 returns c =
-    exists-taken _ _ _ _ _ _ _ _ _ _ _ _ _ _ (c .before .before .before .before .before .before .before .before .before .before .before .before .before .before .before .before .before .before .before .before .before .before .label .ensures) (c .before .before .before .before .before .before .before .before .before .before .before .before .before .before .before .before .before .before .before .before .copy-frame .ensures) (c .before .before .before .before .before .before .before .before .before .before .before .before .before .before .before .before .put-fresh .ensures) (c .before .before .before .before .before .before .before .before .before .before .before .before .put-path .ensures) (c .before .before .before .before .before .before .before .before .put-field .ensures) (c .before .before .before .before .before .up .ensures) (c .before .before .before .before .on-path .ensures) (c .before .before .before .up2 .ensures) (c .before .before .on-next .ensures) (c .before .child .ensures) (c .on-goal .ensures)
+    let at-with-path = c .before .before .before .before in
+    let at-increment = at-with-path .before in
+    let at-put-field = at-increment .before .before .before in
+    let at-put-path = at-put-field .before .before .before .before in
+    let at-put-fresh = at-put-path .before .before .before .before in
+    let at-copy-frame = at-put-fresh .before .before .before .before in
+    let at-label = at-copy-frame .before .before in
+    exists-taken _ _ _ _ _ _ _ _ _ _ _ _ _ _ (at-label .label .ensures) (at-copy-frame .copy-frame .ensures)
+    (at-put-fresh .put-fresh .ensures) (at-put-path .put-path .ensures) (at-put-field .put-field .ensures)
+    (at-increment .increment .ensures) (at-with-path .with-path .ensures) (c .before .before .before .increment2 .ensures)
+    (c .before .before .with-next .ensures) (c .before .child .ensures) (c .with-goal .ensures)
 
 pub take-exists-spec : {M : Type 1} → statement M
 take-exists-spec =

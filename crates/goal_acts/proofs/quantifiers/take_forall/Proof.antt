@@ -5,11 +5,23 @@ use Rattle.goal_acts.proofs.quantifiers.take_forall.Statement.{statemen
 use Rattle.goal_acts.proofs.quantifiers.take_forall.Tie as tie
 
 same-length : tie.Need-same-length
-same-length c = c .before .before .before .before .before .before .put-path .kept .0 ∙ c .before .before .before .before .before .before .before .before .before .before .put-constant .kept .0 ∙ c .before .before .before .before .before .before .before .before .before .before .before .before .before .before .copy-frame .kept .1 .0
+same-length c =
+    let at-put-path = c .before .before .before .before .before .before in
+    let at-put-constant = at-put-path .before .before .before .before in
+    let at-copy-frame = at-put-constant .before .before .before .before in
+    at-put-path .put-path .kept .0 ∙ at-put-constant .put-constant .kept .0 ∙ at-copy-frame .copy-frame .kept .1 .0
 
 returns : tie.Need-returns
 returns c =
-    forall-taken _ _ _ _ _ _ _ _ _ _ _ _ (c .before .before .before .before .before .before .before .before .before .before .before .before .before .before .before .before .before .label .ensures) (c .before .before .before .before .before .before .before .before .before .before .before .before .before .before .before .before .up .ensures) (c .before .before .before .before .before .before .before .before .before .before .before .before .before .before .copy-frame .ensures) (c .before .before .before .before .before .before .before .before .before .before .put-constant .ensures) (c .before .before .before .before .before .before .put-path .ensures) (c .before .before .before .up2 .ensures) (c .before .before .on-path .ensures) (c .before .child .ensures) (c .on-goal .ensures)
+    let at-put-path = c .before .before .before .before .before .before in
+    let at-put-constant = at-put-path .before .before .before .before in
+    let at-copy-frame = at-put-constant .before .before .before .before in
+    let at-increment = at-copy-frame .before .before in
+    let at-label = at-increment .before in
+    forall-taken _ _ _ _ _ _ _ _ _ _ _ _ (at-label .label .ensures) (at-increment .increment .ensures)
+    (at-copy-frame .copy-frame .ensures) (at-put-constant .put-constant .ensures) (at-put-path .put-path .ensures)
+    (c .before .before .before .increment2 .ensures) (c .before .before .with-path .ensures) (c .before .child .ensures)
+    (c .with-goal .ensures)
 
 pub take-forall-spec : {M : Type 1} → statement M
 take-forall-spec =

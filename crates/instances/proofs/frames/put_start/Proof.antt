@@ -5,7 +5,9 @@ use Rattle.instances.proofs.frames.put_start.Tie as tie
 
 returns : tie.Need-returns
 unfolding putField
-returns c = simp (putField, ← (c .before .before .put .ensures), ← (c .before .before .before .wide2 .ensures .0), ← (c .before .before .before .before .wide .ensures .0))
+returns c =
+    let at-widen = c .before .before .before .before in
+    simp (putField, ← (c .before .before .put .ensures), ← (c .before .before .before .widen2 .ensures .0), ← (at-widen .widen .ensures .0))
 
 pub put-start-spec : {M : Type 1} → statement M
 put-start-spec =

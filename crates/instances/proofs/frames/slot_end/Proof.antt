@@ -6,7 +6,7 @@ use Rattle.instances.proofs.frames.slot_end.Tie as tie
 
 returns : tie.Need-returns
 unfolding slotEnd field
-returns c = simp (slotEnd, field, ← (c .get .ensures), ← (c .before .wide2 .ensures .0), ← (c .before .before .wide .ensures .0))
+returns c = simp (slotEnd, field, ← (c .get .ensures), ← (c .before .widen2 .ensures .0), ← (c .before .before .widen .ensures .0))
 
 pub slot-end-spec : {M : Type 1} → statement M
 slot-end-spec =

@@ -10,10 +10,15 @@ unfolding sameSlots
 returns c = rw (eq-eqb _ _ (c .if1 .taken))
 
 returns-2 : tie.Need-returns-2
-returns-2 c = slots-same _ _ _ _ _ _ _ _ (c .before .before .before .before .if1 .left) (c .before .before .before .monus .ensures) (c .before .before .monus2 .ensures) (c .before .if2 .taken) (c .same-range .ensures)
+returns-2 c =
+    let at-if1 = c .before .before .before .before in
+    slots-same _ _ _ _ _ _ _ _ (at-if1 .if1 .left) (c .before .before .before .monus .ensures) (c .before .before .monus2 .ensures)
+    (c .before .if2 .taken) (c .same-range .ensures)
 
 returns-3 : tie.Need-returns-3
-returns-3 c = slots-other _ _ _ _ _ _ _ (c .before .before .before .if1 .left) (c .before .before .monus .ensures) (c .before .monus2 .ensures) (c .if2 .left)
+returns-3 c =
+    slots-other _ _ _ _ _ _ _ (c .before .before .before .if1 .left) (c .before .before .monus .ensures) (c .before .monus2 .ensures)
+    (c .if2 .left)
 
 pub same-slots-spec : {M : Type 1} → statement M
 same-slots-spec =

@@ -17,13 +17,39 @@ unfolding rootOf
 loop-holds c = (refl, refl)
 
 returns : tie.Need-returns Inv-loop μ-loop
-returns c = sym (c .before .before .before .before .before .loop .inv .1 ∙ root-here _ _ _ _ (c .before .before .wide .ensures .0) (c .before .get .ensures) _ (c .before .before .before .before .loop-test .taken) (c .if1 .taken))
+returns c =
+    let at-loop-test = c .before .before .before .before in
+    let at-loop = at-loop-test .before in
+    sym (at-loop .loop .inv .1 ∙ root-here _ _ _ _ (c .before .before .widen .ensures .0) (c .before .get .ensures) _
+    (at-loop-test .loop-test .taken) (c .if1 .taken))
 
 returns-2 : tie.Need-returns-2 Inv-loop μ-loop
-returns-2 c = sym (c .before .before .before .before .before .before .before .before .before .loop .inv .1 ∙ root-next _ _ _ _ (c .before .before .before .before .before .before .wide .ensures .0) (c .before .before .before .before .before .get .ensures) _ _ (c .before .before .before .before .if1 .left) (c .before .before .wide2 .ensures .0) (c .before .get2 .ensures) _ (c .before .before .before .before .before .before .before .before .loop-test .taken) (c .if2 .taken))
+returns-2 c =
+    let at-if1 = c .before .before .before .before in
+    let at-get = at-if1 .before in
+    let at-widen = at-get .before in
+    let at-loop-test = at-widen .before .before in
+    let at-loop = at-loop-test .before in
+    sym (at-loop .loop .inv .1 ∙ root-next _ _ _ _ (at-widen .widen .ensures .0) (at-get .get .ensures) _ _ (at-if1 .if1 .left)
+    (c .before .before .widen2 .ensures .0) (c .before .get2 .ensures) _ (at-loop-test .loop-test .taken) (c .if2 .taken))
 
 loop-again : tie.Need-loop-again Inv-loop μ-loop
-loop-again c = (c .before .before .put .kept .0 ∙ c .before .before .before .before .before .before .before .before .before .before .before .before .before .before .loop .inv .0, c .before .before .before .before .before .before .before .before .before .before .before .before .before .before .loop .inv .1 ∙ root-on _ _ _ _ (c .before .before .before .before .before .before .before .before .before .before .before .wide .ensures .0) (c .before .before .before .before .before .before .before .before .before .before .get .ensures) _ _ (c .before .before .before .before .before .before .before .before .before .if1 .left) (c .before .before .before .before .before .before .before .wide2 .ensures .0) (c .before .before .before .before .before .before .get2 .ensures) _ _ _ (c .before .before .before .before .before .before .before .before .before .before .before .before .before .loop-test .taken) (c .before .before .before .before .before .if2 .left) (c .before .before .before .wide3 .ensures .0) (c .before .before .put .ensures))
+loop-again c =
+    let at-if2 = c .before .before .before .before .before in
+    let at-get2 = at-if2 .before in
+    let at-widen2 = at-get2 .before in
+    let at-if1 = at-widen2 .before .before in
+    let at-get = at-if1 .before in
+    let at-widen = at-get .before in
+    let at-loop-test = at-widen .before .before in
+    let at-loop = at-loop-test .before in (
+      c .before .before .put .kept .0 ∙ at-loop .loop .inv .0,
+      at-loop .loop .inv .1
+          ∙ root-on _ _ _ _ (at-widen .widen .ensures .0) (at-get .get .ensures) _ _ (at-if1 .if1 .left) (at-widen2 .widen2 .ensures .0)
+          (at-get2 .get2 .ensures) _ _ _ (at-loop-test .loop-test .taken) (at-if2 .if2 .left)
+          (c .before .before .before .widen3 .ensures .0)
+          (c .before .before .put .ensures),
+    )
 
 returns-3 : tie.Need-returns-3 Inv-loop μ-loop
 returns-3 c = sym (c .before .loop .inv .1 ∙ root-end _ _ _ (c .loop-test .left))

@@ -15,7 +15,8 @@ returns-3 : tie.Need-returns-3
 returns-3 c = answer-bad _ _ (number-padded _ (c .before .if2 .taken) (c .if3 .left))
 
 returns-4 : tie.Need-returns-4
-returns-4 c = c .read-digits .ensures ∙ ap (numberAnswer _) (sym (number-digits _ (c .before .before .before .if1 .left) (c .before .if2 .left)))
+returns-4 c =
+    c .read-digits .ensures ∙ ap (numberAnswer _) (sym (number-digits _ (c .before .before .before .if1 .left) (c .before .if2 .left)))
 
 pub field-number-spec : {M : Type 1} → statement M
 field-number-spec =

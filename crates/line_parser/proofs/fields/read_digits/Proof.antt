@@ -30,13 +30,20 @@ returns-2 c =
 
 returns-3 : tie.Need-returns-3 Inv-loop μ-loop
 returns-3 c =
-    let at-test = c .before .before .before .before in
-    answer-bad _ _ (at-test .before .loop .inv .2 ∙ digits-large _ _ _ (at-test .loop-test .taken) (c .before .before .if1 .left) (c .before .if2 .left) (c .if3 .taken))
+    let at-point = c .before .before .before .before in
+    let at-test = at-point in
+    answer-bad _ _ (at-test .before .loop .inv .2
+    ∙ digits-large _ _ _ (at-test .loop-test .taken) (c .before .before .if1 .left) (c .before .if2 .left) (c .if3 .taken))
 
 loop-again : tie.Need-loop-again Inv-loop μ-loop
 loop-again c =
-    let at-test = c .before .before .before .before in
-    (search needs, search needs, at-test .before .loop .inv .2 ∙ digits-on _ _ _ (at-test .loop-test .taken) (c .before .before .if1 .left) (c .before .if2 .left))
+    let at-point = c .before .before .before .before in
+    let at-test = at-point in (
+      search needs,
+      search needs,
+      at-test .before .loop .inv .2
+          ∙ digits-on _ _ _ (at-test .loop-test .taken) (c .before .before .if1 .left) (c .before .if2 .left),
+    )
 
 returns-4 : tie.Need-returns-4 Inv-loop μ-loop
 returns-4 c =

@@ -8,13 +8,20 @@ returns : tie.Need-returns
 returns c = connective-none _ _ (sym (c .before .before .two-numbers .ensures) ∙ c .enum-told .given .1)
 
 returns-2 : tie.Need-returns-2
-returns-2 c = connective-and _ _ _ _ (sym (c .before .before .before .before .two-numbers .ensures) ∙ c .before .before .n .given .1) (c .if1 .taken)
+returns-2 c =
+    let at-two-numbers = c .before .before .before .before in
+    connective-and _ _ _ _ (sym (at-two-numbers .two-numbers .ensures) ∙ c .before .before .n .given .1) (c .if1 .taken)
 
 returns-3 : tie.Need-returns-3
-returns-3 c = connective-or _ _ _ _ (sym (c .before .before .before .before .before .two-numbers .ensures) ∙ c .before .before .before .n .given .1) (c .if2 .taken)
+returns-3 c =
+    let at-two-numbers = c .before .before .before .before .before in
+    connective-or _ _ _ _ (sym (at-two-numbers .two-numbers .ensures) ∙ c .before .before .before .n .given .1) (c .if2 .taken)
 
 returns-4 : tie.Need-returns-4
-returns-4 c = connective-implies _ _ _ _ (sym (c .before .before .before .before .before .before .two-numbers .ensures) ∙ c .before .before .before .before .n .given .1) (c .if3 .taken)
+returns-4 c =
+    let at-n = c .before .before .before .before in
+    let at-two-numbers = at-n .before .before in
+    connective-implies _ _ _ _ (sym (at-two-numbers .two-numbers .ensures) ∙ at-n .n .given .1) (c .if3 .taken)
 
 returns-5 : tie.Need-returns-5
 returns-5 c = connective-other _ _ (c .before .before .if1 .left) (c .before .if2 .left) (c .if3 .left)

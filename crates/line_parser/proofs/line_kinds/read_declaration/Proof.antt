@@ -11,7 +11,10 @@ returns-2 : tie.Need-returns-2
 returns-2 c = declare-short _ _ (c .before .before .read-name .ensures) _ (c .before .if1 .left) (c .if2 .taken)
 
 returns-3 : tie.Need-returns-3
-returns-3 c = c .declared-arity .ensures ∙ declare-more _ _ (c .before .before .before .before .read-name .ensures) _ (c .before .before .before .if1 .left) (c .before .before .if2 .left)
+returns-3 c =
+    let at-read-name = c .before .before .before .before in
+    c .declared-arity .ensures ∙ declare-more _ _ (at-read-name .read-name .ensures) _ (c .before .before .before .if1 .left)
+    (c .before .before .if2 .left)
 
 pub read-declaration-spec : {M : Type 1} → statement M
 read-declaration-spec =

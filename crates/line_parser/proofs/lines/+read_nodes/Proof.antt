@@ -9,7 +9,7 @@ use Rattle.line_parser.proofs.lines.read_nodes.Reads as own
 use Rattle.line_parser.proofs.lines.read_nodes.Kinds as kinds
 use Rattle.line_parser.proofs.lines.+read_nodes.Lts-read_nodes as lts
 use Rattle.line_parser.proofs.fields.read_number.Reads as read-number-reads
-use Rattle.line_parser.proofs.lines.add_node.Reads as add-node-reads
+use Rattle.line_parser.proofs.lines.push_node.Reads as push-node-reads
 use Rattle.line_parser.proofs.lines.+read_nodes.{statement}
 use Rattle.line_parser.proofs.lines.+read_nodes.Tie.{close}
 
@@ -26,8 +26,8 @@ abbrev claims : ℕ → lts.Claims
 claims t = (
   read-number-reads.Asked,
   read-number-reads.Learnt,
-  add-node-reads.Asked,
-  add-node-reads.Learnt,
+  push-node-reads.Asked,
+  push-node-reads.Learnt,
   below t,
   own.Post,
 )
@@ -37,14 +37,16 @@ returns t c = nodes-bad _ _ _ (sym (c .before .before .read-number .ensures) ∙
 
 returns-2 : (t : ℕ) → lts.Need-returns-2 (claims t) (at t) own.Post
 returns-2 t c =
-    nodes-full _ _ _ _ _ (sym (c .before .before .before .before .before .read-number .ensures) ∙ c .before .before .before .n .given .1)
+    let at-read-number = c .before .before .before .before .before in
+    nodes-full _ _ _ _ _ (sym (at-read-number .read-number .ensures) ∙ c .before .before .before .n .given .1)
     (c .if1 .taken)
 
 returns-3 : (t : ℕ) → lts.Need-returns-3 (claims t) (at t) own.Post
 returns-3 t c =
-    let at-n = c .before .before .before .before .before in
+    let at-point = c .before .before .before .before .before in
+    let at-n = at-point in
     nodes-last _ _ _ _ _ _ (sym (at-n .before .before .read-number .ensures) ∙ at-n .n .given .1) (c .before .before .if1 .left)
-    (c .before .add-node .ensures) (c .if2 .taken)
+    (c .before .push-node .ensures) (c .if2 .taken)
 
 read-nodes-requires : (t : ℕ) → lts.Need-read-nodes-requires (claims t) (at t) own.Post
 read-nodes-requires t c κs =
@@ -53,11 +55,12 @@ read-nodes-requires t c κs =
 
 returns-4 : (t : ℕ) → lts.Need-returns-4 (claims t) (at t) own.Post
 returns-4 t c =
-    let at-if1 = c .before .before .before .before in
+    let at-point = c .before .before .before .before in
+    let at-if1 = at-point in
     c .read-nodes .ensures ∙ nodes-more _ _ _ _ _ _
     (sym (at-if1 .before .before .before .before .before .read-number .ensures) ∙ at-if1 .before .before .before .n .given .1)
     (at-if1 .if1 .left)
-    (c .before .before .before .add-node .ensures) (c .before .before .if2 .left)
+    (c .before .before .before .push-node .ensures) (c .before .before .if2 .left)
 
 pub +read-nodes-spec : {M : Type 1} → statement M
 +read-nodes-spec = close μ λ t. lts.spec (claims t)

@@ -14,7 +14,8 @@ returns-3 : tie.Need-returns-3
 returns-3 c =
     let at-letter = c .before .before .before in
     c .name-bytes .ensures
-    ∙ sym (name-letter _ (at-letter .before .before .before .if1 .left) (at-letter .before .before .if2 .left) (sym (at-letter .is-letter .ensures) ∙ c .before .before .if3 .taken))
+    ∙ sym (name-letter _ (at-letter .before .before .before .if1 .left) (at-letter .before .before .if2 .left)
+    (sym (at-letter .is-letter .ensures) ∙ c .before .before .if3 .taken))
 
 returns-4 : tie.Need-returns-4
 returns-4 c = sym (name-other _ (sym (c .before .is-letter .ensures) ∙ c .if3 .left))

@@ -18,8 +18,11 @@ loop-holds c = (search needs, refl)
 
 loop-again : tie.Need-loop-again Inv-loop μ-loop
 loop-again c =
-    let at-test = c .before .before .before in
-    (search needs, at-test .before .loop .inv .1 ∙ bytes-on _ _ (at-test .loop-test .taken) (sym (c .before .is-name-byte .ensures) ∙ c .if1 .taken))
+    let at-test = c .before .before .before in (
+      search needs,
+      at-test .before .loop .inv .1
+          ∙ bytes-on _ _ (at-test .loop-test .taken) (sym (c .before .is-name-byte .ensures) ∙ c .if1 .taken),
+    )
 
 returns : tie.Need-returns Inv-loop μ-loop
 returns c =

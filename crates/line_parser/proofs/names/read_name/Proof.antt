@@ -11,10 +11,14 @@ slice-aggregate-result : tie.Need-slice-aggregate-result
 slice-aggregate-result c = first-part _ _ (c .before .before .before .before .field-len .ensures)
 
 returns : tie.Need-returns
-returns c = name-first _ _ _ (c .before .before .before .before .field-len .ensures) (c .before .before .is-name .ensures) (c .before .if1 .taken)
+returns c =
+    let at-field-len = c .before .before .before .before in
+    name-first _ _ _ (at-field-len .field-len .ensures) (c .before .before .is-name .ensures) (c .before .if1 .taken)
 
 returns-2 : tie.Need-returns-2
-returns-2 c = name-none _ _ _ (c .before .before .before .before .field-len .ensures) (c .before .before .is-name .ensures) (c .before .if1 .left)
+returns-2 c =
+    let at-field-len = c .before .before .before .before in
+    name-none _ _ _ (at-field-len .field-len .ensures) (c .before .before .is-name .ensures) (c .before .if1 .left)
 
 pub read-name-spec : {M : Type 1} → statement M
 read-name-spec =

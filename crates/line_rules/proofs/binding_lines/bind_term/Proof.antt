@@ -4,10 +4,15 @@ use Rattle.line_rules.proofs.binding_lines.bind_term.Statement.{stateme
 use Rattle.line_rules.proofs.binding_lines.bind_term.Tie as tie
 
 returns : tie.Need-returns
-returns c = term-read _ _ _ _ _ _ _ _ _ _ _ _ _ _ (c .before .before .before .before .before .before .before .scan-term .ensures) (c .before .before .before .before .before .j .given .1) (c .before .before .bind-with .ensures)
+returns c =
+    let at-j = c .before .before .before .before .before in
+    let at-scan-term = at-j .before .before in
+    term-read _ _ _ _ _ _ _ _ _ _ _ _ _ _ (at-scan-term .scan-term .ensures) (at-j .j .given .1) (c .before .before .bind-with .ensures)
 
 returns-2 : tie.Need-returns-2
-returns-2 c = term-missing _ _ _ _ _ _ _ _ _ _ _ _ (c .before .before .before .scan-term .ensures) (c .before .enum-told .given .1) ((c .broken .ensures) _)
+returns-2 c =
+    term-missing _ _ _ _ _ _ _ _ _ _ _ _ (c .before .before .before .scan-term .ensures) (c .before .enum-told .given .1)
+    ((c .broken .ensures) _)
 
 pub bind-term-spec : {M : Type 1} → statement M
 bind-term-spec =

@@ -5,9 +5,12 @@ use Rattle.line_rules.proofs.binding_lines.bind_with.Tie as tie
 
 returns : tie.Need-returns
 returns c =
-    bind-right _ _ _ _ _ _ _ _ _ _ _ _ (c .before .before .before .before .before .before .before .before .if1 .taken)
-    (c .before .before .before .before .before .before .before .if2 .taken)
-    (c .before .before .before .before .bind-frame .ensures) (c .before .wide .ensures .0) (c .bound .ensures)
+    let at-bind-frame = c .before .before .before .before in
+    let at-if2 = at-bind-frame .before .before .before in
+    let at-if1 = at-if2 .before in
+    bind-right _ _ _ _ _ _ _ _ _ _ _ _ (at-if1 .if1 .taken)
+    (at-if2 .if2 .taken)
+    (at-bind-frame .bind-frame .ensures) (c .before .widen .ensures .0) (c .bound .ensures)
 
 returns-2 : tie.Need-returns-2
 returns-2 c = bind-high _ _ _ _ _ _ _ _ _ _ ((c .broken .ensures) _) (c .before .before .if1 .taken) (c .before .if2 .left)

@@ -6,11 +6,18 @@ use Rattle.line_rules.proofs.binding_lines.binds_variable.Tie as tie
 
 returns : tie.Need-returns
 unfolding ascii
-returns c = variable-named _ _ _ _ (c .before .before .before .before .before .begins-with .ensures) _ _ _ (c .before .before .before .before .if1 .taken) (c .before .before .before .byte .ensures) (c .before .before .wide .ensures .0) (c .before .if2 .taken) (c .byte2 .ensures)
+returns c =
+    let at-if1 = c .before .before .before .before in
+    let at-begins-with = at-if1 .before in
+    variable-named _ _ _ _ (at-begins-with .begins-with .ensures) _ _ _ (at-if1 .if1 .taken) (c .before .before .before .byte .ensures)
+    (c .before .before .widen .ensures .0) (c .before .if2 .taken) (c .byte2 .ensures)
 
 returns-2 : tie.Need-returns-2
 unfolding ascii
-returns-2 c = variable-other _ _ _ _ (c .before .before .before .before .begins-with .ensures) _ _ (c .before .before .before .if1 .taken) (c .before .before .byte .ensures) (c .before .wide .ensures .0) (c .if2 .left)
+returns-2 c =
+    let at-begins-with = c .before .before .before .before in
+    variable-other _ _ _ _ (at-begins-with .begins-with .ensures) _ _ (c .before .before .before .if1 .taken)
+    (c .before .before .byte .ensures) (c .before .widen .ensures .0) (c .if2 .left)
 
 returns-3 : tie.Need-returns-3
 unfolding ascii

@@ -7,8 +7,10 @@ use Rattle.line_rules.proofs.clause_rules.clause_line.Tie as tie
 returns : tie.Need-returns
 unfolding ascii
 returns c =
-    clause-begun _ _ _ _ _ _ _ _ _ _ _ _ (c .before .before .before .before .before .before .begins-with .ensures)
-    (c .before .before .before .before .before .if1 .taken) (c .before .before .clause-fields .ensures)
+    let at-if1 = c .before .before .before .before .before in
+    let at-begins-with = at-if1 .before in
+    clause-begun _ _ _ _ _ _ _ _ _ _ _ _ (at-begins-with .begins-with .ensures)
+    (at-if1 .if1 .taken) (c .before .before .clause-fields .ensures)
 
 returns-2 : tie.Need-returns-2
 unfolding ascii

@@ -6,7 +6,13 @@ use Rattle.line_rules.proofs.connective_rules.and_line.Tie as tie
 
 returns : tie.Need-returns
 unfolding ascii
-returns c = and-right _ _ _ _ _ _ _ _ (c .before .before .before .before .before .before .before .before .is-line .ensures) _ _ _ _ (c .before .before .before .before .before .before .before .if1 .taken) (c .before .before .before .before .before .before .child .ensures) (c .before .before .before .before .before .child2 .ensures) (c .before .before .before .put-sequent .ensures) (c .on-sequent .ensures)
+returns c =
+    let at-child2 = c .before .before .before .before .before in
+    let at-child = at-child2 .before in
+    let at-if1 = at-child .before in
+    let at-is-line = at-if1 .before in
+    and-right _ _ _ _ _ _ _ _ (at-is-line .is-line .ensures) _ _ _ _ (at-if1 .if1 .taken) (at-child .child .ensures)
+    (at-child2 .child2 .ensures) (c .before .before .before .put-sequent .ensures) (c .with-sequent .ensures)
 
 returns-2 : tie.Need-returns-2
 unfolding ascii

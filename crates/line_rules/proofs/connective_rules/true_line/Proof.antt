@@ -6,7 +6,7 @@ use Rattle.line_rules.proofs.connective_rules.true_line.Tie as tie
 
 returns : tie.Need-returns
 unfolding ascii
-returns c = true-right _ _ _ _ _ _ (c .before .before .is-line .ensures) _ (c .before .if1 .taken) (c .proceed .ensures)
+returns c = true-right _ _ _ _ _ _ (c .before .before .is-line .ensures) _ (c .before .if1 .taken) (c .next-sequent .ensures)
 
 returns-2 : tie.Need-returns-2
 unfolding ascii

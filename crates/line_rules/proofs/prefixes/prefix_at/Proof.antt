@@ -15,7 +15,8 @@ add-term c =
 
 prefix-term-requires : tie.Need-prefix-term-requires
 prefix-term-requires c κs =
-    let l = c .before .before .before .before .before .before in
+    let at-point = c .before .before .before .before .before .before in
+    let l = at-point in
     let h = tab-inside (l .before .before .before .before .before .before .args .text .now) _ _ (l .before .byte .ensures) (l .if1 .left) in
     (omega arith, search needs)
 
@@ -29,8 +30,10 @@ returns-2 c =
 
 returns-3 : tie.Need-returns-3
 returns-3 c =
-    term-wrong _ _ _ _ _ _ _ _ _ _ _ (c .before .before .before .before .before .byte .ensures)
-    (c .before .before .before .before .if1 .left) _ (c .before .before .scan-term .ensures) (c .enum-told .given .1)
+    let at-if1 = c .before .before .before .before in
+    let at-byte = at-if1 .before in
+    term-wrong _ _ _ _ _ _ _ _ _ _ _ (at-byte .byte .ensures)
+    (at-if1 .if1 .left) _ (c .before .before .scan-term .ensures) (c .enum-told .given .1)
 
 pub prefix-at-spec : {M : Type 1} → statement M
 prefix-at-spec =

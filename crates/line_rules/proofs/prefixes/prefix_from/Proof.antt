@@ -16,13 +16,17 @@ abbrev μ-loop : tie.MeasureT-loop
 
 returns : tie.Need-returns Inv-loop μ-loop
 returns c =
-    sym ((c .before .before .before .before .before .before .before .loop .inv .1) ∙ terms-wrong _ _ _ _ _ _ _ _ _ _ _ _
-    (c .before .before .before .before .prefix-at .ensures) _
-    (c .before .before .before .before .before .before .loop-test .taken) (c .enum-told .given .1))
+    let at-prefix-at = c .before .before .before .before in
+    let at-loop-test = at-prefix-at .before .before in
+    let at-loop = at-loop-test .before in
+    sym ((at-loop .loop .inv .1) ∙ terms-wrong _ _ _ _ _ _ _ _ _ _ _ _
+    (at-prefix-at .prefix-at .ensures) _
+    (at-loop-test .loop-test .taken) (c .enum-told .given .1))
 
 loop-again : tie.Need-loop-again Inv-loop μ-loop
 loop-again c =
-    let p = c .before .before .before .before .before in (
+    let at-point = c .before .before .before .before .before in
+    let p = at-point in (
       search needs,
       p .before .before .before .loop .inv .1
           ∙ terms-on _ _ _ _ _ _ _ _ _ _ _ _ (p .prefix-at .ensures) _ _ _ (p .before .before .loop-test .taken) (c .before .a .given .1),

@@ -5,8 +5,10 @@ use Rattle.line_rules.proofs.prefixes.prefix_term.Tie as tie
 
 returns : tie.Need-returns
 returns c =
-    prefix-right _ _ _ _ _ _ _ _ _ (c .before .before .before .before .before .before .before .before .if1 .taken)
-    (c .before .before .before .before .before .before .if2 .taken) (c .before .before .put-slot .ensures)
+    let at-if2 = c .before .before .before .before .before .before in
+    let at-if1 = at-if2 .before .before in
+    prefix-right _ _ _ _ _ _ _ _ _ (at-if1 .if1 .taken)
+    (at-if2 .if2 .taken) (c .before .before .put-range .ensures)
 
 returns-2 : tie.Need-returns-2
 returns-2 c = prefix-high _ _ _ _ _ _ _ _ (c .before .before .if1 .taken) (c .if2 .left)

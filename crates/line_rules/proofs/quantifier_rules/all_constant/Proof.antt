@@ -4,10 +4,15 @@ use Rattle.line_rules.proofs.quantifier_rules.all_constant.Statement.{s
 use Rattle.line_rules.proofs.quantifier_rules.all_constant.Tie as tie
 
 returns : tie.Need-returns
-returns c = constant-read _ _ _ _ _ _ _ _ _ _ _ (c .before .before .before .before .before .before .before .scan-symbol .ensures) (c .before .before .before .before .before .j .given .1) (c .before .before .all-with .ensures)
+returns c =
+    let at-j = c .before .before .before .before .before in
+    let at-scan-symbol = at-j .before .before in
+    constant-read _ _ _ _ _ _ _ _ _ _ _ (at-scan-symbol .scan-symbol .ensures) (at-j .j .given .1) (c .before .before .all-with .ensures)
 
 returns-2 : tie.Need-returns-2
-returns-2 c = constant-missing _ _ _ _ _ _ _ _ _ (c .before .before .before .scan-symbol .ensures) (c .before .enum-told .given .1) ((c .broken .ensures) _)
+returns-2 c =
+    constant-missing _ _ _ _ _ _ _ _ _ (c .before .before .before .scan-symbol .ensures) (c .before .enum-told .given .1)
+    ((c .broken .ensures) _)
 
 pub all-constant-spec : {M : Type 1} → statement M
 all-constant-spec =

@@ -4,10 +4,19 @@ use Rattle.line_rules.proofs.quantifier_rules.all_with.Statement.{state
 use Rattle.line_rules.proofs.quantifier_rules.all_with.Tie as tie
 
 returns : tie.Need-returns
-returns c = all-right _ _ _ _ _ _ _ _ _ _ _ (c .before .before .before .before .before .before .wide .ensures .0) (c .before .before .before .before .before .wide2 .ensures .0) (c .before .before .before .before .before .before .before .if1 .taken) (c .before .before .before .before .if2 .taken) (c .before .before .bind-goal .ensures)
+returns c =
+    let at-if2 = c .before .before .before .before in
+    let at-widen2 = at-if2 .before in
+    let at-widen = at-widen2 .before in
+    let at-if1 = at-widen .before in
+    all-right _ _ _ _ _ _ _ _ _ _ _ (at-widen .widen .ensures .0) (at-widen2 .widen2 .ensures .0) (at-if1 .if1 .taken)
+    (at-if2 .if2 .taken) (c .before .before .bind-goal .ensures)
 
 returns-2 : tie.Need-returns-2
-returns-2 c = all-other _ _ _ _ _ _ _ _ _ _ _ (c .before .before .before .wide .ensures .0) (c .before .before .wide2 .ensures .0) (c .before .before .before .before .if1 .taken) (c .before .if2 .left) ((c .broken .ensures) _)
+returns-2 c =
+    let at-if1 = c .before .before .before .before in
+    all-other _ _ _ _ _ _ _ _ _ _ _ (c .before .before .before .widen .ensures .0) (c .before .before .widen2 .ensures .0)
+    (at-if1 .if1 .taken) (c .before .if2 .left) ((c .broken .ensures) _)
 
 returns-3 : tie.Need-returns-3
 returns-3 c = all-long _ _ _ _ _ _ _ _ _ (c .before .if1 .left) ((c .broken2 .ensures) _)

@@ -5,9 +5,11 @@ use Rattle.line_rules.proofs.quantifier_rules.bind_goal.Tie as tie
 
 returns : tie.Need-returns
 returns c =
-    goal-bound _ _ _ _ _ _ _ _ _ _ _ (c .before .before .before .before .before .before .before .label .ensures)
-    (c .before .before .before .before .before .before .child .ensures) (c .before .before .before .bind-frame .ensures)
-    (c .on-sequent .ensures)
+    let at-child = c .before .before .before .before .before .before in
+    let at-label = at-child .before in
+    goal-bound _ _ _ _ _ _ _ _ _ _ _ (at-label .label .ensures)
+    (at-child .child .ensures) (c .before .before .before .bind-frame .ensures)
+    (c .with-sequent .ensures)
 
 pub bind-goal-spec : {M : Type 1} → statement M
 bind-goal-spec =

@@ -4,7 +4,10 @@ use Rattle.line_rules.proofs.quantifier_rules.some_with.Statement.{stat
 use Rattle.line_rules.proofs.quantifier_rules.some_with.Tie as tie
 
 returns : tie.Need-returns
-returns c = some-right _ _ _ _ _ _ _ _ _ (c .before .before .before .before .before .before .if1 .taken) (c .before .before .before .before .if2 .taken) (c .before .before .bind-goal .ensures)
+returns c =
+    let at-if2 = c .before .before .before .before in
+    let at-if1 = at-if2 .before .before in
+    some-right _ _ _ _ _ _ _ _ _ (at-if1 .if1 .taken) (at-if2 .if2 .taken) (c .before .before .bind-goal .ensures)
 
 returns-2 : tie.Need-returns-2
 returns-2 c = some-high _ _ _ _ _ _ _ _ _ (c .before .before .before .if1 .taken) (c .before .if2 .left) ((c .broken .ensures) _)

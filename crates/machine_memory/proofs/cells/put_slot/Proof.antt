@@ -6,7 +6,8 @@ use Rattle.machine_memory.proofs.cells.put_slot.Tie as tie
 returns : tie.Need-returns
 unfolding putField
 returns c =
-    simp (putField, ← c .before .before .put .ensures, ← c .before .before .before .wide2 .ensures .0, ← c .before .before .before .before .wide .ensures .0)
+    let at-widen = c .before .before .before .before in
+    simp (putField, ← c .before .before .put .ensures, ← c .before .before .before .widen2 .ensures .0, ← at-widen .widen .ensures .0)
 
 pub put-slot-spec : {M : Type 1} → statement M
 put-slot-spec =

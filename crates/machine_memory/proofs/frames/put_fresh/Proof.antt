@@ -7,13 +7,23 @@ use Rattle.machine_memory.proofs.frames.put_fresh.Statement.{statement}
 use Rattle.machine_memory.proofs.frames.put_fresh.Tie as tie
 
 abbrev Inv-loop : tie.InvT-loop
-Inv-loop n w₀ u vs x i left₀ names₀ fresh₀ w left names fresh = (length w ≡ length w₀) × (putFresh n w₀ u vs x i ≡ putFresh left w u names fresh i)
+Inv-loop n w₀ u vs x i left₀ names₀ fresh₀ w left names fresh =
+    (length w ≡ length w₀) × (putFresh n w₀ u vs x i ≡ putFresh left w u names fresh i)
 
 abbrev μ-loop : tie.MeasureT-loop
 μ-loop n w₀ u vs x i left₀ names₀ fresh₀ w left names fresh = left
 
 loop-again : tie.Need-loop-again Inv-loop μ-loop
-loop-again c = (c .before .before .before .put-slot .kept .0 ∙ c .before .before .before .before .before .before .before .before .put-variable .kept .0 ∙ c .before .before .before .before .before .before .before .before .before .before .before .loop .inv .0, c .before .before .before .before .before .before .before .before .before .before .before .loop .inv .1 ∙ fresh-on _ _ _ _ _ _ _ _ _ _ (c .before .before .before .before .before .before .before .before .before .before .loop-test .taken) (c .before .before .before .before .before .before .before .before .put-variable .ensures) (c .before .before .before .before .variable-word .ensures) (c .before .before .before .put-slot .ensures) (c .up .ensures))
+loop-again c =
+    let at-variable-word = c .before .before .before .before in
+    let at-put-variable = at-variable-word .before .before .before .before in
+    let at-loop-test = at-put-variable .before .before in
+    let at-loop = at-loop-test .before in (
+      c .before .before .before .put-slot .kept .0 ∙ at-put-variable .put-variable .kept .0 ∙ at-loop .loop .inv .0,
+      at-loop .loop .inv .1
+          ∙ fresh-on _ _ _ _ _ _ _ _ _ _ (at-loop-test .loop-test .taken) (at-put-variable .put-variable .ensures)
+          (at-variable-word .variable-word .ensures) (c .before .before .before .put-slot .ensures) (c .increment .ensures),
+    )
 
 returns : tie.Need-returns Inv-loop μ-loop
 returns c = sym (c .before .loop .inv .1 ∙ fresh-end _ _ _ _ _ _ (c .loop-test .left))

@@ -8,13 +8,21 @@ use Rattle.machine_memory.proofs.frames.put_variables.Statement.{statem
 use Rattle.machine_memory.proofs.frames.put_variables.Tie as tie
 
 abbrev Inv-loop : tie.InvT-loop
-Inv-loop n w₀ x left₀ fresh₀ w left fresh = (fresh + left ≡ x + n) × (length w ≡ length w₀) × (putVariables n w₀ x ≡ putVariables left w fresh)
+Inv-loop n w₀ x left₀ fresh₀ w left fresh =
+    (fresh + left ≡ x + n) × (length w ≡ length w₀) × (putVariables n w₀ x ≡ putVariables left w fresh)
 
 abbrev μ-loop : tie.MeasureT-loop
 μ-loop n w₀ x left₀ fresh₀ w left fresh = left
 
 loop-again : tie.Need-loop-again Inv-loop μ-loop
-loop-again c = (search needs, c .before .before .put-variable .kept .0 ∙ c .before .before .before .before .before .loop .inv .1, c .before .before .before .before .before .loop .inv .2 ∙ variables-on _ _ _ _ (c .before .before .before .before .loop-test .taken) (c .before .before .put-variable .ensures))
+loop-again c =
+    let at-loop-test = c .before .before .before .before in
+    let at-loop = at-loop-test .before in (
+      search needs,
+      c .before .before .put-variable .kept .0 ∙ at-loop .loop .inv .1,
+      at-loop .loop .inv .2
+          ∙ variables-on _ _ _ _ (at-loop-test .loop-test .taken) (c .before .before .put-variable .ensures),
+    )
 
 returns : tie.Need-returns Inv-loop μ-loop
 returns c = sym (c .before .loop .inv .2 ∙ variables-end _ _ _ (c .loop-test .left))

@@ -6,7 +6,11 @@ use Rattle.machine_memory.proofs.records.put_nodes.Tie as tie
 
 returns : tie.Need-returns
 unfolding putNodes
-returns c = and-put _ _ _ (and-put _ _ _ (c .before .before .before .before .before .before .before .before .before .before .put-field .ensures) (c .before .before .before .before .before .before .put-field2 .ensures)) (c .before .before .put-field3 .ensures)
+returns c =
+    let at-put-field2 = c .before .before .before .before .before .before in
+    let at-put-field = at-put-field2 .before .before .before .before in
+    and-put _ _ _ (and-put _ _ _ (at-put-field .put-field .ensures) (at-put-field2 .put-field2 .ensures))
+    (c .before .before .put-field3 .ensures)
 
 pub put-nodes-spec : {M : Type 1} → statement M
 put-nodes-spec =

@@ -6,7 +6,14 @@ use Rattle.machine_memory.proofs.records.put_pairs.Tie as tie
 
 returns : tie.Need-returns
 unfolding putPairs
-returns c = and-put _ _ _ (and-put _ _ _ (and-put _ _ _ (and-put _ _ _ (c .before .before .before .before .before .before .before .before .before .before .before .before .before .before .before .before .before .before .put-field .ensures) (c .before .before .before .before .before .before .before .before .before .before .before .before .before .before .put-field2 .ensures)) (c .before .before .before .before .before .before .before .before .before .before .put-field3 .ensures)) (c .before .before .before .before .before .before .put-field4 .ensures)) (c .before .before .put-field5 .ensures)
+returns c =
+    let at-put-field4 = c .before .before .before .before .before .before in
+    let at-put-field3 = at-put-field4 .before .before .before .before in
+    let at-put-field2 = at-put-field3 .before .before .before .before in
+    let at-put-field = at-put-field2 .before .before .before .before in
+    and-put _ _ _
+    (and-put _ _ _ (and-put _ _ _ (and-put _ _ _ (at-put-field .put-field .ensures) (at-put-field2 .put-field2 .ensures))
+    (at-put-field3 .put-field3 .ensures)) (at-put-field4 .put-field4 .ensures)) (c .before .before .put-field5 .ensures)
 
 pub put-pairs-spec : {M : Type 1} → statement M
 put-pairs-spec =

@@ -5,7 +5,11 @@ use Rattle.machine_memory.proofs.registers.save_choice.Tie as tie
 
 returns : tie.Need-returns
 returns c =
-    choice-saved _ _ _ _ _ _ _ (c .before .before .before .before .before .before .before .before .before .before .before .before .before .before .put-field .ensures) (c .before .before .before .before .before .before .before .before .before .before .put-choice .ensures) (c .before .before .before .before .before .before .put-chosen .ensures) (c .before .before .put-position .ensures)
+    let at-put-chosen = c .before .before .before .before .before .before in
+    let at-put-choice = at-put-chosen .before .before .before .before in
+    let at-put-field = at-put-choice .before .before .before .before in
+    choice-saved _ _ _ _ _ _ _ (at-put-field .put-field .ensures) (at-put-choice .put-choice .ensures)
+    (at-put-chosen .put-chosen .ensures) (c .before .before .put-position .ensures)
 
 pub save-choice-spec : {M : Type 1} → statement M
 save-choice-spec =

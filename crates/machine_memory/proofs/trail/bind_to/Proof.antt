@@ -12,7 +12,8 @@ returns c =
 returns-2 : tie.Need-returns-2
 unfolding bindTo
 returns-2 c =
-    simp (bindTo, ← c .before .before .put-cell .ensures, ← c .before .before .before .name-of .ensures, ne-eqb _ _ (c .before .before .before .before .before .if1 .left))
+    let at-if1 = c .before .before .before .before .before in
+    simp (bindTo, ← c .before .before .put-cell .ensures, ← c .before .before .before .name-of .ensures, ne-eqb _ _ (at-if1 .if1 .left))
 
 pub bind-to-spec : {M : Type 1} → statement M
 bind-to-spec =

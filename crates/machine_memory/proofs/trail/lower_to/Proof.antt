@@ -12,7 +12,8 @@ returns c =
 returns-2 : tie.Need-returns-2
 unfolding lowerTo
 returns-2 c =
-    simp (lowerTo, ← c .before .before .put-level .ensures, ← c .before .before .before .name-of .ensures, ne-eqb _ _ (c .before .before .before .before .before .if1 .left))
+    let at-if1 = c .before .before .before .before .before in
+    simp (lowerTo, ← c .before .before .put-level .ensures, ← c .before .before .before .name-of .ensures, ne-eqb _ _ (at-if1 .if1 .left))
 
 pub lower-to-spec : {M : Type 1} → statement M
 lower-to-spec =

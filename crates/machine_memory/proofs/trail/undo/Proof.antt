@@ -16,7 +16,17 @@ returns : tie.Need-returns Inv-loop μ-loop
 returns c = sym (c .before .before .loop .inv .1 ∙ undo-done _ _ _ _ (c .if1 .taken))
 
 loop-again : tie.Need-loop-again Inv-loop μ-loop
-loop-again c = (c .before .before .undo-entry .kept .0 ∙ c .before .before .before .before .before .before .before .before .before .loop .inv .0, c .before .before .before .before .before .before .before .before .before .loop .inv .1 ∙ undo-on _ _ _ _ _ _ _ (c .before .before .before .before .before .before .before .before .loop-test .taken) (c .before .before .before .before .before .before .before .if1 .left) (c .before .before .before .before .before .before .record-of .ensures) (c .before .before .before .before .field .ensures) (c .before .before .undo-entry .ensures))
+loop-again c =
+    let at-field = c .before .before .before .before in
+    let at-record-of = at-field .before .before in
+    let at-if1 = at-record-of .before in
+    let at-loop-test = at-if1 .before in
+    let at-loop = at-loop-test .before in (
+      c .before .before .undo-entry .kept .0 ∙ at-loop .loop .inv .0,
+      at-loop .loop .inv .1
+          ∙ undo-on _ _ _ _ _ _ _ (at-loop-test .loop-test .taken) (at-if1 .if1 .left) (at-record-of .record-of .ensures)
+          (at-field .field .ensures) (c .before .before .undo-entry .ensures),
+    )
 
 returns-2 : tie.Need-returns-2 Inv-loop μ-loop
 returns-2 c = sym (c .before .loop .inv .1 ∙ undo-end _ _ _ _ (c .loop-test .left))

@@ -4,7 +4,13 @@ use Rattle.machine_memory.proofs.trail.undo_entry.Statement.{statement}
 use Rattle.machine_memory.proofs.trail.undo_entry.Tie as tie
 
 returns : tie.Need-returns
-returns c = entry-undone _ _ _ _ _ _ _ (c .before .before .before .before .before .before .before .before .before .before .before .before .field .ensures) (c .before .before .before .before .before .before .before .before .before .before .field2 .ensures) (c .before .before .before .before .before .before .before .before .field3 .ensures) (c .before .before .before .before .before .before .bind-to .ensures) (c .before .before .lower-to .ensures)
+returns c =
+    let at-bind-to = c .before .before .before .before .before .before in
+    let at-field3 = at-bind-to .before .before in
+    let at-field2 = at-field3 .before .before in
+    let at-field = at-field2 .before .before in
+    entry-undone _ _ _ _ _ _ _ (at-field .field .ensures) (at-field2 .field2 .ensures) (at-field3 .field3 .ensures)
+    (at-bind-to .bind-to .ensures) (c .before .before .lower-to .ensures)
 
 pub undo-entry-spec : {M : Type 1} → statement M
 undo-entry-spec =

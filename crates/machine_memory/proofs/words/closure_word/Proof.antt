@@ -6,7 +6,7 @@ use Rattle.machine_memory.proofs.words.closure_word.Tie as tie
 returns : tie.Need-returns
 unfolding closureWord
 returns c =
-    simp (closureWord, ← c .narrow .ensures, ← c .before .wide2 .ensures .0, ← c .before .before .wide .ensures .0)
+    simp (closureWord, ← c .truncate .ensures, ← c .before .widen2 .ensures .0, ← c .before .before .widen .ensures .0)
 
 pub closure-word-spec : {M : Type 1} → statement M
 closure-word-spec =

@@ -6,7 +6,7 @@ use Rattle.machine_memory.proofs.words.constant_word.Tie as tie
 returns : tie.Need-returns
 unfolding constantWord
 returns c =
-    simp (constantWord, ← c .narrow .ensures, ← c .before .wide .ensures .0)
+    simp (constantWord, ← c .truncate .ensures, ← c .before .widen .ensures .0)
 
 pub constant-word-spec : {M : Type 1} → statement M
 constant-word-spec =

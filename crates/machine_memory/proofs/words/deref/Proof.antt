@@ -15,10 +15,21 @@ returns : tie.Need-returns Inv-loop μ-loop
 returns c = sym (c .before .before .before .loop .inv ∙ deref-other _ _ _ _ (c .before .tag-of .ensures) (c .if1 .taken))
 
 returns-2 : tie.Need-returns-2 Inv-loop μ-loop
-returns-2 c = sym (c .before .before .before .before .before .before .before .loop .inv ∙ deref-free _ _ _ _ _ _ _ (c .before .before .before .before .before .tag-of .ensures) (c .before .before .before .before .if1 .left) (c .before .before .before .name-of .ensures) (c .before .before .cell-of .ensures) (c .before .tag-of2 .ensures) (c .if2 .taken))
+returns-2 c =
+    let at-if1 = c .before .before .before .before in
+    let at-tag-of = at-if1 .before in
+    let at-loop = at-tag-of .before .before in
+    sym (at-loop .loop .inv ∙ deref-free _ _ _ _ _ _ _ (at-tag-of .tag-of .ensures) (at-if1 .if1 .left)
+    (c .before .before .before .name-of .ensures) (c .before .before .cell-of .ensures) (c .before .tag-of2 .ensures) (c .if2 .taken))
 
 loop-again : tie.Need-loop-again Inv-loop μ-loop
-loop-again c = c .before .before .before .before .before .before .before .loop .inv ∙ deref-on _ _ _ _ _ _ _ (c .before .before .before .before .before .before .loop-test .taken) (c .before .before .before .before .before .tag-of .ensures) (c .before .before .before .before .if1 .left) (c .before .before .before .name-of .ensures) (c .before .before .cell-of .ensures) (c .before .tag-of2 .ensures) (c .if2 .left)
+loop-again c =
+    let at-if1 = c .before .before .before .before in
+    let at-tag-of = at-if1 .before in
+    let at-loop-test = at-tag-of .before in
+    let at-loop = at-loop-test .before in
+    at-loop .loop .inv ∙ deref-on _ _ _ _ _ _ _ (at-loop-test .loop-test .taken) (at-tag-of .tag-of .ensures) (at-if1 .if1 .left)
+    (c .before .before .before .name-of .ensures) (c .before .before .cell-of .ensures) (c .before .tag-of2 .ensures) (c .if2 .left)
 
 returns-3 : tie.Need-returns-3 Inv-loop μ-loop
 returns-3 c = sym (c .before .loop .inv ∙ deref-end _ _ _ (c .loop-test .left))

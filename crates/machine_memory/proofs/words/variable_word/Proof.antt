@@ -6,7 +6,7 @@ use Rattle.machine_memory.proofs.words.variable_word.Tie as tie
 returns : tie.Need-returns
 unfolding variableWord
 returns c =
-    simp (variableWord, ← c .narrow .ensures, ← c .before .wide .ensures .0)
+    simp (variableWord, ← c .truncate .ensures, ← c .before .widen .ensures .0)
 
 pub variable-word-spec : {M : Type 1} → statement M
 variable-word-spec =

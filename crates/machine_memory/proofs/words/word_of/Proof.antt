@@ -7,7 +7,13 @@ use Rattle.machine_memory.proofs.words.word_of.Tie as tie
 returns : tie.Need-returns
 unfolding wordOf
 returns c =
-    simp (wordOf, ← c .slot-of .ensures, ← c .before .label .ensures, eq-eqb _ _ (c .before .before .if1 .taken), ← c .before .before .before .kind .ensures)
+    simp (
+      wordOf,
+      ← c .slot-of .ensures,
+      ← c .before .label .ensures,
+      eq-eqb _ _ (c .before .before .if1 .taken),
+      ← c .before .before .before .kind .ensures,
+    )
 
 returns-2 : tie.Need-returns-2
 unfolding wordOf

@@ -12,7 +12,8 @@ returns c =
 returns-2 : tie.Need-returns-2
 unfolding compareLeaves
 returns-2 c =
-    simp (compareLeaves, ← c .before .before .failed .ensures, ne-eqb _ _ (c .before .before .before .before .if1 .left))
+    let at-if1 = c .before .before .before .before in
+    simp (compareLeaves, ← c .before .before .failed .ensures, ne-eqb _ _ (at-if1 .if1 .left))
 
 pub compare-leaves-spec : {M : Type 1} → statement M
 compare-leaves-spec =

@@ -7,32 +7,96 @@ use Rattle.match_acts.proofs.comparing.compare_words.Tie as tie
 returns : tie.Need-returns
 unfolding compareWords
 returns c =
-    simp (compareWords, ← c .due-pairs .ensures, eq-eqb _ _ (c .before .before .if2 .taken), eq-eqb _ _ (c .before .before .before .if1 .taken), ← c .before .before .before .before .tag-of .ensures)
+    let at-tag-of = c .before .before .before .before in
+    simp (
+      compareWords,
+      ← c .due-pairs .ensures,
+      eq-eqb _ _ (c .before .before .if2 .taken),
+      eq-eqb _ _ (c .before .before .before .if1 .taken),
+      ← at-tag-of .tag-of .ensures,
+    )
 
 returns-2 : tie.Need-returns-2
 unfolding compareWords
 returns-2 c =
-    simp (compareWords, ← c .on-check .ensures, ne-eqb _ _ (c .before .if2 .left), eq-eqb _ _ (c .before .before .if1 .taken), ← c .before .before .before .tag-of .ensures)
+    simp (
+      compareWords,
+      ← c .with-check .ensures,
+      ne-eqb _ _ (c .before .if2 .left),
+      eq-eqb _ _ (c .before .before .if1 .taken),
+      ← c .before .before .before .tag-of .ensures,
+    )
 
 returns-3 : tie.Need-returns-3
 unfolding compareWords
 returns-3 c =
-    simp (compareWords, ← c .on-check2 .ensures, eq-eqb _ _ (c .before .if3 .taken), ← c .before .before .tag-of2 .ensures, ne-eqb _ _ (c .before .before .before .if1 .left), ← c .before .before .before .before .tag-of .ensures)
+    let at-tag-of = c .before .before .before .before in
+    simp (
+      compareWords,
+      ← c .with-check2 .ensures,
+      eq-eqb _ _ (c .before .if3 .taken),
+      ← c .before .before .tag-of2 .ensures,
+      ne-eqb _ _ (c .before .before .before .if1 .left),
+      ← at-tag-of .tag-of .ensures,
+    )
 
 returns-4 : tie.Need-returns-4
 unfolding compareWords
 returns-4 c =
-    simp (compareWords, ← c .before .before .compare-leaves .ensures, eq-eqb _ _ (c .before .before .before .before .if4 .taken), ne-eqb _ _ (c .before .before .before .before .before .if3 .left), ← c .before .before .before .before .before .before .tag-of2 .ensures, ne-eqb _ _ (c .before .before .before .before .before .before .before .if1 .left), ← c .before .before .before .before .before .before .before .before .tag-of .ensures)
+    let at-if4 = c .before .before .before .before in
+    let at-if3 = at-if4 .before in
+    let at-tag-of2 = at-if3 .before in
+    let at-if1 = at-tag-of2 .before in
+    let at-tag-of = at-if1 .before in
+    simp (
+      compareWords,
+      ← c .before .before .compare-leaves .ensures,
+      eq-eqb _ _ (at-if4 .if4 .taken),
+      ne-eqb _ _ (at-if3 .if3 .left),
+      ← at-tag-of2 .tag-of2 .ensures,
+      ne-eqb _ _ (at-if1 .if1 .left),
+      ← at-tag-of .tag-of .ensures,
+    )
 
 returns-5 : tie.Need-returns-5
 unfolding compareWords
 returns-5 c =
-    simp (compareWords, ← c .before .before .failed .ensures, eq-eqb _ _ (c .before .before .before .before .if5 .taken), ne-eqb _ _ (c .before .before .before .before .before .if4 .left), ne-eqb _ _ (c .before .before .before .before .before .before .if3 .left), ← c .before .before .before .before .before .before .before .tag-of2 .ensures, ne-eqb _ _ (c .before .before .before .before .before .before .before .before .if1 .left), ← c .before .before .before .before .before .before .before .before .before .tag-of .ensures)
+    let at-if5 = c .before .before .before .before in
+    let at-if4 = at-if5 .before in
+    let at-if3 = at-if4 .before in
+    let at-tag-of2 = at-if3 .before in
+    let at-if1 = at-tag-of2 .before in
+    let at-tag-of = at-if1 .before in
+    simp (
+      compareWords,
+      ← c .before .before .failed .ensures,
+      eq-eqb _ _ (at-if5 .if5 .taken),
+      ne-eqb _ _ (at-if4 .if4 .left),
+      ne-eqb _ _ (at-if3 .if3 .left),
+      ← at-tag-of2 .tag-of2 .ensures,
+      ne-eqb _ _ (at-if1 .if1 .left),
+      ← at-tag-of .tag-of .ensures,
+    )
 
 returns-6 : tie.Need-returns-6
 unfolding compareWords
 returns-6 c =
-    simp (compareWords, ← c .before .before .compare-closures .ensures, ne-eqb _ _ (c .before .before .before .before .if5 .left), ne-eqb _ _ (c .before .before .before .before .before .if4 .left), ne-eqb _ _ (c .before .before .before .before .before .before .if3 .left), ← c .before .before .before .before .before .before .before .tag-of2 .ensures, ne-eqb _ _ (c .before .before .before .before .before .before .before .before .if1 .left), ← c .before .before .before .before .before .before .before .before .before .tag-of .ensures)
+    let at-if5 = c .before .before .before .before in
+    let at-if4 = at-if5 .before in
+    let at-if3 = at-if4 .before in
+    let at-tag-of2 = at-if3 .before in
+    let at-if1 = at-tag-of2 .before in
+    let at-tag-of = at-if1 .before in
+    simp (
+      compareWords,
+      ← c .before .before .compare-closures .ensures,
+      ne-eqb _ _ (at-if5 .if5 .left),
+      ne-eqb _ _ (at-if4 .if4 .left),
+      ne-eqb _ _ (at-if3 .if3 .left),
+      ← at-tag-of2 .tag-of2 .ensures,
+      ne-eqb _ _ (at-if1 .if1 .left),
+      ← at-tag-of .tag-of .ensures,
+    )
 
 pub compare-words-spec : {M : Type 1} → statement M
 compare-words-spec =

@@ -6,7 +6,15 @@ use Rattle.match_acts.proofs.occurs_check.bind_value.Tie as tie
 returns : tie.Need-returns
 unfolding bindValue
 returns c =
-    simp (bindValue, ← c .due-pairs .ensures, ← c .before .on-trail .ensures, ← c .before .before .before .before .before .effect .ensures, ← c .before .before .before .before .before .before .before .up .ensures)
+    let at-effect = c .before .before .before .before .before in
+    let at-increment = at-effect .before .before in
+    simp (
+      bindValue,
+      ← c .due-pairs .ensures,
+      ← c .before .with-trail .ensures,
+      ← at-effect .effect .ensures,
+      ← at-increment .increment .ensures,
+    )
 
 pub bind-value-spec : {M : Type 1} → statement M
 bind-value-spec =

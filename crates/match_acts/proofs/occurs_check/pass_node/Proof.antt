@@ -7,12 +7,23 @@ use Rattle.match_acts.proofs.occurs_check.pass_node.Tie as tie
 returns : tie.Need-returns
 unfolding passNode
 returns c =
-    simp (passNode, ← c .before .before .bind-value .ensures, eq-eqb _ _ (c .before .before .before .before .if1 .taken))
+    let at-if1 = c .before .before .before .before in
+    simp (passNode, ← c .before .before .bind-value .ensures, eq-eqb _ _ (at-if1 .if1 .taken))
 
 returns-2 : tie.Need-returns-2
 unfolding passNode
 returns-2 c =
-    simp (passNode, ← c .on-nodes .ensures, ← c .before .on-trail .ensures, ← c .before .before .before .before .effect .ensures, ← c .before .before .before .before .before .before .up .ensures, ne-eqb _ _ (c .before .before .before .before .before .before .before .if1 .left))
+    let at-effect = c .before .before .before .before in
+    let at-increment = at-effect .before .before in
+    let at-if1 = at-increment .before in
+    simp (
+      passNode,
+      ← c .with-nodes .ensures,
+      ← c .before .with-trail .ensures,
+      ← at-effect .effect .ensures,
+      ← at-increment .increment .ensures,
+      ne-eqb _ _ (at-if1 .if1 .left),
+    )
 
 pub pass-node-spec : {M : Type 1} → statement M
 pass-node-spec =

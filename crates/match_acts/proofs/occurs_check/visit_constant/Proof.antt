@@ -7,12 +7,38 @@ use Rattle.match_acts.proofs.occurs_check.visit_constant.Tie as tie
 returns : tie.Need-returns
 unfolding visitConstant
 returns c =
-    simp (visitConstant, ← c .before .before .pass-node .ensures, le-leb _ _ (c .before .before .before .before .if1 .taken), ← c .before .before .before .before .before .level-of .ensures, ← c .before .before .before .before .before .before .name-of2 .ensures, ← c .before .before .before .before .before .before .before .before .field .ensures, ← c .before .before .before .before .before .before .before .before .before .name-of .ensures)
+    let at-if1 = c .before .before .before .before in
+    let at-level-of = at-if1 .before in
+    let at-name-of2 = at-level-of .before in
+    let at-field = at-name-of2 .before .before in
+    let at-name-of = at-field .before in
+    simp (
+      visitConstant,
+      ← c .before .before .pass-node .ensures,
+      le-leb _ _ (at-if1 .if1 .taken),
+      ← at-level-of .level-of .ensures,
+      ← at-name-of2 .name-of2 .ensures,
+      ← at-field .field .ensures,
+      ← at-name-of .name-of .ensures,
+    )
 
 returns-2 : tie.Need-returns-2
 unfolding visitConstant
 returns-2 c =
-    simp (visitConstant, ← c .before .before .failed .ensures, lt-leb _ _ (c .before .before .before .before .if1 .left), ← c .before .before .before .before .before .level-of .ensures, ← c .before .before .before .before .before .before .name-of2 .ensures, ← c .before .before .before .before .before .before .before .before .field .ensures, ← c .before .before .before .before .before .before .before .before .before .name-of .ensures)
+    let at-if1 = c .before .before .before .before in
+    let at-level-of = at-if1 .before in
+    let at-name-of2 = at-level-of .before in
+    let at-field = at-name-of2 .before .before in
+    let at-name-of = at-field .before in
+    simp (
+      visitConstant,
+      ← c .before .before .failed .ensures,
+      lt-leb _ _ (at-if1 .if1 .left),
+      ← at-level-of .level-of .ensures,
+      ← at-name-of2 .name-of2 .ensures,
+      ← at-field .field .ensures,
+      ← at-name-of .name-of .ensures,
+    )
 
 pub visit-constant-spec : {M : Type 1} → statement M
 visit-constant-spec =

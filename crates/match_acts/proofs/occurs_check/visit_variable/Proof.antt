@@ -7,12 +7,27 @@ use Rattle.match_acts.proofs.occurs_check.visit_variable.Tie as tie
 returns : tie.Need-returns
 unfolding visitVariable
 returns c =
-    simp (visitVariable, ← c .before .before .failed .ensures, eq-eqb _ _ (c .before .before .before .before .if1 .taken))
+    let at-if1 = c .before .before .before .before in
+    simp (visitVariable, ← c .before .before .failed .ensures, eq-eqb _ _ (at-if1 .if1 .taken))
 
 returns-2 : tie.Need-returns-2
 unfolding visitVariable
 returns-2 c =
-    simp (visitVariable, ← c .before .before .pass-node .ensures, ← c .before .before .before .min .ensures, ← c .before .before .before .before .before .level-of2 .ensures, ← c .before .before .before .before .before .before .name-of2 .ensures, ← c .before .before .before .before .before .before .before .before .level-of .ensures, ← c .before .before .before .before .before .before .before .before .before .name-of .ensures, ne-eqb _ _ (c .before .before .before .before .before .before .before .before .before .before .before .if1 .left))
+    let at-level-of2 = c .before .before .before .before .before in
+    let at-name-of2 = at-level-of2 .before in
+    let at-level-of = at-name-of2 .before .before in
+    let at-name-of = at-level-of .before in
+    let at-if1 = at-name-of .before .before in
+    simp (
+      visitVariable,
+      ← c .before .before .pass-node .ensures,
+      ← c .before .before .before .min .ensures,
+      ← at-level-of2 .level-of2 .ensures,
+      ← at-name-of2 .name-of2 .ensures,
+      ← at-level-of .level-of .ensures,
+      ← at-name-of .name-of .ensures,
+      ne-eqb _ _ (at-if1 .if1 .left),
+    )
 
 pub visit-variable-spec : {M : Type 1} → statement M
 visit-variable-spec =

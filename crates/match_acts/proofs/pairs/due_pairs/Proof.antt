@@ -12,7 +12,7 @@ returns c =
 returns-2 : tie.Need-returns-2
 unfolding duePairs
 returns-2 c =
-    simp (duePairs, ← c .on-pairs .ensures, ne-eqb _ _ (c .before .if1 .left))
+    simp (duePairs, ← c .with-pairs .ensures, ne-eqb _ _ (c .before .if1 .left))
 
 pub due-pairs-spec : {M : Type 1} → statement M
 due-pairs-spec = tie.close (tie.spec (λ c κs. search needs) returns (λ c κs. search needs) returns-2)

@@ -7,12 +7,28 @@ use Rattle.match_acts.proofs.pairs.nodes_from.Tie as tie
 returns : tie.Need-returns
 unfolding nodesFrom
 returns c =
-    simp (nodesFrom, ← c .place-word .ensures, lt-ltb _ _ (c .before .if1 .taken), ← c .before .before .child-count .ensures, ← c .before .before .before .field .ensures, ← c .before .before .before .before .record-of .ensures)
+    let at-record-of = c .before .before .before .before in
+    simp (
+      nodesFrom,
+      ← c .position-word .ensures,
+      lt-ltb _ _ (c .before .if1 .taken),
+      ← c .before .before .child-count .ensures,
+      ← c .before .before .before .field .ensures,
+      ← at-record-of .record-of .ensures,
+    )
 
 returns-2 : tie.Need-returns-2
 unfolding nodesFrom
 returns-2 c =
-    simp (nodesFrom, ← c .field2 .ensures, le-ltb _ _ (c .before .if1 .left), ← c .before .before .child-count .ensures, ← c .before .before .before .field .ensures, ← c .before .before .before .before .record-of .ensures)
+    let at-record-of = c .before .before .before .before in
+    simp (
+      nodesFrom,
+      ← c .field2 .ensures,
+      le-ltb _ _ (c .before .if1 .left),
+      ← c .before .before .child-count .ensures,
+      ← c .before .before .before .field .ensures,
+      ← at-record-of .record-of .ensures,
+    )
 
 pub nodes-from-spec : {M : Type 1} → statement M
 nodes-from-spec =

@@ -6,7 +6,16 @@ use Rattle.match_acts.proofs.range_check.check_node.Tie as tie
 returns : tie.Need-returns
 unfolding checkNode
 returns c =
-    simp (checkNode, ← c .before .before .visit-word .ensures, ← c .before .before .before .before .deref .ensures, ← c .before .before .before .before .before .due-word .ensures, ← c .before .before .before .before .before .before .before .nodes-after .ensures)
+    let at-deref = c .before .before .before .before in
+    let at-due-word = at-deref .before in
+    let at-nodes-after = at-due-word .before .before in
+    simp (
+      checkNode,
+      ← c .before .before .visit-word .ensures,
+      ← at-deref .deref .ensures,
+      ← at-due-word .due-word .ensures,
+      ← at-nodes-after .nodes-after .ensures,
+    )
 
 pub check-node-spec : {M : Type 1} → statement M
 check-node-spec =

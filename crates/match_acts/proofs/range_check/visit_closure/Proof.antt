@@ -6,7 +6,20 @@ use Rattle.match_acts.proofs.range_check.visit_closure.Tie as tie
 returns : tie.Need-returns
 unfolding visitClosure
 returns c =
-    simp (visitClosure, ← c .before .before .pass-node .ensures, ← c .before .before .before .before .nodes-from .ensures, ← c .before .before .before .before .before .up .ensures, ← c .before .before .before .before .before .before .before .before .before .put-nodes .ensures, ← c .before .before .before .before .before .before .before .before .before .before .frame-of .ensures, ← c .before .before .before .before .before .before .before .before .before .before .before .node-of .ensures)
+    let at-nodes-from = c .before .before .before .before in
+    let at-increment = at-nodes-from .before in
+    let at-put-nodes = at-increment .before .before .before .before in
+    let at-frame-of = at-put-nodes .before in
+    let at-node-of = at-frame-of .before in
+    simp (
+      visitClosure,
+      ← c .before .before .pass-node .ensures,
+      ← at-nodes-from .nodes-from .ensures,
+      ← at-increment .increment .ensures,
+      ← at-put-nodes .put-nodes .ensures,
+      ← at-frame-of .frame-of .ensures,
+      ← at-node-of .node-of .ensures,
+    )
 
 pub visit-closure-spec : {M : Type 1} → statement M
 visit-closure-spec =

@@ -7,17 +7,37 @@ use Rattle.match_acts.proofs.range_check.visit_word.Tie as tie
 returns : tie.Need-returns
 unfolding visitWord
 returns c =
-    simp (visitWord, ← c .before .before .visit-variable .ensures, eq-eqb _ _ (c .before .before .before .before .if1 .taken), ← c .before .before .before .before .before .tag-of .ensures)
+    let at-if1 = c .before .before .before .before in
+    let at-tag-of = at-if1 .before in
+    simp (visitWord, ← c .before .before .visit-variable .ensures, eq-eqb _ _ (at-if1 .if1 .taken), ← at-tag-of .tag-of .ensures)
 
 returns-2 : tie.Need-returns-2
 unfolding visitWord
 returns-2 c =
-    simp (visitWord, ← c .before .before .visit-constant .ensures, eq-eqb _ _ (c .before .before .before .before .if2 .taken), ne-eqb _ _ (c .before .before .before .before .before .if1 .left), ← c .before .before .before .before .before .before .tag-of .ensures)
+    let at-if2 = c .before .before .before .before in
+    let at-if1 = at-if2 .before in
+    let at-tag-of = at-if1 .before in
+    simp (
+      visitWord,
+      ← c .before .before .visit-constant .ensures,
+      eq-eqb _ _ (at-if2 .if2 .taken),
+      ne-eqb _ _ (at-if1 .if1 .left),
+      ← at-tag-of .tag-of .ensures,
+    )
 
 returns-3 : tie.Need-returns-3
 unfolding visitWord
 returns-3 c =
-    simp (visitWord, ← c .before .before .visit-closure .ensures, ne-eqb _ _ (c .before .before .before .before .if2 .left), ne-eqb _ _ (c .before .before .before .before .before .if1 .left), ← c .before .before .before .before .before .before .tag-of .ensures)
+    let at-if2 = c .before .before .before .before in
+    let at-if1 = at-if2 .before in
+    let at-tag-of = at-if1 .before in
+    simp (
+      visitWord,
+      ← c .before .before .visit-closure .ensures,
+      ne-eqb _ _ (at-if2 .if2 .left),
+      ne-eqb _ _ (at-if1 .if1 .left),
+      ← at-tag-of .tag-of .ensures,
+    )
 
 pub visit-word-spec : {M : Type 1} → statement M
 visit-word-spec =

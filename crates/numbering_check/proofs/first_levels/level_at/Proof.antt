@@ -4,10 +4,12 @@ use Rattle.numbering_check.proofs.first_levels.level_at.Statement.{stat
 use Rattle.numbering_check.proofs.first_levels.level_at.Tie as tie
 
 returns : tie.Need-returns
-returns c = level-some-at _ _ _ _ _ _ (c .before .before .before .before .read-number .ensures) (c .before .before .e .given .1) (c .number-after .ensures .0)
+returns c =
+    let at-scan-number = c .before .before .before .before in
+    level-some-at _ _ _ _ _ _ (at-scan-number .scan-number .ensures) (c .before .before .e .given .1) (c .number-after .ensures .0)
 
 returns-2 : tie.Need-returns-2
-returns-2 c = level-none-at _ _ _ (c .before .before .read-number .ensures) (c .enum-told .given .1)
+returns-2 c = level-none-at _ _ _ (c .before .before .scan-number .ensures) (c .enum-told .given .1)
 
 returns-3 : tie.Need-returns-3
 returns-3 c = level-past _ _ (c .if1 .left)

@@ -1,6 +1,6 @@
 use Prim.Native.Nat.{_-_}
 use Rattle.numbering_check.proofs.first_levels.Laws.{found-later, from-found, from-here, from-none, from-on}
-use Rattle.scanning.specs.Showing.{levelFrom}
+use Rattle.scanning.specs.Numbering.{levelFrom}
 use borrow.Author.Needs.{needs}
 use lib.ListN.{length}
 use mathlib.Core.Path.{_∙_, _≡_, sym}
@@ -18,16 +18,29 @@ loop-holds : tie.Need-loop-holds Inv-loop μ-loop
 loop-holds c = from-found (c .before .before .args .text .now) _ _ _ _ (c .find-byte .ensures)
 
 returns : tie.Need-returns Inv-loop μ-loop
-returns c = sym ((c .before .before .before .before .loop .inv) ∙ from-here (c .before .before .before .before .before .before .before .args .text .now) _ _ _ _ _ (c .before .before .before .loop-test .taken) (c .before .before .is-showing .ensures) (c .before .if1 .taken) (c .level-at .ensures))
+returns c =
+    let at-loop = c .before .before .before .before in
+    let at-entry = at-loop .before .before .before in
+    sym ((at-loop .loop .inv) ∙ from-here (at-entry .args .text .now) _ _ _ _ _ (c .before .before .before .loop-test .taken)
+    (c .before .before .is-showing .ensures) (c .before .if1 .taken) (c .level-at .ensures))
 
 loop-less : tie.Need-loop-less Inv-loop μ-loop
-loop-less c = omega (arith, found-later (c .before .before .before .before .before .before .before .args .text .now) _ _ _ (c .find-byte2 .ensures))
+loop-less c =
+    let at-entry = c .before .before .before .before .before .before .before in
+    omega (arith, found-later (at-entry .args .text .now) _ _ _ (c .find-byte2 .ensures))
 
 loop-again : tie.Need-loop-again Inv-loop μ-loop
-loop-again c = (c .before .before .before .before .loop .inv) ∙ from-on (c .before .before .before .before .before .before .before .args .text .now) _ _ _ _ (c .before .before .before .loop-test .taken) (c .before .before .is-showing .ensures) (c .before .if1 .left) ∙ from-found (c .before .before .before .before .before .before .before .args .text .now) _ _ _ _ (c .find-byte2 .ensures)
+loop-again c =
+    let at-loop = c .before .before .before .before in
+    let at-entry = at-loop .before .before .before in
+    (at-loop .loop .inv) ∙ from-on (at-entry .args .text .now) _ _ _ _ (c .before .before .before .loop-test .taken)
+    (c .before .before .is-showing .ensures) (c .before .if1 .left)
+    ∙ from-found (at-entry .args .text .now) _ _ _ _ (c .find-byte2 .ensures)
 
 returns-2 : tie.Need-returns-2 Inv-loop μ-loop
-returns-2 c = sym ((c .before .loop .inv) ∙ from-none (c .before .before .before .before .args .text .now) _ _ _ (c .loop-test .left))
+returns-2 c =
+    let at-entry = c .before .before .before .before in
+    sym ((c .before .loop .inv) ∙ from-none (at-entry .args .text .now) _ _ _ (c .loop-test .left))
 
 pub level-from-spec : {M : Type 1} → statement M
 level-from-spec =

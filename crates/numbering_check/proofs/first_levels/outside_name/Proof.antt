@@ -7,10 +7,14 @@ returns : tie.Need-returns
 returns c = outside-first _ _ (c .if1 .taken)
 
 returns-2 : tie.Need-returns-2
-returns-2 c = outside-in _ _ _ _ (c .before .before .before .if1 .left) (c .before .before .byte .ensures) (c .before .is-name-byte .ensures) (c .if2 .taken)
+returns-2 c =
+    outside-in _ _ _ _ (c .before .before .before .if1 .left) (c .before .before .byte .ensures) (c .before .is-name-byte .ensures)
+    (c .if2 .taken)
 
 returns-3 : tie.Need-returns-3
-returns-3 c = outside-out _ _ _ _ (c .before .before .before .if1 .left) (c .before .before .byte .ensures) (c .before .is-name-byte .ensures) (c .if2 .left)
+returns-3 c =
+    outside-out _ _ _ _ (c .before .before .before .if1 .left) (c .before .before .byte .ensures) (c .before .is-name-byte .ensures)
+    (c .if2 .left)
 
 pub outside-name-spec : {M : Type 1} → statement M
 outside-name-spec =

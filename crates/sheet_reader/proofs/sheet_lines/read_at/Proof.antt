@@ -5,11 +5,15 @@ use Rattle.sheet_reader.proofs.sheet_lines.read_at.Statement.{statement
 use Rattle.sheet_reader.proofs.sheet_lines.read_at.Tie as tie
 
 take-line-requires : tie.Need-take-line-requires
-take-line-requires c κs = (c .before .before .before .before .before .pre .0, line-fits _ _ _ (c .before .before .before .before .before .pre .1) (c .before .before .before .before .before .pre .2) _ (c .before .read-line .ensures))
+take-line-requires c κs =
+    let at-pre = c .before .before .before .before .before in
+    (at-pre .pre .0, line-fits _ _ _ (at-pre .pre .1) (at-pre .pre .2) _ (c .before .read-line .ensures))
 
 returns : tie.Need-returns
 unfolding lineTaken
-returns c = rw (← c .before .before .before .before .read-line .ensures) (c .before .before .take-line .ensures)
+returns c =
+    let at-read-line = c .before .before .before .before in
+    rw (← at-read-line .read-line .ensures) (c .before .before .take-line .ensures)
 
 pub read-at-spec : {M : Type 1} → statement M
 read-at-spec =

@@ -17,10 +17,18 @@ loop-holds : tie.Need-loop-holds Inv-loop μ-loop
 loop-holds c = (search needs, refl)
 
 returns : tie.Need-returns Inv-loop μ-loop
-returns c = sym (c .before .before .before .before .loop .inv .1 ∙ terms-off _ _ _ _ (c .before .before .before .loop-test .taken) (c .before .size .ensures .0) (c .if1 .taken))
+returns c =
+    let at-loop = c .before .before .before .before in
+    sym (at-loop .loop .inv .1 ∙ terms-off _ _ _ _ (c .before .before .before .loop-test .taken) (c .before .size .ensures .0)
+    (c .if1 .taken))
 
 loop-again : tie.Need-loop-again Inv-loop μ-loop
-loop-again c = (search needs, c .before .before .before .before .loop .inv .1 ∙ terms-on _ _ _ _ (c .before .before .before .loop-test .taken) (c .before .size .ensures .0) (c .if1 .left))
+loop-again c =
+    let at-loop = c .before .before .before .before in (
+      search needs,
+      at-loop .loop .inv .1
+          ∙ terms-on _ _ _ _ (c .before .before .before .loop-test .taken) (c .before .size .ensures .0) (c .if1 .left),
+    )
 
 returns-2 : tie.Need-returns-2 Inv-loop μ-loop
 returns-2 c = sym (c .before .loop .inv .1 ∙ terms-end _ _ _ (c .loop-test .left))

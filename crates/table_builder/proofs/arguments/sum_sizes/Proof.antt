@@ -17,7 +17,12 @@ loop-holds : tie.Need-loop-holds Inv-loop μ-loop
 loop-holds c = (search needs, search needs, refl)
 
 loop-again : tie.Need-loop-again Inv-loop μ-loop
-loop-again c = (search needs, search needs, c .before .before .before .loop .inv .2 ∙ sizes-on _ _ _ _ _ (c .before .before .loop-test .taken) (c .size .ensures .0))
+loop-again c = (
+  search needs,
+  search needs,
+  c .before .before .before .loop .inv .2
+      ∙ sizes-on _ _ _ _ _ (c .before .before .loop-test .taken) (c .size .ensures .0),
+)
 
 returns : tie.Need-returns Inv-loop μ-loop
 returns c = sym (c .before .loop .inv .2 ∙ sizes-end _ _ _ _ (c .loop-test .left))

@@ -18,7 +18,12 @@ loop-holds : tie.Need-loop-holds Inv-loop μ-loop
 loop-holds c = (search needs, search needs, refl)
 
 loop-again : tie.Need-loop-again Inv-loop μ-loop
-loop-again c = (search needs, or-lt 8 _ _ (c .before .before .before .loop .inv .1) (c .mask .ensures .1), c .before .before .before .loop .inv .2 ∙ masks-on _ _ _ _ _ (c .before .before .loop-test .taken) (c .mask .ensures .0))
+loop-again c = (
+  search needs,
+  or-lt 8 _ _ (c .before .before .before .loop .inv .1) (c .mask .ensures .1),
+  c .before .before .before .loop .inv .2
+      ∙ masks-on _ _ _ _ _ (c .before .before .loop-test .taken) (c .mask .ensures .0),
+)
 
 returns : tie.Need-returns Inv-loop μ-loop
 returns c = (sym (c .before .loop .inv .2 ∙ masks-end _ _ _ _ (c .loop-test .left)), c .before .loop .inv .1)

@@ -1,4 +1,4 @@
-use Rattle.table_builder.specs.Making.{bothGoals}
+use Rattle.table_builder.specs.Nodes.{bothGoals}
 use borrow.Author.Needs.{needs}
 use Rattle.table_builder.proofs.node_info.both_goals.Statement.{statement}
 use Rattle.table_builder.proofs.node_info.both_goals.Tie as tie

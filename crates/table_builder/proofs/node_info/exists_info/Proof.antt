@@ -1,4 +1,4 @@
-use Rattle.table_builder.specs.Making.{existsInfo}
+use Rattle.table_builder.specs.Nodes.{existsInfo}
 use borrow.Author.Needs.{needs}
 use Rattle.table_builder.proofs.node_info.exists_info.Statement.{statement}
 use Rattle.table_builder.proofs.node_info.exists_info.Tie as tie

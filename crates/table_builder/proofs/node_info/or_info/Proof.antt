@@ -1,4 +1,4 @@
-use Rattle.table_builder.specs.Making.{orInfo}
+use Rattle.table_builder.specs.Nodes.{orInfo}
 use borrow.Author.Needs.{needs}
 use Rattle.table_builder.proofs.node_info.or_info.Statement.{statement}
 use Rattle.table_builder.proofs.node_info.or_info.Tie as tie

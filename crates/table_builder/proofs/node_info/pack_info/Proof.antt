@@ -4,31 +4,24 @@ use borrow.Author.Needs.{needs}
 use Rattle.table_builder.proofs.node_info.pack_info.Statement.{statement}
 use Rattle.table_builder.proofs.node_info.pack_info.Tie as tie
 
--- src/lib.rt:90:13
 mul-result : tie.Need-mul-result
 mul-result c = search needs
 
--- src/lib.rt:90:27
 mul-result-2 : tie.Need-mul-result-2
 mul-result-2 c = search needs
 
--- src/lib.rt:90:43
 mul-result-3 : tie.Need-mul-result-3
 mul-result-3 c = search needs
 
--- src/lib.rt:90:27
 add-result : tie.Need-add-result
 add-result c = search needs
 
--- src/lib.rt:90:13
 add-result-2 : tie.Need-add-result-2
 add-result-2 c = search needs
 
--- src/lib.rt:90:5
 add-result-3 : tie.Need-add-result-3
 add-result-3 c = search needs
 
--- src/lib.rt:86:1
 returns : tie.Need-returns
 unfolding packInfo
 returns c = refl

@@ -1,4 +1,4 @@
-use Rattle.table_builder.specs.Making.{ruledMembers}
+use Rattle.table_builder.specs.Nodes.{ruledMembers}
 use borrow.Author.Tests.{eq-eqb, ne-eqb}
 use borrow.Author.Needs.{needs}
 use Rattle.table_builder.proofs.node_info.ruled_members.Statement.{statement}

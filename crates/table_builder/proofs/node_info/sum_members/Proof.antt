@@ -1,4 +1,4 @@
-use Rattle.table_builder.specs.Making.{sumMembers}
+use Rattle.table_builder.specs.Nodes.{sumMembers}
 use borrow.Author.Tests.{le-leb, lt-leb, eq-eqb, ne-eqb}
 use borrow.Author.Needs.{needs}
 use Rattle.table_builder.proofs.node_info.sum_members.Statement.{statement}
@@ -16,13 +16,17 @@ returns-2 c =
 
 returns-3 : tie.Need-returns-3
 unfolding sumMembers
-returns-3 c =
-    (simp (sumMembers, le-leb _ _ (c .if3 .taken), ne-eqb _ _ (c .before .if2 .left), ne-eqb _ _ (c .before .before .if1 .left)), search needs)
+returns-3 c = (
+  simp (sumMembers, le-leb _ _ (c .if3 .taken), ne-eqb _ _ (c .before .if2 .left), ne-eqb _ _ (c .before .before .if1 .left)),
+  search needs,
+)
 
 returns-4 : tie.Need-returns-4
 unfolding sumMembers
-returns-4 c =
-    (simp (sumMembers, lt-leb _ _ (c .if3 .left), ne-eqb _ _ (c .before .if2 .left), ne-eqb _ _ (c .before .before .if1 .left)), search needs)
+returns-4 c = (
+  simp (sumMembers, lt-leb _ _ (c .if3 .left), ne-eqb _ _ (c .before .if2 .left), ne-eqb _ _ (c .before .before .if1 .left)),
+  search needs,
+)
 
 pub sum-members-spec : {M : Type 1} → statement M
 sum-members-spec = tie.close (tie.spec returns returns-2 (λ c. search needs) (λ c. search needs) returns-3 returns-4)

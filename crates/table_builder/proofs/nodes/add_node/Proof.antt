@@ -1,4 +1,4 @@
-use Rattle.table_builder.specs.Making.{addNode}
+use Rattle.table_builder.specs.Nodes.{addNode}
 use borrow.Author.Tests.{eq-eqb, ne-eqb}
 use borrow.Author.Needs.{needs}
 use Rattle.table_builder.proofs.nodes.add_node.Statement.{statement}
@@ -12,7 +12,8 @@ returns c =
 returns-2 : tie.Need-returns-2
 unfolding addNode
 returns-2 c =
-    simp (addNode, ← c .before .before .write-node .ensures, ne-eqb _ _ (c .before .before .before .before .if1 .left))
+    let at-if1 = c .before .before .before .before in
+    simp (addNode, ← c .before .before .write-node .ensures, ne-eqb _ _ (at-if1 .if1 .left))
 
 pub add-node-spec : {M : Type 1} → statement M
 add-node-spec = tie.close (tie.spec returns (λ c κs. search needs) (λ c. search needs) (λ c. search needs) returns-2)

@@ -1,4 +1,4 @@
-use Rattle.table_builder.specs.Making.{addOne}
+use Rattle.table_builder.specs.Nodes.{addOne}
 use borrow.Author.Tests.{le-leb, lt-leb}
 use borrow.Author.Needs.{needs}
 use Rattle.table_builder.proofs.nodes.add_one.Statement.{statement}
@@ -17,7 +17,9 @@ returns-2 c =
 returns-3 : tie.Need-returns-3
 unfolding addOne
 returns-3 c =
-    simp (addOne, ← c .before .before .add-node .ensures, lt-leb _ _ (c .before .before .before .before .if2 .left), lt-leb _ _ (c .before .before .before .before .before .before .if1 .left))
+    let at-if2 = c .before .before .before .before in
+    let at-if1 = at-if2 .before .before in
+    simp (addOne, ← c .before .before .add-node .ensures, lt-leb _ _ (at-if2 .if2 .left), lt-leb _ _ (at-if1 .if1 .left))
 
 pub add-one-spec : {M : Type 1} → statement M
 add-one-spec =

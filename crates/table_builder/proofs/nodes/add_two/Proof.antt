@@ -1,4 +1,4 @@
-use Rattle.table_builder.specs.Making.{addTwo}
+use Rattle.table_builder.specs.Nodes.{addTwo}
 use borrow.Author.Tests.{le-leb, lt-leb}
 use borrow.Author.Needs.{needs}
 use Rattle.table_builder.proofs.nodes.add_two.Statement.{statement}
@@ -17,12 +17,22 @@ returns-2 c =
 returns-3 : tie.Need-returns-3
 unfolding addTwo
 returns-3 c =
-    simp (addTwo, le-leb _ _ (c .if3 .taken), lt-leb _ _ (c .before .before .if2 .left), lt-leb _ _ (c .before .before .before .before .if1 .left))
+    let at-if1 = c .before .before .before .before in
+    simp (addTwo, le-leb _ _ (c .if3 .taken), lt-leb _ _ (c .before .before .if2 .left), lt-leb _ _ (at-if1 .if1 .left))
 
 returns-4 : tie.Need-returns-4
 unfolding addTwo
 returns-4 c =
-    simp (addTwo, ← c .before .before .add-node .ensures, lt-leb _ _ (c .before .before .before .before .if3 .left), lt-leb _ _ (c .before .before .before .before .before .before .if2 .left), lt-leb _ _ (c .before .before .before .before .before .before .before .before .if1 .left))
+    let at-if3 = c .before .before .before .before in
+    let at-if2 = at-if3 .before .before in
+    let at-if1 = at-if2 .before .before in
+    simp (
+      addTwo,
+      ← c .before .before .add-node .ensures,
+      lt-leb _ _ (at-if3 .if3 .left),
+      lt-leb _ _ (at-if2 .if2 .left),
+      lt-leb _ _ (at-if1 .if1 .left),
+    )
 
 pub add-two-spec : {M : Type 1} → statement M
 add-two-spec =

@@ -4,8 +4,9 @@ use Rattle.table_builder.proofs.nodes.put_node_field.Tie as tie
 
 returns : tie.Need-returns
 returns c =
-    simp (← c .before .before .put .ensures, ← c .before .before .before .before .wide .ensures .0)
+    simp (← c .before .before .put .ensures, ← c .before .before .before .before .widen .ensures .0)
 
 pub put-node-field-spec : {M : Type 1} → statement M
 put-node-field-spec =
-    tie.close (tie.spec (λ c κs. search needs) (λ c. search needs) (λ c. search needs) (λ c. search needs) (λ c κs. search needs) (λ c. search needs) returns)
+    tie.close (tie.spec (λ c κs. search needs) (λ c. search needs) (λ c. search needs) (λ c. search needs) (λ c κs. search needs)
+    (λ c. search needs) returns)

@@ -16,10 +16,16 @@ loop-holds : tie.Need-loop-holds Inv-loop μ-loop
 loop-holds c = (search needs, find-first _ _ _ _)
 
 returns : tie.Need-returns Inv-loop μ-loop
-returns c = sym (c .before .before .before .loop .inv .1 ∙ find-here _ _ _ _ _ _ (c .before .before .loop-test .taken) (c .before .name-is .ensures) (c .if1 .taken))
+returns c =
+    sym (c .before .before .before .loop .inv .1
+    ∙ find-here _ _ _ _ _ _ (c .before .before .loop-test .taken) (c .before .name-is .ensures) (c .if1 .taken))
 
 loop-again : tie.Need-loop-again Inv-loop μ-loop
-loop-again c = (search needs, c .before .before .before .loop .inv .1 ∙ find-on _ _ _ _ _ _ (c .before .before .loop-test .taken) (c .before .name-is .ensures) (c .if1 .left))
+loop-again c = (
+  search needs,
+  c .before .before .before .loop .inv .1
+      ∙ find-on _ _ _ _ _ _ (c .before .before .loop-test .taken) (c .before .name-is .ensures) (c .if1 .left),
+)
 
 returns-2 : tie.Need-returns-2 Inv-loop μ-loop
 returns-2 c = sym (c .before .loop .inv .1 ∙ find-end _ _ _ _ _ (c .loop-test .left))

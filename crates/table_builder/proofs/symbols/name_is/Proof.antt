@@ -7,12 +7,22 @@ use Rattle.table_builder.proofs.symbols.name_is.Tie as tie
 returns : tie.Need-returns
 unfolding nameIs
 returns c =
-    simp (nameIs, ne-eqb _ _ (c .if1 .taken), ← c .before .wide .ensures .0, ← c .before .before .name-length .ensures)
+    simp (nameIs, ne-eqb _ _ (c .if1 .taken), ← c .before .widen .ensures .0, ← c .before .before .name-length .ensures)
 
 returns-2 : tie.Need-returns-2
 unfolding nameIs
 returns-2 c =
-    simp (nameIs, ← c .same-at .ensures, ← c .before .wide2 .ensures .0, ← c .before .before .name-start .ensures, eq-eqb _ _ (c .before .before .before .if1 .left), ← c .before .before .before .before .wide .ensures .0, ← c .before .before .before .before .before .name-length .ensures)
+    let at-widen = c .before .before .before .before in
+    let at-name-length = at-widen .before in
+    simp (
+      nameIs,
+      ← c .same-at .ensures,
+      ← c .before .widen2 .ensures .0,
+      ← c .before .before .name-start .ensures,
+      eq-eqb _ _ (c .before .before .before .if1 .left),
+      ← at-widen .widen .ensures .0,
+      ← at-name-length .name-length .ensures,
+    )
 
 pub name-is-spec : {M : Type 1} → statement M
 name-is-spec =

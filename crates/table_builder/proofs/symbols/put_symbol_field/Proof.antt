@@ -4,7 +4,7 @@ use Rattle.table_builder.proofs.symbols.put_symbol_field.Tie as tie
 
 returns : tie.Need-returns
 returns c =
-    simp (← c .before .before .put .ensures, ← c .before .before .before .before .wide .ensures .0)
+    simp (← c .before .before .put .ensures, ← c .before .before .before .before .widen .ensures .0)
 
 pub put-symbol-field-spec : {M : Type 1} → statement M
 put-symbol-field-spec =

@@ -1,11 +1,18 @@
-use Rattle.term_printer.proofs.cursor.States.{bounds-kept, pen-put}
+use Rattle.term_printer.proofs.cursor.States.{bounds-kept, cursor-put}
 use Rattle.printing.specs.WriteTerms.{emitTo}
 use borrow.Author.Needs.{needs}
 use Rattle.term_printer.proofs.cursor.emit_in.Statement.{statement}
 use Rattle.term_printer.proofs.cursor.emit_in.Tie as tie
 
 returns : tie.Need-returns
-returns c = (λ m. pen-put _ _ _ (c .put-pen .ensures) (λ l g. emitTo l g (c .before .before .before .before .before .before .before .before .before .before .args .b)) _ _ _ _ _ (c .before .before .before .before .before .pen-in .ensures) (c .before .before .before .before .emit-to .ensures m), bounds-kept _ _ _ (c .put-pen .ensures))
+returns c =
+    let at-emit-to = c .before .before .before .before in
+    let at-cursor-in = at-emit-to .before in
+    let at-entry = at-cursor-in .before .before .before .before .before in (
+      λ m. cursor-put _ _ _ (c .put-cursor .ensures) (λ l g. emitTo l g (at-entry .args .b)) _ _ _ _ _ (at-cursor-in .cursor-in .ensures)
+          (at-emit-to .emit-to .ensures m),
+      bounds-kept _ _ _ (c .put-cursor .ensures),
+    )
 
 pub emit-in-spec : {M : Type 1} → statement M
 emit-in-spec =

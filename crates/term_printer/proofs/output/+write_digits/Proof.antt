@@ -29,13 +29,15 @@ returns t c = digits-none _ _ _ _ _ (c .if1 .taken)
 
 returns-2 : (t : ℕ) → lts.Need-returns-2 (claims t) (at t) own.Post
 returns-2 t c =
-    let at-if2 = c .before .before .before .before .before in
+    let at-point = c .before .before .before .before .before in
+    let at-if2 = at-point in
     digits-last _ _ _ _ _ _ _ (at-if2 .before .if1 .left) (at-if2 .if2 .taken) (c .before .before .before .digit .ensures)
     (c .before .before .emit .ensures)
 
 returns-3 : (t : ℕ) → lts.Need-returns-3 (claims t) (at t) own.Post
 returns-3 t c =
-    let at-write-digits = c .before .before .before .before .before .before .before in
+    let at-point = c .before .before .before .before .before .before .before in
+    let at-write-digits = at-point in
     digits-on _ _ _ _ _ _ _ _ _ (at-write-digits .before .before .before .if1 .left) (at-write-digits .before .before .if2 .left)
     (at-write-digits .write-digits .ensures) (c .before .before .before .digit2 .ensures) (c .before .before .emit2 .ensures)
 

@@ -7,7 +7,11 @@ returns : tie.Need-returns
 returns c = emit-past _ _ _ _ (c .if1 .taken)
 
 returns-2 : tie.Need-returns-2
-returns-2 c = emitted _ _ _ _ _ _ _ (c .before .before .before .before .before .before .if1 .left) (c .before .before .before .before .wide .ensures .0) (c .before .before .before .put-byte .ensures) (c .up .ensures)
+returns-2 c =
+    let at-widen = c .before .before .before .before in
+    let at-if1 = at-widen .before .before in
+    emitted _ _ _ _ _ _ _ (at-if1 .if1 .left) (at-widen .widen .ensures .0) (c .before .before .before .put-byte .ensures)
+    (c .increment .ensures)
 
 pub emit-spec : {M : Type 1} → statement M
 emit-spec =

@@ -14,7 +14,13 @@ abbrev μ-loop : tie.MeasureT-loop
 μ-loop bs out₀ limit at i₀ to₀ out i to = length bs - i
 
 loop-again : tie.Need-loop-again Inv-loop μ-loop
-loop-again c = (c .before .before .emit .kept .0 ∙ c .before .before .before .before .before .before .loop .inv .0, c .before .before .before .before .before .before .loop .inv .1 ∙ bytes-on _ _ _ _ _ _ _ (c .before .before .before .before .before .loop-test .taken) (c .before .before .emit .ensures))
+loop-again c =
+    let at-loop-test = c .before .before .before .before .before in
+    let at-loop = at-loop-test .before in (
+      c .before .before .emit .kept .0 ∙ at-loop .loop .inv .0,
+      at-loop .loop .inv .1
+          ∙ bytes-on _ _ _ _ _ _ _ (at-loop-test .loop-test .taken) (c .before .before .emit .ensures),
+    )
 
 returns : tie.Need-returns Inv-loop μ-loop
 returns c = sym (c .before .loop .inv .1 ∙ bytes-end _ _ _ _ _ (c .loop-test .left))

@@ -4,7 +4,12 @@ use Rattle.term_printer.proofs.output.write_symbol.Statement.{statement
 use Rattle.term_printer.proofs.output.write_symbol.Tie as tie
 
 returns : tie.Need-returns
-returns c = symbol-of _ _ _ _ _ _ _ _ _ _ _ _ _ (c .before .before .before .before .before .before .before .before .before .before .before .before .before .before .emit .ensures) (c .before .before .before .before .before .before .before .before .before .before .write-number .ensures) (c .before .before .before .before .before .before .emit2 .ensures) (c .before .before .write-number2 .ensures)
+returns c =
+    let at-emit2 = c .before .before .before .before .before .before in
+    let at-write-number = at-emit2 .before .before .before .before in
+    let at-emit = at-write-number .before .before .before .before in
+    symbol-of _ _ _ _ _ _ _ _ _ _ _ _ _ (at-emit .emit .ensures) (at-write-number .write-number .ensures) (at-emit2 .emit2 .ensures)
+    (c .before .before .write-number2 .ensures)
 
 pub write-symbol-spec : {M : Type 1} → statement M
 write-symbol-spec =

@@ -7,7 +7,12 @@ returns : tie.Need-returns
 returns c = cell-kept _ _ _ _ (c .before .before .cell-of .ensures) (c .before .tag-of .ensures) (c .if1 .taken)
 
 returns-2 : tie.Need-returns-2
-returns-2 c = cell-cleared _ _ _ _ _ (c .before .before .before .before .before .before .cell-of .ensures) (c .before .before .before .before .before .tag-of .ensures) (c .before .before .before .before .if1 .left) (c .before .before .put-cell .ensures)
+returns-2 c =
+    let at-if1 = c .before .before .before .before in
+    let at-tag-of = at-if1 .before in
+    let at-cell-of = at-tag-of .before in
+    cell-cleared _ _ _ _ _ (at-cell-of .cell-of .ensures) (at-tag-of .tag-of .ensures) (at-if1 .if1 .left)
+    (c .before .before .put-cell .ensures)
 
 pub clear-variable-spec : {M : Type 1} → statement M
 clear-variable-spec =

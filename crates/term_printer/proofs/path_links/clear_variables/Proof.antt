@@ -1,5 +1,5 @@
 use Rattle.term_printer.proofs.path_links.Laws.{variables-end, variables-on}
-use Rattle.printing.specs.Links.{clearVariables}
+use Rattle.printing.specs.PathLinks.{clearVariables}
 use borrow.Author.Needs.{needs}
 use lib.ListN.{length}
 use mathlib.Core.Path.{_∙_, _≡_, sym}
@@ -13,7 +13,13 @@ abbrev μ-loop : tie.MeasureT-loop
 μ-loop n w₀ left₀ w left = left
 
 loop-again : tie.Need-loop-again Inv-loop μ-loop
-loop-again c = (c .before .before .clear-variable .kept .0 ∙ c .before .before .before .before .before .loop .inv .0, c .before .before .before .before .before .loop .inv .1 ∙ variables-on _ _ _ (c .before .before .before .before .loop-test .taken) (c .before .before .clear-variable .ensures))
+loop-again c =
+    let at-loop-test = c .before .before .before .before in
+    let at-loop = at-loop-test .before in (
+      c .before .before .clear-variable .kept .0 ∙ at-loop .loop .inv .0,
+      at-loop .loop .inv .1
+          ∙ variables-on _ _ _ (at-loop-test .loop-test .taken) (c .before .before .clear-variable .ensures),
+    )
 
 returns : tie.Need-returns Inv-loop μ-loop
 returns c = sym (c .before .loop .inv .1 ∙ variables-end _ _ (c .loop-test .left))

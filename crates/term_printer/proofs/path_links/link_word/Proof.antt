@@ -4,7 +4,7 @@ use Rattle.term_printer.proofs.path_links.link_word.Statement.{statemen
 use Rattle.term_printer.proofs.path_links.link_word.Tie as tie
 
 returns : tie.Need-returns
-returns c = link-of _ _ _ _ _ (c .before .before .wide .ensures .0) (c .before .wide2 .ensures .0) (c .narrow .ensures)
+returns c = link-of _ _ _ _ _ (c .before .before .widen .ensures .0) (c .before .widen2 .ensures .0) (c .truncate .ensures)
 
 pub link-word-spec : {M : Type 1} → statement M
 link-word-spec =

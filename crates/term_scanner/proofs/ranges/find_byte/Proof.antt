@@ -14,10 +14,15 @@ abbrev μ-loop : tie.MeasureT-loop
 μ-loop text c i at₀ at = length text - at
 
 returns : tie.Need-returns Inv-loop μ-loop
-returns c = sym ((c .before .before .before .loop .inv) ∙ find-here (c .before .before .before .before .args .text .now) _ _ (c .before .before .loop-test .taken) (c .if1 .taken))
+returns c =
+    let at-entry = c .before .before .before .before in
+    sym ((c .before .before .before .loop .inv)
+    ∙ find-here (at-entry .args .text .now) _ _ (c .before .before .loop-test .taken) (c .if1 .taken))
 
 loop-again : tie.Need-loop-again Inv-loop μ-loop
-loop-again c = (c .before .before .before .loop .inv) ∙ find-on (c .before .before .before .before .args .text .now) _ _ (c .before .before .loop-test .taken) (c .if1 .left)
+loop-again c =
+    let at-entry = c .before .before .before .before in
+    (c .before .before .before .loop .inv) ∙ find-on (at-entry .args .text .now) _ _ (c .before .before .loop-test .taken) (c .if1 .left)
 
 returns-2 : tie.Need-returns-2 Inv-loop μ-loop
 returns-2 c = sym ((c .before .loop .inv) ∙ find-stop (c .before .before .args .text .now) _ _ (c .loop-test .left))

@@ -12,10 +12,19 @@ abbrev μ-loop : tie.MeasureT-loop
 μ-loop n a i b j left₀ p₀ q₀ left p q = left
 
 loop-again : tie.Need-loop-again Inv-loop μ-loop
-loop-again c = (c .before .before .before .before .before .before .loop .inv) ∙ range-next _ _ _ _ _ _ _ _ _ (c .before .before .before .before .before .loop-test .taken) (c .before .before .before .before .byte .ensures) (c .before .before .before .byte2 .ensures) (c .before .before .if1 .taken) (c .before .place-after .ensures) (c .place-after2 .ensures)
+loop-again c =
+    let at-byte = c .before .before .before .before in
+    let at-loop-test = at-byte .before in
+    let at-loop = at-loop-test .before in
+    (at-loop .loop .inv) ∙ range-next _ _ _ _ _ _ _ _ _ (at-loop-test .loop-test .taken) (at-byte .byte .ensures)
+    (c .before .before .before .byte2 .ensures) (c .before .before .if1 .taken) (c .before .position-after .ensures)
+    (c .position-after2 .ensures)
 
 returns : tie.Need-returns Inv-loop μ-loop
-returns c = sym ((c .before .before .before .before .loop .inv) ∙ range-off _ _ _ _ _ _ _ (c .before .before .before .loop-test .taken) (c .before .before .byte .ensures) (c .before .byte2 .ensures) (c .if1 .left))
+returns c =
+    let at-loop = c .before .before .before .before in
+    sym ((at-loop .loop .inv) ∙ range-off _ _ _ _ _ _ _ (c .before .before .before .loop-test .taken) (c .before .before .byte .ensures)
+    (c .before .byte2 .ensures) (c .if1 .left))
 
 returns-2 : tie.Need-returns-2 Inv-loop μ-loop
 returns-2 c = sym ((c .before .loop .inv) ∙ range-end _ _ _ _ _ (c .loop-test .left))

@@ -4,7 +4,11 @@ use Rattle.term_scanner.proofs.symbol_names.is_named.Statement.{stateme
 use Rattle.term_scanner.proofs.symbol_names.is_named.Tie as tie
 
 returns : tie.Need-returns
-returns c = named-same _ _ _ _ _ _ _ _ _ _ _ (c .before .before .before .before .before .name-size .ensures .0) (c .before .before .before .before .monus .ensures) (c .before .before .before .if1 .taken) (c .before .before .name-start .ensures) (c .before .wide .ensures .0) (c .same-range .ensures)
+returns c =
+    let at-monus = c .before .before .before .before in
+    let at-name-size = at-monus .before in
+    named-same _ _ _ _ _ _ _ _ _ _ _ (at-name-size .name-size .ensures .0) (at-monus .monus .ensures)
+    (c .before .before .before .if1 .taken) (c .before .before .name-start .ensures) (c .before .widen .ensures .0) (c .same-range .ensures)
 
 returns-2 : tie.Need-returns-2
 returns-2 c = named-other _ _ _ _ _ _ _ _ (c .before .before .name-size .ensures .0) (c .before .monus .ensures) (c .if1 .left)

@@ -7,7 +7,8 @@ use Rattle.term_scanner.proofs.symbol_names.symbol_from.Statement.{stat
 use Rattle.term_scanner.proofs.symbol_names.symbol_from.Tie as tie
 
 abbrev Inv-loop : tie.InvT-loop
-Inv-loop symbols sheet t text i e k₀ k = (k ≤ symbols) × (symbolFrom symbols sheet t 0 text i e ≡ symbolFrom (symbols - k) sheet t k text i e)
+Inv-loop symbols sheet t text i e k₀ k =
+    (k ≤ symbols) × (symbolFrom symbols sheet t 0 text i e ≡ symbolFrom (symbols - k) sheet t k text i e)
 
 abbrev μ-loop : tie.MeasureT-loop
 μ-loop symbols sheet t text i e k₀ k = symbols - k
@@ -16,10 +17,16 @@ loop-holds : tie.Need-loop-holds Inv-loop μ-loop
 loop-holds c = (search needs, symbol-start _ _ _ _ _ _)
 
 returns : tie.Need-returns Inv-loop μ-loop
-returns c = sym ((c .before .before .before .loop .inv .1) ∙ symbol-here _ _ _ _ _ _ _ _ (c .before .before .loop-test .taken) (c .before .is-named .ensures) (c .if1 .taken))
+returns c =
+    sym ((c .before .before .before .loop .inv .1)
+    ∙ symbol-here _ _ _ _ _ _ _ _ (c .before .before .loop-test .taken) (c .before .is-named .ensures) (c .if1 .taken))
 
 loop-again : tie.Need-loop-again Inv-loop μ-loop
-loop-again c = (search needs, (c .before .before .before .loop .inv .1) ∙ symbol-on _ _ _ _ _ _ _ _ (c .before .before .loop-test .taken) (c .before .is-named .ensures) (c .if1 .left))
+loop-again c = (
+  search needs,
+  (c .before .before .before .loop .inv .1)
+      ∙ symbol-on _ _ _ _ _ _ _ _ (c .before .before .loop-test .taken) (c .before .is-named .ensures) (c .if1 .left),
+)
 
 returns-2 : tie.Need-returns-2 Inv-loop μ-loop
 returns-2 c = sym ((c .before .loop .inv .1) ∙ symbol-stop _ _ _ _ _ _ _ (c .loop-test .left))

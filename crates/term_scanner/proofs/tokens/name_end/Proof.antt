@@ -17,10 +17,18 @@ loop-holds : tie.Need-loop-holds Inv-loop μ-loop
 loop-holds c = end-start _ _
 
 loop-again : tie.Need-loop-again Inv-loop μ-loop
-loop-again c = (c .before .before .before .before .loop .inv) ∙ end-on (c .before .before .before .before .before .before .args .text .now) _ _ (c .before .before .before .loop-test .taken) (c .before .is-name-byte .ensures) (c .if1 .taken)
+loop-again c =
+    let at-loop = c .before .before .before .before in
+    let at-entry = at-loop .before .before in
+    (at-loop .loop .inv) ∙ end-on (at-entry .args .text .now) _ _ (c .before .before .before .loop-test .taken)
+    (c .before .is-name-byte .ensures) (c .if1 .taken)
 
 returns : tie.Need-returns Inv-loop μ-loop
-returns c = sym ((c .before .before .before .before .loop .inv) ∙ end-here (c .before .before .before .before .before .before .args .text .now) _ _ (c .before .before .before .loop-test .taken) (c .before .is-name-byte .ensures) (c .if1 .left))
+returns c =
+    let at-loop = c .before .before .before .before in
+    let at-entry = at-loop .before .before in
+    sym ((at-loop .loop .inv) ∙ end-here (at-entry .args .text .now) _ _ (c .before .before .before .loop-test .taken)
+    (c .before .is-name-byte .ensures) (c .if1 .left))
 
 returns-2 : tie.Need-returns-2 Inv-loop μ-loop
 returns-2 c = sym ((c .before .loop .inv) ∙ end-stop (c .before .before .before .args .text .now) _ (c .loop-test .left))

@@ -8,22 +8,43 @@ use Rattle.term_scanner.proofs.tokens.number_from.Statement.{statement}
 use Rattle.term_scanner.proofs.tokens.number_from.Tie as tie
 
 abbrev Inv-loop : tie.InvT-loop
-Inv-loop text i v at₀ value₀ at value = (value ≤ 65535) × (numberFrom (length text - i) text i v ≡ numberFrom (length text - at) text at value)
+Inv-loop text i v at₀ value₀ at value =
+    (value ≤ 65535) × (numberFrom (length text - i) text i v ≡ numberFrom (length text - at) text at value)
 
 abbrev μ-loop : tie.MeasureT-loop
 μ-loop text i v at₀ value₀ at value = length text - at
 
 returns : tie.Need-returns Inv-loop μ-loop
-returns c = sym ((c .before .before .before .loop .inv .1) ∙ number-low (c .before .before .before .before .args .text .now) _ _ (c .before .before .loop-test .taken) (c .if1 .taken))
+returns c =
+    let at-entry = c .before .before .before .before in
+    sym ((c .before .before .before .loop .inv .1)
+    ∙ number-low (at-entry .args .text .now) _ _ (c .before .before .loop-test .taken) (c .if1 .taken))
 
 returns-2 : tie.Need-returns-2 Inv-loop μ-loop
-returns-2 c = sym ((c .before .before .before .before .loop .inv .1) ∙ number-high (c .before .before .before .before .before .args .text .now) _ _ (c .before .before .before .loop-test .taken) (c .if2 .taken))
+returns-2 c =
+    let at-loop = c .before .before .before .before in
+    let at-entry = at-loop .before in
+    sym ((at-loop .loop .inv .1) ∙ number-high (at-entry .args .text .now) _ _ (c .before .before .before .loop-test .taken)
+    (c .if2 .taken))
 
 returns-3 : tie.Need-returns-3 Inv-loop μ-loop
-returns-3 c = sym ((c .before .before .before .before .before .loop .inv .1) ∙ number-much (c .before .before .before .before .before .before .args .text .now) _ _ (c .before .before .before .before .loop-test .taken) (c .before .before .if1 .left) (c .before .if2 .left) (c .if3 .taken))
+returns-3 c =
+    let at-loop-test = c .before .before .before .before in
+    let at-loop = at-loop-test .before in
+    let at-entry = at-loop .before in
+    sym ((at-loop .loop .inv .1) ∙ number-much (at-entry .args .text .now) _ _ (at-loop-test .loop-test .taken)
+    (c .before .before .if1 .left) (c .before .if2 .left) (c .if3 .taken))
 
 loop-again : tie.Need-loop-again Inv-loop μ-loop
-loop-again c = (search needs, (c .before .before .before .before .before .loop .inv .1) ∙ number-on (c .before .before .before .before .before .before .args .text .now) _ _ (c .before .before .before .before .loop-test .taken) (c .before .before .if1 .left) (c .before .if2 .left) (c .if3 .left))
+loop-again c =
+    let at-loop-test = c .before .before .before .before in
+    let at-loop = at-loop-test .before in
+    let at-entry = at-loop .before in (
+      search needs,
+      (at-loop .loop .inv .1)
+          ∙ number-on (at-entry .args .text .now) _ _ (at-loop-test .loop-test .taken) (c .before .before .if1 .left) (c .before .if2 .left)
+          (c .if3 .left),
+    )
 
 returns-4 : tie.Need-returns-4 Inv-loop μ-loop
 returns-4 c = sym ((c .before .loop .inv .1) ∙ number-stop (c .before .before .args .text .now) _ _ (c .loop-test .left))

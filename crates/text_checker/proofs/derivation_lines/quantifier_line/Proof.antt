@@ -4,10 +4,16 @@ use Rattle.text_checker.proofs.derivation_lines.quantifier_line.Stateme
 use Rattle.text_checker.proofs.derivation_lines.quantifier_line.Tie as tie
 
 returns : tie.Need-returns
-returns c = some-due _ _ _ _ _ _ _ _ _ _ _ (c .before .before .before .before .before .kind .ensures) (c .before .before .before .before .if1 .taken) (c .before .before .some-line .ensures)
+returns c =
+    let at-if1 = c .before .before .before .before in
+    let at-kind = at-if1 .before in
+    some-due _ _ _ _ _ _ _ _ _ _ _ (at-kind .kind .ensures) (at-if1 .if1 .taken) (c .before .before .some-line .ensures)
 
 returns-2 : tie.Need-returns-2
-returns-2 c = all-due _ _ _ _ _ _ _ _ _ _ _ (c .before .before .before .before .before .kind .ensures) (c .before .before .before .before .if1 .left) (c .before .before .all-line .ensures)
+returns-2 c =
+    let at-if1 = c .before .before .before .before in
+    let at-kind = at-if1 .before in
+    all-due _ _ _ _ _ _ _ _ _ _ _ (at-kind .kind .ensures) (at-if1 .if1 .left) (c .before .before .all-line .ensures)
 
 pub quantifier-line-spec : {M : Type 1} → statement M
 quantifier-line-spec =

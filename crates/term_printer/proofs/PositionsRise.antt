@@ -1,0 +1,112 @@
+-- Positions never fall, so what is left of the answer bytes never rises.
+use Prim.Native.Nat.{ℕ, zero, suc, _-_, _/_, _≤_}
+use Prim.Native.Char.{code}
+use native.Mathlib.Omega.{arith}
+use mathlib.Core.Path.{_≡_}
+use mathlib.Core.Bool.{Bool, true, false}
+use mathlib.Core.List.{List}
+use lib.Dec.{eqb, ltb}
+use Rattle.node_table.specs.Layout.{childCount, labelOf, childOf}
+use Rattle.machine.specs.Fields as fields
+use Rattle.machine.specs.Records.{cellOf, levelOf}
+use Rattle.machine.specs.Words.{tagOf, nameOf, nodeOf, frameOf, wordOf, constantTag, variableTag, deref}
+use Rattle.printing.specs.Output.{writeSymbol}
+use Rattle.printing.specs.Numbering.{withPosition, Printer, wrote, numberVariable, numberConstant, writeVariable, writeConstant}
+use Rattle.printing.specs.Numbering.{constantNumberField}
+use Rattle.printing.specs.WriteTerms.{emitTo, writeName, separator, argumentsBy, applicationBy, wordBy, writeTerm}
+use Rattle.printing.proofs.Bytes.{bytes-grow, symbol-bytes}
+use Rattle.printing.proofs.PrinterStates.{emitted, name-then, printer-grow}
+use Rattle.memory.specs.Records.{field}
+use Rattle.printing.proofs.Steps.{number-at, number-constant-at}
+
+record Risen (g s : Printer) : Type 0 where
+  position : g .cursor .at ≤ s .cursor .at
+
+risen-same : (g : Printer) → Risen g g
+risen-same g = record { position = omega arith }
+
+risen-trans : (g s u : Printer) → Risen g s → Risen s u → Risen g u
+risen-trans g s u p q = record { position = omega arith }
+
+risen-either : (g x y : Printer) (b : Bool) → Risen g x → Risen g y → Risen g (elim b [ true ↦ x | false ↦ y ])
+risen-either g x y true p q = p
+risen-either g x y false p q = q
+
+from : (a b c : ℕ) → b ≡ a → b ≤ c → a ≤ c
+from a b c e h = omega arith
+
+module _ (limit : ℕ) (small : limit ≤ 65535) where
+  symbol-risen : (out : List ℕ) (at c n l : ℕ) → at ≤ writeSymbol out limit at c n l .at
+  symbol-risen out at c n l = rw (symbol-bytes out limit at c n l) (bytes-grow _ out limit at small)
+
+  variable-risen : (g : Printer) (x : ℕ) → Risen g (writeVariable limit g x)
+  unfolding writeVariable wrote withPosition
+  variable-risen g x =
+      let m = numberVariable (g .memory) (g .cursor) x in
+      record {
+        position = from _ _ _ (number-at (g .memory) (g .cursor) x)
+            (symbol-risen (g .buffer) (m .cursor .at) (code "_") (cellOf (m .memory) x / 4 - 1) (levelOf (m .memory) x));
+      }
+
+  constant-risen : (g : Printer) (c : ℕ) → Risen g (writeConstant limit g c)
+  unfolding writeConstant wrote withPosition
+  constant-risen g c =
+      let m = numberConstant (g .memory) (g .cursor) c in
+      record {
+        position = from _ _ _ (number-constant-at (g .memory) (g .cursor) c)
+            (symbol-risen (g .buffer) (m .cursor .at) (code "!") (field (m .memory) c constantNumberField - 1)
+            (field (m .memory) c fields.constantLevel));
+      }
+
+  emit-risen : (g : Printer) (b : ℕ) → Risen g (emitTo limit g b)
+  emit-risen g b = record { position = rw (emitted limit g b) (printer-grow limit g _ small) }
+
+  name-risen : (sheet t : List ℕ) (g : Printer) (f : ℕ) → Risen g (writeName sheet t limit g f)
+  name-risen sheet t g f = record { position = rw (name-then sheet t limit g f) (printer-grow limit g _ small) }
+
+  module _ (sheet t : List ℕ) where
+    arguments-risen : (write : Printer → ℕ → Printer) → ((g : Printer) (a : ℕ) → Risen g (write g a)) → (c n f j : ℕ) (g : Printer)
+        → Risen g (argumentsBy write t limit c n f j g)
+    unfolding argumentsBy
+    arguments-risen write h zero n f j g = emit-risen g (code ")")
+    arguments-risen write h (suc c) n f j g =
+        let s = emitTo limit g (separator j) in
+        let x = wordOf t (s .memory) (childOf t n j) f in
+        risen-trans g s _ (emit-risen g (separator j))
+        (risen-trans s (write s x) _ (h s x) (arguments-risen write h c n f (suc j) (write s x)))
+
+    application-risen : (write : Printer → ℕ → Printer) → ((g : Printer) (a : ℕ) → Risen g (write g a)) → (g : Printer) (n f : ℕ)
+        → Risen g (applicationBy write sheet t limit g n f)
+    unfolding applicationBy
+    application-risen write h g n f =
+        let s = writeName sheet t limit g (labelOf t n) in
+        risen-either g s _ (eqb (childCount t n) 0) (name-risen sheet t g (labelOf t n))
+        (risen-trans g s _ (name-risen sheet t g (labelOf t n)) (arguments-risen write h (childCount t n) n f 0 s))
+
+    word-risen : (write : Printer → ℕ → Printer) → ((g : Printer) (a : ℕ) → Risen g (write g a)) → (g : Printer) (a : ℕ)
+        → Risen g (wordBy write sheet t limit g a)
+    unfolding wordBy
+    word-risen write h g a =
+        risen-either g _ _ (eqb (tagOf a) variableTag) (variable-risen g (nameOf a))
+        (risen-either g _ _ (eqb (tagOf a) constantTag) (constant-risen g (nameOf a)) (application-risen write h g (nodeOf a) (frameOf a)))
+
+    term-risen : (rank turns : ℕ) (g : Printer) (a : ℕ) → Risen g (writeTerm rank sheet t turns limit g a)
+    unfolding writeTerm
+    term-risen zero turns g a = risen-same g
+    term-risen (suc rank) turns g a =
+        risen-either g g _ (ltb limit (g .cursor .at)) (risen-same g)
+        (word-risen (writeTerm rank sheet t turns limit) (term-risen rank turns) g (deref turns (g .memory) a))
+
+-- The same of what the code's calls gave.
+after : (g s u : Printer) → Risen g s → u ≡ s → g .cursor .at ≤ u .cursor .at
+after g s u p e = rw e (p .position)
+
+module _ (limit : ℕ) (small : limit ≤ 65535) (g u : Printer) where
+  pub emit-after : (b : ℕ) → u ≡ emitTo limit g b → g .cursor .at ≤ u .cursor .at
+  emit-after b e = after g _ u (emit-risen limit small g b) e
+
+  pub name-after : (sheet t : List ℕ) (f : ℕ) → u ≡ writeName sheet t limit g f → g .cursor .at ≤ u .cursor .at
+  name-after sheet t f e = after g _ u (name-risen limit small sheet t g f) e
+
+  pub term-after : (sheet t : List ℕ) (rank turns a : ℕ) → u ≡ writeTerm rank sheet t turns limit g a → g .cursor .at ≤ u .cursor .at
+  term-after sheet t rank turns a e = after g _ u (term-risen limit small sheet t rank turns g a) e
