@@ -21,7 +21,7 @@ use Rattle.sheet_format.proofs.Formed.{Declares, FormedTerm as SheetTerm, Forme
 use Rattle.sheet_format.proofs.Formed.{FormedClause as SheetClause}
 use Rattle.answer_texts.specs.TextLines.{TextLine, bindingLine, derivationLine, answerLines, renameTextLine}
 use Rattle.answer_texts.specs.Spelled.{SmallSymbol, WritableTerm, WritableTerms, WritableLine, Writable}
-use Rattle.answer_texts.proofs.Symbols.{arity-has}
+use Rattle.answer_texts.proofs.Declared.{arity-has}
 use Rattle.answer_texts.proofs.SoundNumbers.{NumbersUpTo}
 
 -- The function symbols that are declared, with their arity.

@@ -7,7 +7,7 @@ use lib.Dec.{eqb}
 use borrow.Author.Tests.{eqb-true}
 use Rattle.terms.specs.Lists.{All}
 use Rattle.terms.proofs.Lists.{all-append}
-use Rattle.sheet_format.specs.Bytes.{tab, lf, Lines, extendLine, linesOf, extendField, fields}
+use Rattle.sheet_format.specs.Bytes.{tab, lf, SplitLines, extendLine, linesOf, extendField, fields}
 use Rattle.sheet_format.proofs.Bytes.{Without, lines, linesOf-other}
 use Rattle.answer_texts.specs.Spelling.{join}
 use Rattle.answer_texts.specs.Spelled.{unlines}
@@ -20,7 +20,7 @@ unfolding linesOf
 linesOf-lf cs = refl
 
 -- Each whole line with its LF, then the rest, are the bytes; no line has an LF in it.
-pub record Split (b : List ℕ) (l : Lines) : Type 0 where
+pub record Split (b : List ℕ) (l : SplitLines) : Type 0 where
   pub joined : unlines (l .whole) ++ l .rest ≡ b
   pub whole : All (Without lf) (l .whole)
   pub rest : Without lf (l .rest)
@@ -46,14 +46,14 @@ linesOf-split (c ∷ cs) = go (eqb c lf) refl (linesOf-split cs)
 linesOf-rest : (r : List ℕ) → Without lf r → linesOf r ≡ lines [] r
 unfolding linesOf extendLine
 linesOf-rest [] h = refl
-linesOf-rest (c ∷ cs) h = linesOf-other c cs (h .0) ∙ ap (λ (l : Lines). extendLine c (l .whole) (l .rest)) (linesOf-rest cs (h .1))
+linesOf-rest (c ∷ cs) h = linesOf-other c cs (h .0) ∙ ap (λ (l : SplitLines). extendLine c (l .whole) (l .rest)) (linesOf-rest cs (h .1))
 
 -- A line and its LF in front are one more whole line.
 linesOf-line : (l b : List ℕ) → Without lf l → linesOf (l ++ (lf ∷ b)) ≡ lines (l ∷ linesOf b .whole) (linesOf b .rest)
 unfolding extendLine
 linesOf-line [] b h = linesOf-lf b
 linesOf-line (c ∷ cs) b h =
-    linesOf-other c (cs ++ (lf ∷ b)) (h .0) ∙ ap (λ (l : Lines). extendLine c (l .whole) (l .rest)) (linesOf-line cs b (h .1))
+    linesOf-other c (cs ++ (lf ∷ b)) (h .0) ∙ ap (λ (l : SplitLines). extendLine c (l .whole) (l .rest)) (linesOf-line cs b (h .1))
 
 -- Lines without LF, each followed by LF, and a rest without LF are split again.
 pub linesOf-unlines : (ls : List (List ℕ)) (r : List ℕ) → All (Without lf) ls → Without lf r → linesOf (unlines ls ++ r) ≡ lines ls r
@@ -61,7 +61,7 @@ unfolding unlines
 linesOf-unlines [] r h k = linesOf-rest r k
 linesOf-unlines (l ∷ ls) r h k =
     ap linesOf (append-assoc l (lf ∷ unlines ls) r) ∙ linesOf-line l (unlines ls ++ r) (h .0)
-    ∙ ap (λ (x : Lines). lines (l ∷ x .whole) (x .rest)) (linesOf-unlines ls r (h .1) k)
+    ∙ ap (λ (x : SplitLines). lines (l ∷ x .whole) (x .rest)) (linesOf-unlines ls r (h .1) k)
 
 -- Whole lines with nothing after the last LF are split again.
 pub linesOf-whole : (ls : List (List ℕ)) → All (Without lf) ls → linesOf (unlines ls) ≡ lines ls []
@@ -69,7 +69,7 @@ linesOf-whole ls h = ap linesOf (sym (append-nil (unlines ls))) ∙ linesOf-unli
 
 -- Whole lines are determined by their bytes.
 pub unlines-injective : (ls ms : List (List ℕ)) → All (Without lf) ls → All (Without lf) ms → unlines ls ≡ unlines ms → ls ≡ ms
-unlines-injective ls ms h k e = ap (λ (l : Lines). l .whole) (sym (linesOf-whole ls h) ∙ ap linesOf e ∙ linesOf-whole ms k)
+unlines-injective ls ms h k e = ap (λ (l : SplitLines). l .whole) (sym (linesOf-whole ls h) ∙ ap linesOf e ∙ linesOf-whole ms k)
 
 -- fields
 

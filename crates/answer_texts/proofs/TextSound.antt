@@ -1,6 +1,6 @@
 -- T5 at the level of bytes: the text of a proved search spells a derivation of an instance of the goal.
 use Prim.Native.Nat.{ℕ, _≤_}
-use mathlib.Core.Path.{_≡_, sym, ap, subst}
+use mathlib.Core.Path.{_≡_, sym, ap, subst, fun-ext}
 use mathlib.Core.List.{List}
 use native.Mathlib.Omega.{arith}
 use lib.ListN.{length}
@@ -13,10 +13,11 @@ use Rattle.sequents.specs.Derivations.{instanceOf}
 use Rattle.sequents.proofs.Promises.{trees}
 use Rattle.unification.specs.Store.{Leaf, Store}
 use Rattle.search.specs.Search.{proved, ends, search}
-use Rattle.search.specs.Answers.{finalEnvironment, finalLines}
+use Rattle.search.specs.Answers.{final, finalEnvironment, finalLines}
+use Rattle.search.specs.Procedure.{answerOf}
 use Rattle.search.proofs.Formed.{FormedClause}
 use Rattle.search.proofs.Bounds.{proved-bounds, proved-least}
-use Rattle.search.proofs.Promises.{units, soundness}
+use Rattle.search.proofs.Promises.{units, derivationSteps, soundness}
 use Rattle.sheet_format.specs.Limits.{maxBudget, maxTextBytes}
 use Rattle.sheet_format.specs.Sheets.{Sheet}
 use Rattle.sheet_format.proofs.Formed.{FormedClause as SheetClause}
@@ -25,7 +26,7 @@ use Rattle.answer_texts.specs.TextLines.{TextLine, answerLines}
 use Rattle.answer_texts.specs.Numbering.{shown, numberingOf, numbered}
 use Rattle.answer_texts.specs.Spelling.{proofText}
 use Rattle.answer_texts.specs.Spelled.{Writable}
-use Rattle.answer_texts.specs.Promises.{searchText, TextSound}
+use Rattle.answer_texts.specs.Promises.{searchText, TextSound, TextFollows}
 use Rattle.answer_texts.proofs.SoundNumbers.{numbers-le}
 use Rattle.answer_texts.proofs.SoundWritable.{declared, sheet-goal, sheet-clause, names-free, answer-writable}
 
@@ -65,4 +66,18 @@ textSound bytes s read budget n store path few e short =
           (numbered (answerLines n (freeVariables (s .goal)) (finalEnvironment store) ls))) (sym (tree .1))
           (lines-writable s (good bytes s read) budget n store path most e short);
       spelled = ap (λ ls. proofText (s .symbols) (answerLines n (freeVariables (s .goal)) (finalEnvironment store) ls)) (sym (tree .1));
+    }
+
+-- T4: the derivation sequence that the search has followed is the one that the text spells.
+pub textFollows : TextFollows
+unfolding searchText finalEnvironment finalLines
+textFollows s budget n store path e =
+    let d = derivationSteps (s .clauses) (s .goal) .derivation budget n store path e in
+    let q : answerOf (d .0 .sequence) ≡ final store = fun-ext (d .1) in
+    record {
+      path = path;
+      state = d .0 .state;
+      sequence = d .0 .sequence;
+      finished = d .0 .goals;
+      spelled = rw q;
     }

@@ -1,9 +1,8 @@
--- Document 01, "The answer text": its lines, their numbering and spelling, what it is that a text spells a derivation of an
--- instance of the goal, and the checker's judgement of a text.
+-- Document 01, "The answer text": its lines, their numbering and spelling, and what it is that a text spells a derivation of an
+-- instance of the goal, or which of its lines breaks.
 pub mod TextLines
 pub mod Numbering
 pub mod Spelling
 pub mod Spelled
-pub mod Reading
-pub mod Judging
+pub mod Judgements
 pub mod Promises

@@ -1,10 +1,10 @@
 -- Document 01, "The answer text": "a leftover variable as `_number@level`, a made constant as `!number@level`, each kind numbered
 -- from 0 by first showing". One count for each kind, over the whole text.
-use Prim.Native.Nat.{ℕ, zero, suc}
+use Prim.Native.Nat.{ℕ, suc}
 use mathlib.Core.Bool.{Bool, true, false, _&&_, cond}
 use mathlib.Core.List.{List, [], _∷_, _++_, map}
 use lib.Dec.{eqb}
-use Rattle.terms.specs.Terms.{Term, leaf, app, Terms, nil, cons}
+use Rattle.terms.specs.Terms.{leaf, app, Terms, nil, cons}
 use Rattle.sequents.specs.Symbols.{Symbol, made, leftover, Ground}
 use Rattle.sequents.specs.Renamings.{Renaming}
 use Rattle.answer_texts.specs.TextLines.{TextLine, termsOf, renameTextLine}

@@ -1,21 +1,20 @@
--- Promises T5 and T6 at the level of bytes (demand 2): "The sequent checker ... accepts every derivation written, and accepts a text
--- exactly if it spells, as document 01 writes them, a derivation of an instance of that goal."
-use Prim.Native.Nat.{ℕ, suc, _≤_}
+-- Promises T4 and T5 at the level of bytes (demand 2): "Every run follows the derivation steps of Nadathur's CS-1992-17"; "The sequent
+-- checker ... accepts every derivation written".
+use Prim.Native.Nat.{ℕ, _≤_}
 use mathlib.Core.Path.{_≡_}
-use mathlib.Core.List.{List}
-use mathlib.Core.Logic.{_↔_}
+use mathlib.Core.List.{List, [], map, reverse}
 use lib.ListN.{length}
 use Rattle.formulas.specs.Formulas.{freeVariables}
-use Rattle.sequents.specs.Sequents.{Line}
+use Rattle.sequents.specs.Sequents.{Line, putLine, putEnvironment}
 use Rattle.unification.specs.Store.{Leaf, Store}
-use Rattle.search.specs.Search.{proved, ends, search}
+use Rattle.search.specs.Search.{startEnvironment, proved, ends, search}
 use Rattle.search.specs.Answers.{finalEnvironment, finalLines}
+use Rattle.search.specs.Procedure.{State, DerivationSequence, answerOf, initial}
 use Rattle.sheet_format.specs.Limits.{maxBudget, maxTextBytes}
-use Rattle.sheet_format.specs.Sheets.{Sheet, Read, sheet, readSheet}
+use Rattle.sheet_format.specs.Sheets.{Sheet, sheet, readSheet}
 use Rattle.answer_texts.specs.TextLines.{answerLines}
 use Rattle.answer_texts.specs.Spelling.{proofText}
-use Rattle.answer_texts.specs.Spelled.{SpellsDerivation, BreaksAfter}
-use Rattle.answer_texts.specs.Judging.{Judgement, valid, invalid, judge}
+use Rattle.answer_texts.specs.Spelled.{SpellsDerivation}
 
 -- The text of a proved search.
 unfoldable pub searchText : Sheet → Store → List (Line Leaf) → ℕ → List ℕ
@@ -29,10 +28,16 @@ TextSound = (bytes : List ℕ) (s : Sheet) → readSheet bytes ≡ sheet s
     → search budget (s .clauses) (s .goal) ≡ ends (proved store path) n
     → length (searchText s store path n) ≤ maxTextBytes → SpellsDerivation s (searchText s store path n)
 
--- T6: valid exactly if the text spells a derivation of an instance, and otherwise the first line that breaks.
-pub record Exact (s : Sheet) (text : List ℕ) : Type 0 where
-  pub accepts : (judge s text ≡ valid) ↔ SpellsDerivation s text
-  pub breaks : (n : ℕ) → (judge s text ≡ invalid (suc n)) ↔ (BreaksAfter s text n × (SpellsDerivation s text → ⊥))
+-- T4 at the level of bytes: a derivation sequence of CS-1992-17, definitions 6 to 8, from the goal's first state to one without goals.
+-- The text's D lines are its lines, with final bindings and levels, and its B lines are the answer substitution.
+pub record DerivesText (s : Sheet) (units : ℕ) (text : List ℕ) : Type 0 where
+  pub path : List (Line Leaf)
+  pub state : State
+  pub sequence : DerivationSequence (initial (s .clauses) (s .goal)) path state
+  pub finished : state .goals ≡ []
+  pub spelled : text ≡ proofText (s .symbols) (answerLines units (freeVariables (s .goal))
+      (putEnvironment (answerOf sequence) startEnvironment) (map (putLine (answerOf sequence)) (reverse path)))
 
-abbrev pub CheckerExact : Type 0
-CheckerExact = (bytes : List ℕ) (s : Sheet) → readSheet bytes ≡ sheet s → (text : List ℕ) → Exact s text
+abbrev pub TextFollows : Type 0
+TextFollows = (s : Sheet) (budget n : ℕ) (store : Store) (path : List (Line Leaf))
+    → search budget (s .clauses) (s .goal) ≡ ends (proved store path) n → DerivesText s n (searchText s store path n)

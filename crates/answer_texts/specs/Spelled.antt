@@ -8,14 +8,14 @@ use mathlib.Core.Option.{Option, none, some}
 use lib.Dec.{eqb}
 use lib.ListN.{length, take, getElem?}
 use Rattle.terms.specs.Lists.{All, update}
-use Rattle.terms.specs.Terms.{Term, leaf, app, Terms, nil, cons, count}
+use Rattle.terms.specs.Terms.{leaf, app, Terms, nil, cons, count}
 use Rattle.formulas.specs.Formulas.{freeVariables}
 use Rattle.sequents.specs.Symbols.{Symbol, made, leftover, Ground, level}
 use Rattle.sequents.specs.Sequents.{Environment, Sequent, Line, plain, Dsome, Dall, Dclause}
 use Rattle.sequents.specs.Derivations.{lines, instanceOf, InstanceDerivation}
 use Rattle.sequents.specs.Lines.{Infers}
 use Rattle.sheet_format.specs.Limits.{maxNumber, maxBudget}
-use Rattle.sheet_format.specs.Bytes.{Lines, linesOf, lf}
+use Rattle.sheet_format.specs.Bytes.{linesOf, lf}
 use Rattle.sheet_format.specs.Nodes.{Declaration}
 use Rattle.sheet_format.specs.Sheets.{Sheet}
 use Rattle.answer_texts.specs.TextLines.{TextLine, resultLine, bindingLine, derivationLine, answerLines}

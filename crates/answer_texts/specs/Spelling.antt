@@ -4,7 +4,7 @@ use Prim.Native.Char.{code}
 use mathlib.Core.List.{List, [], _∷_, _++_, map}
 use mathlib.Core.Option.{Option, none, some}
 use lib.ListN.{getElem?}
-use Rattle.terms.specs.Terms.{Term, leaf, app, Terms, nil, cons}
+use Rattle.terms.specs.Terms.{leaf, app, Terms, nil, cons}
 use Rattle.sequents.specs.Symbols.{Symbol, made, leftover, Ground}
 use Rattle.sequents.specs.Sequents.{Word, Dtrue, Dand, Dleft, Dright, Dassume, Line, plain, Dsome, Dall, Dclause}
 use Rattle.sheet_format.specs.Bytes.{ascii, tab, lf, decimal}

@@ -2,7 +2,7 @@
 -- line for each goal, in the order taken".
 use Prim.Native.Nat.{ℕ}
 use mathlib.Core.List.{List, [], _∷_, _++_, map}
-use Rattle.terms.specs.Terms.{Term, leaf, substitute}
+use Rattle.terms.specs.Terms.{substitute}
 use Rattle.sequents.specs.Symbols.{Symbol, Ground}
 use Rattle.sequents.specs.Sequents.{Environment, Line, plain, Dsome, Dall, Dclause, putLine}
 use Rattle.sequents.specs.Renamings.{Renaming, renamed}

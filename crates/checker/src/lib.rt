@@ -17,7 +17,7 @@ ghost use Rattle.sheet_format.specs.Sheets.{readSheet};
 ghost use Rattle.checker_spec.specs.CheckText.{countLf, checkSheet};
 ghost use Rattle.checker_spec.specs.Promises.{handedBack, CheckContract};
 ghost use Rattle.checker_spec.specs.Handed.{handed};
-ghost use Rattle.checker_spec.specs.Checking.{checkRefusal, refusedCheck, verdictAt};
+ghost use Rattle.checker.specs.Checking.{checkRefusal, refusedCheck, verdictAt};
 
 const MAX_BYTES: usize = limits::MAX_TEXT_BYTES as usize;
 

@@ -1,19 +1,21 @@
 -- T6 and T10 for callers: from T1, what they are handed back.
 use Prim.Native.Nat.{ℕ, suc, _≤_}
 use native.Mathlib.Omega.{arith}
-use mathlib.Core.Path.{_≡_, refl, sym, _∙_, ap}
+use mathlib.Core.Path.{_≡_, refl, sym, _∙_, ap, subst}
 use mathlib.Core.List.{List}
 use mathlib.Core.Logic.{_↔_}
 use lib.ListN.{length}
 use borrow.Author.Tests.{le-ltb}
 use Rattle.sheet_format.specs.Limits.{maxSheetBytes, tableNumbers, maxTextBytes}
 use Rattle.sheet_format.specs.Buffers.{demanded}
-use Rattle.sheet_format.specs.Sheets.{Sheet, sheet, readSheet}
-use Rattle.answer_texts.specs.Judging.{Judgement, valid, invalid, judge}
-use Rattle.checker_spec.specs.CheckText.{Checked, judged, checkRefused, countLf, checkSheet, turnBackIf, checkText}
+use Rattle.sheet_format.specs.Sheets.{Sheet, sheet, readSheet, turnBackIf}
+use Rattle.answer_texts.specs.Spelled.{SpellsDerivation, BreaksAfter}
+use Rattle.answer_texts.specs.Judgements.{Judgement, valid, invalid}
+use Rattle.text_judging.specs.Judging.{judge}
+use Rattle.checker_spec.specs.CheckText.{Checked, judged, checkRefused, countLf, checkSheet, checkText}
 use Rattle.checker_spec.specs.Promises.{HandedBack, handedBack, CheckContract, AllExact, CallerJudged, CallersJudged}
 use Rattle.checker_spec.specs.Promises.{BuffersDoNotMatter}
-use Rattle.checker_spec.proofs.SizeChecks.{passed-checks}
+use Rattle.checker_spec.proofs.Passed.{passed-checks}
 
 -- A judgement by the numbers handed back.
 valid-number : (j : Judgement) → (handedBack (judged j) .verdict ≡ 0) ↔ (j ≡ valid)
@@ -73,6 +75,17 @@ module _ (bytes text table work table′ work′ : List ℕ) (r : HandedBack) (c
         let x = exact bytes text (length table) (length work) (q .0) (q .1) in
         rw (q .2, ← same-sheet (x .read .0) s (x .read .1) read)
         ((λ v. x .breaks n .0 (invalid-numbers (q .0) (suc n) .0 v)), (λ d. invalid-numbers (q .0) (suc n) .1 (x .breaks n .1 d)));
+    broken = λ s read h d.
+        let q = the-judgement h in
+        let x = exact bytes text (length table) (length work) (q .0) (q .1) in
+        let e = same-sheet (x .read .0) s (x .read .1) read in
+        let b = x .broken (subst (λ (y : Sheet). SpellsDerivation y text → ⊥) (sym e) d) in
+        let v = invalid-numbers (q .0) (suc (b .0)) .1 (b .2) in (
+          b .0,
+          subst (λ (y : Sheet). BreaksAfter y text (b .0)) e (b .1),
+          ap (λ (y : HandedBack). y .verdict) (q .2) ∙ v .0,
+          ap (λ (y : HandedBack). y .line) (q .2) ∙ v .1,
+        );
     judges = not-turned-back;
   }
     where

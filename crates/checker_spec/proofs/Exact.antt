@@ -4,10 +4,11 @@ use mathlib.Core.Path.{_≡_, refl, sym, _∙_}
 use mathlib.Core.Bool.{Bool, true, false}
 use mathlib.Core.List.{List}
 use native.Mathlib.Omega.{arith}
-use Rattle.sheet_format.specs.Sheets.{Sheet, Refusal, refusal, Read, sheet, refused, readSheet}
-use Rattle.answer_texts.specs.Judging.{Judgement, judge}
-use Rattle.answer_texts.specs.Promises.{CheckerExact}
-use Rattle.checker_spec.specs.CheckText.{Checked, judged, checkRefused, checkSheet, turnBackIf, checkText}
+use Rattle.sheet_format.specs.Sheets.{Sheet, Refusal, refusal, Read, sheet, refused, readSheet, turnBackIf}
+use Rattle.answer_texts.specs.Judgements.{Judgement}
+use Rattle.text_judging.specs.Judging.{judge}
+use Rattle.text_judging.specs.Promises.{CheckerExact}
+use Rattle.checker_spec.specs.CheckText.{Checked, judged, checkRefused, checkSheet, checkText}
 use Rattle.checker_spec.specs.Promises.{AllExact}
 
 -- A refusal is no judgement.
@@ -15,7 +16,7 @@ refused-judged : (r : Refusal) (j : Judgement) → checkRefused r ≡ judged j �
 refused-judged r j e = let z : _≡_ {A = ℕ} 0 1 = cc in omega arith
 
 -- Where there is an answer, the size check was passed and what follows it is the answer.
-passed-gate : (b : Bool) (n : ℕ) (r : Checked) (j : Judgement) → turnBackIf b n r ≡ judged j → r ≡ judged j
+passed-gate : (b : Bool) (n : ℕ) (r : Checked) (j : Judgement) → turnBackIf checkRefused b n r ≡ judged j → r ≡ judged j
 unfolding turnBackIf
 passed-gate true n r j e = absurd (refused-judged (refusal n 0) j e)
 passed-gate false n r j e = e
@@ -41,4 +42,5 @@ all-exact exact bytes text t w j e =
       read = (r .0, r .1);
       accepts = ((λ h. x .accepts .0 (r .2 ∙ h)), (λ h. sym (r .2) ∙ x .accepts .1 h));
       breaks = λ n. ((λ h. x .breaks n .0 (r .2 ∙ h)), (λ h. sym (r .2) ∙ x .breaks n .1 h));
+      broken = λ h. let b = x .broken h in (b .0, b .1, sym (r .2) ∙ b .2);
     }

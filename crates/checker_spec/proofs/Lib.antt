@@ -1,7 +1,4 @@
 pub mod Exact
-pub mod LineFeeds
-pub mod Parts
-pub mod Judged
-pub mod SizeChecks
+pub mod Passed
 pub mod Callers
 pub mod Promises

@@ -1,5 +1,5 @@
 -- The promises of `specs/Promises.antt` about `checkText`, kept. T1 is the code's to keep.
-use Rattle.answer_texts.proofs.Promises.{checkerExact}
+use Rattle.text_judging.proofs.Promises.{checkerExact}
 use Rattle.checker_spec.specs.Promises.{AllExact, CallersJudged, BuffersDoNotMatter}
 use Rattle.checker_spec.proofs.Exact.{all-exact}
 use Rattle.checker_spec.proofs.Callers.{callers-judged, buffers-do-not-matter}

@@ -8,8 +8,9 @@ use lib.ListN.{length}
 use Rattle.sheet_format.specs.Limits.{maxSheetBytes, tableNumbers, maxTextBytes}
 use Rattle.sheet_format.specs.Buffers.{demanded, zeroed}
 use Rattle.sheet_format.specs.Bytes.{lf}
-use Rattle.sheet_format.specs.Sheets.{Refusal, refusal, Read, sheet, refused, readSheet}
-use Rattle.answer_texts.specs.Judging.{Judgement, judge}
+use Rattle.sheet_format.specs.Sheets.{Refusal, turnBackIf, Read, sheet, refused, readSheet}
+use Rattle.answer_texts.specs.Judgements.{Judgement}
+use Rattle.text_judging.specs.Judging.{judge}
 
 pub data Checked : Type 0 where
   judged : Judgement → Checked
@@ -24,18 +25,13 @@ unfoldable pub checkSheet : List ℕ → Read → Checked
 checkSheet text (refused r) = checkRefused r
 checkSheet text (sheet s) = judged (judge s text)
 
--- Refused with this number and line 0, if the test says so.
-unfoldable pub turnBackIf : Bool → ℕ → Checked → Checked
-turnBackIf true n r = checkRefused (refusal n 0)
-turnBackIf false n r = r
-
 -- The sheet's bytes, the text's, the lengths of table and work buffer.
 unfoldable pub checkText : List ℕ → List ℕ → ℕ → ℕ → Checked
 checkText bytes text tableLength workLength =
-    turnBackIf (ltb maxSheetBytes (length bytes)) 1
-    (turnBackIf (ltb tableLength tableNumbers) 2
-    (turnBackIf (ltb maxTextBytes (length text)) 4
-    (turnBackIf (ltb workLength (demanded (countLf text))) 5
+    turnBackIf checkRefused (ltb maxSheetBytes (length bytes)) 1
+    (turnBackIf checkRefused (ltb tableLength tableNumbers) 2
+    (turnBackIf checkRefused (ltb maxTextBytes (length text)) 4
+    (turnBackIf checkRefused (ltb workLength (demanded (countLf text))) 5
     (checkSheet text (readSheet bytes)))))
 
 -- "On 1 to 5 no buffer changes. Past 5, refused or not, the first 8,192 numbers of the table and the demanded part of the work

@@ -2,4 +2,3 @@
 pub mod CheckText
 pub mod Promises
 pub mod Handed
-pub mod Checking

@@ -8,7 +8,7 @@ use Rattle.sheet_format.specs.Limits.{maxSheetBytes, tableNumbers, maxTextBytes
 use Rattle.sheet_format.specs.Buffers.{demanded}
 use Rattle.sheet_format.specs.Sheets.{Sheet, sheet, readSheet}
 use Rattle.answer_texts.specs.Spelled.{SpellsDerivation, BreaksAfter}
-use Rattle.answer_texts.specs.Judging.{Judgement, valid, invalid}
+use Rattle.answer_texts.specs.Judgements.{Judgement, valid, invalid}
 use Rattle.checker_spec.specs.CheckText.{Checked, judged, checkRefused, countLf, checkText, tableAfter, workAfter}
 
 -- What the checker hands back, in numbers: 0 valid, 1 not valid, 3 refused; the line that breaks or that is refused, 0 where there
@@ -35,6 +35,7 @@ pub record CheckExact (bytes text : List ℕ) (t w : ℕ) (j : Judgement) : Type
   pub read : (s : Sheet) × (readSheet bytes ≡ sheet s)
   pub accepts : (j ≡ valid) ↔ SpellsDerivation (read .0) text
   pub breaks : (n : ℕ) → (j ≡ invalid (suc n)) ↔ (BreaksAfter (read .0) text n × (SpellsDerivation (read .0) text → ⊥))
+  pub broken : (SpellsDerivation (read .0) text → ⊥) → (n : ℕ) × BreaksAfter (read .0) text n × (j ≡ invalid (suc n))
 
 abbrev pub AllExact : Type 0
 AllExact = (bytes text : List ℕ) (t w : ℕ) (j : Judgement) → checkText bytes text t w ≡ judged j → CheckExact bytes text t w j
@@ -48,6 +49,9 @@ pub record CallerJudged (bytes text table work : List ℕ) (r : HandedBack) : Ty
   -- Where nothing is turned back, the verdict is not valid, with a line, exactly if that line is the first that breaks.
   pub breaks : (s : Sheet) → readSheet bytes ≡ sheet s → (r .verdict ≡ 3 → ⊥) → (n : ℕ)
       → ((r .verdict ≡ 1) × (r .line ≡ suc n)) ↔ (BreaksAfter s text n × (SpellsDerivation s text → ⊥))
+  -- Where nothing is turned back and the text spells no derivation, there is a line that breaks, and it is the one told.
+  pub broken : (s : Sheet) → readSheet bytes ≡ sheet s → (r .verdict ≡ 3 → ⊥) → (SpellsDerivation s text → ⊥)
+      → (n : ℕ) × BreaksAfter s text n × (r .verdict ≡ 1) × (r .line ≡ suc n)
   -- A sheet and a text within the limits, with the buffers for them, are not turned back.
   pub judges : (s : Sheet) → readSheet bytes ≡ sheet s → length bytes ≤ maxSheetBytes → tableNumbers ≤ length table
       → length text ≤ maxTextBytes

@@ -1,4 +1,5 @@
 -- What is found in the table are the members of the clause that the table stands for.
 pub mod Prefixes
 pub mod Members
+pub mod Walks
 pub mod Laws

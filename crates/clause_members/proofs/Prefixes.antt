@@ -1,12 +1,12 @@
 -- Prefixes as digits to base 8: each name stands once and is below 8, so that there are at most eight.
 use Prim.Native.Nat.{ℕ, zero, suc, _+_, _*_, _/_, _%_, _<_, _≤_}
 use native.Mathlib.Omega.{arith}
-use mathlib.Core.Path.{_≡_, refl, ap, subst}
+use mathlib.Core.Path.{_≡_, refl, sym, ap, subst}
 use mathlib.Core.Bool.{Bool, true, false, cond, true≢false}
 use mathlib.Core.List.{List, [], _∷_}
 use lib.Dec.{eqb}
 use lib.ListN.{length}
-use borrow.Author.Tests.{eqb-true, eqb-false}
+use borrow.Author.Tests.{eqb-true, eqb-false, eq-eqb}
 use Rattle.terms.specs.Lists.{All, elem}
 use Rattle.clause_members.specs.declared.Found.{Found}
 use Rattle.clause_members.specs.Members.{found, hasName, pushName}
@@ -17,7 +17,7 @@ Distinct [] = Unit {0}
 Distinct (v ∷ l) = (elem v l ≡ false) × Distinct l
 
 -- The list without n.
-unfoldable remove : ℕ → List ℕ → List ℕ
+unfoldable pub remove : ℕ → List ℕ → List ℕ
 remove n [] = []
 remove n (v ∷ l) = cond (eqb v n) (remove n l) (v ∷ remove n l)
 
@@ -36,6 +36,19 @@ elem-cons : (v u : ℕ) (l : List ℕ) → eqb u v ≡ false → elem v l ≡ fa
 unfolding elem
 elem-cons v u l h k = rw (elem, h) k
 
+-- A list has its head, and what its tail has.
+pub elem-head : (v : ℕ) (l : List ℕ) → elem v (v ∷ l) ≡ true
+unfolding elem
+elem-head v l = rw (elem, eq-eqb v v refl)
+
+pub elem-more : (v u : ℕ) (l : List ℕ) → elem v l ≡ true → elem v (u ∷ l) ≡ true
+unfolding elem
+elem-more v u l h = go (eqb u v)
+  where
+    go : (b : Bool) → elim b as (λ z. Bool) [ true ↦ true | false ↦ elem v l ] ≡ true
+    go true = refl
+    go false = h
+
 -- Removing brings nothing in.
 remove-elem : (n v : ℕ) (l : List ℕ) → elem v l ≡ false → elem v (remove n l) ≡ false
 unfolding remove elem
@@ -46,8 +59,18 @@ remove-elem n v (u ∷ l) h = go (eqb u n) (remove-elem n v l (elem-tail v u l h
     go true p = p
     go false p = elem-cons v u (remove n l) (elem-tail v u l h .0) p
 
+-- What is removed is gone.
+pub remove-away : (v : ℕ) (l : List ℕ) → elem v (remove v l) ≡ false
+unfolding remove elem
+remove-away v [] = refl
+remove-away v (u ∷ l) = go (eqb u v) refl (remove-away v l)
+  where
+    go : (b : Bool) → eqb u v ≡ b → elem v (remove v l) ≡ false → elem v (cond b (remove v l) (u ∷ remove v l)) ≡ false
+    go true e p = p
+    go false e p = elem-cons v u (remove v l) e p
+
 -- Removing leaves distinct numbers distinct.
-remove-distinct : (n : ℕ) (l : List ℕ) → Distinct l → Distinct (remove n l)
+pub remove-distinct : (n : ℕ) (l : List ℕ) → Distinct l → Distinct (remove n l)
 unfolding remove
 remove-distinct n [] h = tt
 remove-distinct n (u ∷ l) h = go (eqb u n) (remove-distinct n l (h .1))
@@ -156,18 +179,35 @@ pub prefix-none : (leaf : ℕ) → Prefix (found leaf 0 0)
 unfolding namesOf power
 prefix-none leaf = record { distinct = tt; fits = omega arith }
 
+-- The digits of m stand for the names l, and nothing is above them.
+pub record Digits (m : Found) (l : List ℕ) : Type 0 where
+  pub is : namesOf (m .count) (m .names) ≡ l
+  pub fits : m .names < power (m .count)
+
+-- A leaf has none.
+pub digits-none : (leaf : ℕ) → Digits (found leaf 0 0) []
+unfolding namesOf power
+digits-none leaf = record { is = refl; fits = omega arith }
+
 -- One name more stands in front, and nothing is cut off.
-pub prefix-push : (v : ℕ) (m : Found) → v < 8 → elem v (namesOf (m .count) (m .names)) ≡ false → Prefix m
-    → Prefix (pushName v m) × (namesOf (pushName v m .count) (pushName v m .names) ≡ v ∷ namesOf (m .count) (m .names))
+pub digits-push : (v : ℕ) (m : Found) (l : List ℕ) → v < 8 → length l < 8 → Digits m l → Digits (pushName v m) (v ∷ l)
 unfolding pushName namesOf power
-prefix-push v m l h p =
+digits-push v m l small few d =
     let k = names-length (m .count) (m .names) in
-    let few = distinct-few 8 (v ∷ namesOf (m .count) (m .names)) (l, names-below (m .count) (m .names)) (h, p .distinct) in
+    let j = ap length (d .is) in
     let y = power-small (m .count) (omega arith) in
-    let f = p .fits in
+    let f = d .fits in
     let a : m .names % 16777216 ≡ m .names = omega arith in
     let b : m .count % 8 + 1 ≡ suc (m .count) = omega arith in
-    let d : v % 8 ≡ v = omega arith in
+    let e : v % 8 ≡ v = omega arith in
     let x : (v + 8 * m .names) % 8 ≡ v = omega arith in
     let z : (v + 8 * m .names) / 8 ≡ m .names = omega arith in
-    (record { distinct = rw (a, b, d, x, z) (h, p .distinct); fits = rw (a, b, d) (omega arith) }, rw (a, b, d, x, z))
+    record { is = rw (a, b, e, x, z) (ap (v ∷_) (d .is)); fits = rw (a, b, e) (omega arith) }
+
+-- So it is with a prefix and a name that it does not have.
+pub prefix-push : (v : ℕ) (m : Found) → v < 8 → elem v (namesOf (m .count) (m .names)) ≡ false → Prefix m
+    → Prefix (pushName v m) × (namesOf (pushName v m .count) (pushName v m .names) ≡ v ∷ namesOf (m .count) (m .names))
+prefix-push v m l h p =
+    let few = distinct-few 8 (v ∷ namesOf (m .count) (m .names)) (l, names-below (m .count) (m .names)) (h, p .distinct) in
+    let d = digits-push v m (namesOf (m .count) (m .names)) l (omega arith) (record { is = refl; fits = p .fits }) in
+    (record { distinct = subst Distinct (sym (d .is)) (h, p .distinct); fits = d .fits }, d .is)

@@ -43,6 +43,37 @@ findMember (suc f) t n k =
           elim (eqb (kindOf t n) forallKind) [ true ↦ addName t (labelOf t n) (findMember f t (childOf t n 0) k) | false ↦ found n 0 0 ]
     ]
 
+-- What the code does in place of calls of itself: it walks down and holds the names of the U nodes passed, innermost first, each
+-- once; at the leaf they are added from the innermost on.
+
+-- One name more in front, if it is not v.
+unfoldable pub pushOther : ℕ → ℕ → Found → Found
+pushOther v u m = cond (eqb u v) m (pushName u m)
+
+-- The names of n digits without v, in reverse order, in front of those of m.
+unfoldable pub reverseWithout : ℕ → ℕ → ℕ → Found → Found
+reverseWithout zero vs v m = m
+reverseWithout (suc n) vs v m = reverseWithout n (vs / variableNames) v (pushOther v (vs % variableNames) m)
+
+-- The name v in front of all others.
+unfoldable pub moveToFront : ℕ → Found → Found
+moveToFront v m =
+    let r = reverseWithout (m .count) (m .names) v (found (m .leaf) 0 0) in
+    pushName v (reverseWithout (r .count) (r .names) v (found (r .leaf) 0 0))
+
+-- A U node of variable v is passed. No mask has a name from 8 on.
+unfoldable pub passName : ℕ → Found → Found
+passName v m = cond (ltb v variableNames) (moveToFront v m) m
+
+-- The walk goes on to node n.
+unfoldable pub withLeaf : Found → ℕ → Found
+withLeaf m n = found n (m .names) (m .count)
+
+-- The names of n digits, added one by one.
+unfoldable pub addNames : List ℕ → ℕ → ℕ → Found → Found
+addNames t zero vs m = m
+addNames t (suc n) vs m = addNames t n (vs / variableNames) (addName t (vs % variableNames) m)
+
 -- At any node of a table.
 unfoldable pub member : List ℕ → ℕ → ℕ → Found
 member t n k = findMember maxNodes t n k

@@ -18,7 +18,7 @@ ghost use Rattle.sheet_format.specs.Buffers.{demanded};
 ghost use Rattle.machine.specs.Machine.{runMachine};
 ghost use Rattle.engine_spec.specs.Promises.{RunContract};
 ghost use Rattle.engine_spec.specs.Handed.{handed};
-ghost use Rattle.engine_spec.specs.Answering.{ended, reportOutcome, Answering};
+ghost use Rattle.engine.specs.Answering.{reply, reportOutcome, Answering};
 
 // The search for the goal that stands in the table, and its answer.
 fn search(
@@ -30,7 +30,7 @@ fn search(
     w: &mut [u32],
     answer: &mut [u8],
 ) -> Run
-    ensures { λ e. ⌜ ended (now (answer .exit)) e ≡ reportOutcome (now (sheet .entry)) (now (t .entry)) goal budget
+    ensures { λ e. ⌜ reply (now (answer .exit)) e ≡ reportOutcome (now (sheet .entry)) (now (t .entry)) goal budget
         (runMachine budget (now (t .entry)) clauses goal (now (w .entry))) (now (answer .entry)) ⌝ }
 {
     let r = machine_loop::run_machine(budget, t, clauses, goal, w);

@@ -8,7 +8,7 @@ use sheet_format::limits;
 ghost use mathlib.Core.Path.{_≡_};
 ghost use lib.ListN.{length};
 ghost use Rattle.machine.specs.Records.{made};
-ghost use Rattle.engine_spec.specs.Answering.{reported, ended, reportOutcome};
+ghost use Rattle.engine.specs.Answering.{reported, reply, reportOutcome};
 
 // A text of this length was written, or did not fit.
 fn fitting_run(outcome: Outcome, units: u32, length: u32) -> Run
@@ -34,7 +34,7 @@ pub fn report_outcome(
     r: Registers,
     answer: &mut [u8],
 ) -> Run
-    ensures { λ e. ⌜ ended (now (answer .exit)) e ≡ reportOutcome (now (sheet .entry)) (now (t .entry)) goal budget
+    ensures { λ e. ⌜ reply (now (answer .exit)) e ≡ reportOutcome (now (sheet .entry)) (now (t .entry)) goal budget
         (made (now (w .entry)) r) (now (answer .entry)) ⌝ }
 {
     let acts = r.acts;

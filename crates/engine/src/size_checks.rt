@@ -3,7 +3,7 @@ use memory::widen;
 use outcomes::refusals;
 use sheet_format::limits;
 ghost use mathlib.Core.Path.{_≡_};
-ghost use Rattle.engine_spec.specs.Answering.{runRefusal};
+ghost use Rattle.engine.specs.Answering.{runRefusal};
 
 // The first refusal that looks at sizes alone, or 0.
 pub fn run_refusal(sheet: usize, budget: u32, table: usize, work: usize) -> u32

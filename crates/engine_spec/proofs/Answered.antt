@@ -8,11 +8,11 @@ use native.Mathlib.Omega.{arith}
 use lib.Dec.{eqb, ltb}
 use lib.ListN.{length}
 use borrow.Author.Tests.{ltb-true, ltb-false, eqb-false, lt-ltb, le-ltb, eq-eqb, ne-eqb}
-use Rattle.search.specs.Search.{Outcome, search}
+use Rattle.search.specs.Search.{SearchOutcome, search}
 use Rattle.sheet_format.specs.Limits.{maxSheetBytes, tableNumbers, maxBudget, maxTextBytes}
-use Rattle.sheet_format.specs.Sheets.{Sheet, Refusal, refusal, Read, sheet, refused, readSheet}
+use Rattle.sheet_format.specs.Sheets.{Sheet, Refusal, refusal, Read, sheet, refused, readSheet, turnBackIf}
 use Rattle.sheet_format.specs.Buffers.{demanded}
-use Rattle.engine_spec.specs.EngineRun.{Answer, Result, answered, turnedBack, answerTo, fit, runSheet, turnBackIf, engineRun}
+use Rattle.engine_spec.specs.EngineRun.{Answer, Result, answered, turnedBack, answerTo, fit, runSheet, engineRun}
 
 -- The tests of refusals 1, 2, 3 and 5 all fail.
 pub record Passed (bytes : List ℕ) (budget t w : ℕ) : Type 0 where
@@ -36,7 +36,7 @@ refused-answered : (r : Refusal) (x : Answer) → turnedBack r ≡ answered x �
 refused-answered r x e = let z : _≡_ {A = ℕ} 0 1 = cc in omega arith
 
 -- Where there is an answer, the size check was passed and what follows it is the answer.
-passed-gate : (b : Bool) (n : ℕ) (r : Result) (x : Answer) → turnBackIf b n r ≡ answered x → (b ≡ false) × (r ≡ answered x)
+passed-gate : (b : Bool) (n : ℕ) (r : Result) (x : Answer) → turnBackIf turnedBack b n r ≡ answered x → (b ≡ false) × (r ≡ answered x)
 unfolding turnBackIf
 passed-gate true n r x e = absurd (refused-answered (refusal n 0) x e)
 passed-gate false n r x e = (refl, e)
@@ -108,10 +108,29 @@ passes bytes budget t w a s short least most read =
     fitting true = inr (refusal 12 0, refl, inr (inr refl))
     fitting false = inl refl
 
-    work : (b : Bool) → Ends (turnBackIf b 5 (fit a y))
+    work : (b : Bool) → Ends (turnBackIf turnedBack b 5 (fit a y))
     work true = inr (refusal 5 0, refl, inr (inl refl))
     work false = fitting (ltb maxTextBytes (length (y .text)) || ltb a (length (y .text)))
 
-    table : (b : Bool) → Ends (turnBackIf b 2 (turnBackIf (ltb w (demanded budget)) 5 (fit a y)))
+    table : (b : Bool) → Ends (turnBackIf turnedBack b 2 (turnBackIf turnedBack (ltb w (demanded budget)) 5 (fit a y)))
     table true = inr (refusal 2 0, refl, inl refl)
     table false = work (ltb w (demanded budget))
+
+-- A run with the buffers for it ends with its answer.
+pub passes-all : (bytes : List ℕ) (budget t w a : ℕ) (s : Sheet) → Passed bytes budget t w → readSheet bytes ≡ sheet s
+    → length (answerTo s budget (search budget (s .clauses) (s .goal)) .text) ≤ maxTextBytes
+    → length (answerTo s budget (search budget (s .clauses) (s .goal)) .text) ≤ a
+    → engineRun bytes budget t w a ≡ answered (answerTo s budget (search budget (s .clauses) (s .goal)))
+unfolding engineRun turnBackIf runSheet fit
+passes-all bytes budget t w a s p read small room =
+    let z = p .least in
+    rw (
+      le-ltb maxSheetBytes (length bytes) (p .sheetFits),
+      le-ltb t tableNumbers (p .tableFits),
+      ne-eqb budget 0 (λ q. omega arith),
+      le-ltb maxBudget budget (p .most),
+      le-ltb w (demanded budget) (p .workFits),
+      read,
+      le-ltb maxTextBytes _ small,
+      le-ltb a _ room,
+    )

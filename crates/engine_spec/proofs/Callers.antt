@@ -6,12 +6,13 @@ use mathlib.Core.Logic.{_⊎_, inl, inr}
 use native.Mathlib.Omega.{arith}
 use lib.ListN.{length, take}
 use Rattle.search.specs.Search.{Verdict, proved, noProof, ComesTo, ends}
+use Rattle.search.proofs.Promises.{derivationSteps}
 use Rattle.sheet_format.specs.Sheets.{Sheet, Refusal, sheet, readSheet}
 use Rattle.answer_texts.specs.Spelled.{SpellsDerivation}
 use Rattle.engine_spec.specs.EngineRun.{Reported, reportedProved, reportedNo, reportedSpent, Answer, Result, answered, turnedBack}
 use Rattle.engine_spec.specs.EngineRun.{answerTo, engineRun, answerAfter}
-use Rattle.engine_spec.specs.Promises.{HandedBack, outcomeNumber, handedBack, RunContract, RunSound, AllDemand3, reportedVerdict}
-use Rattle.engine_spec.specs.Promises.{CallerTold, CallersTold, ToldAgain}
+use Rattle.engine_spec.specs.Promises.{HandedBack, outcomeNumber, handedBack, RunContract, RunSound, AllDemand2, AllDemand3}
+use Rattle.engine_spec.specs.Promises.{reportedVerdict, CallerTold, CallersTold, ToldAgain, Retry}
 use Rattle.engine_spec.proofs.Answered.{answered-answers}
 use Rattle.engine_spec.proofs.Buffers.{take-front}
 
@@ -92,9 +93,9 @@ module _ (bytes : List ℕ) (budget : ℕ) (table work answer table′ work′ a
           rw v (answered-answers bytes budget (length table) (length work) (length answer) x e .bufferFits)
       go (turnedBack f) e = let n = refusal-number r f (c .value ∙ ap handedBack e) .1 in omega arith
 
-  caller-told : RunSound → AllDemand3 → CallerTold bytes budget answer answer′ r
+  caller-told : RunSound → AllDemand2 → AllDemand3 → CallerTold bytes budget answer answer′ r
   unfolding result outcomeNumber
-  caller-told sound demand = record {
+  caller-told sound steps demand = record {
     isSheet = λ h.
         let q = the-answer h in
         let p = answered-answers bytes budget (length table) (length work) (length answer) (q .0) (q .1) in
@@ -116,7 +117,20 @@ module _ (bytes : List ℕ) (budget : ℕ) (table work answer table′ work′ a
           subst (λ (k : ℕ). ComesTo (s .clauses) (s .goal) k (p .0)) (sym (q .2 .units)) (p .1),
           q .2 .outcome
               ∙ ap (λ (y : Answer). outcomeNumber (y .outcome)) (p .2) ∙ verdict-number s budget (q .0 .units) (p .0),
+          q .2 .text ∙ ap (λ (y : Answer). y .text) (p .2) ∙ ap (λ (k : ℕ). answerTo s budget (ends (p .0) k) .text) (sym (q .2 .units)),
         );
+    spent = λ s read h.
+        let q = the-answer (omega arith) in
+        let p = steps bytes s read .spent budget (length table) (length work) (length answer) (q .0) (q .1)
+        (spent-number _ (sym (q .2 .outcome) ∙ h)) in
+        (q .2 .units ∙ p .0, q .2 .text ∙ p .1, p .2);
+    follows = λ s read h.
+        let q = the-answer (omega arith) in
+        rw (q .2 .units, q .2 .text) (steps bytes s read .follows budget (length table) (length work) (length answer) (q .0) (q .1)
+        (proved-number _ (sym (q .2 .outcome) ∙ h)));
+    walked = λ s read h n l.
+        let d = derivationSteps (s .clauses) (s .goal) in
+        (d .formed n, d .follows n);
     spends = λ s read h.
         let q = the-answer h in
         let p = demand bytes s read .spends budget (length table) (length work) (length answer) (q .0) (q .1) in
@@ -127,9 +141,9 @@ module _ (bytes : List ℕ) (budget : ℕ) (table work answer table′ work′ a
       same-sheet : (x y : Sheet) → readSheet bytes ≡ sheet x → readSheet bytes ≡ sheet y → x ≡ y
       same-sheet x y e f = cc
 
-pub callers-told : RunSound → AllDemand3 → CallersTold
-callers-told sound demand bytes budget table work answer table′ work′ answer′ r c =
-    caller-told bytes budget table work answer table′ work′ answer′ r c sound demand
+pub callers-told : RunSound → AllDemand2 → AllDemand3 → CallersTold
+callers-told sound steps demand bytes budget table work answer table′ work′ answer′ r c =
+    caller-told bytes budget table work answer table′ work′ answer′ r c sound steps demand
 
 pub told-again : AllDemand3 → ToldAgain
 unfolding result
@@ -152,3 +166,16 @@ told-again demand bytes budget table work answer table′ work′ answer′ r la
         inl (z .value ∙ sym (k .value), z .text ∙ sym (k .text))
     go x k (inr (f, e, n)) =
         inr (subst (λ (i : ℕ). (i ≡ 2) ⊎ ((i ≡ 5) ⊎ (i ≡ 12))) (sym (refusal-number r₂ f (d .value ∙ ap handedBack e) .2)) n)
+
+pub told-retry : AllDemand3 → Retry
+unfolding result
+told-retry demand bytes budget table work answer table′ work′ answer′ r larger table₂ work₂ answer₂ table₂′ work₂′ answer₂′ r₂ c d h l m ht hw ha =
+    let q = the-answer bytes budget table work answer table′ work′ answer′ r c (omega arith) in
+    let x = q .0 in
+    let k = q .2 in
+    let p = answered-answers bytes budget (length table) (length work) (length answer) x (q .1) in
+    let n : r .length ≡ length (x .text) = (unfold handedBack in ap (λ (b : HandedBack). b .length) (k .value)) in
+    let e = demand bytes (p .s) (p .read) .retry budget (length table) (length work) (length answer) x (q .1)
+    (not-spent _ (subst (λ (i : ℕ). i ≤ 1) (k .outcome) h)) larger (length table₂) (length work₂) (length answer₂) l m ht hw (rw (← n) ha) in
+    let z = holds answer₂ answer₂′ r₂ x (d .value ∙ ap handedBack e) (d .answerEnd ∙ ap (λ (y : Result). answerAfter y answer₂) e) in
+    (z .value ∙ sym (k .value), z .text ∙ sym (k .text))

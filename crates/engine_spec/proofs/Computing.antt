@@ -3,17 +3,18 @@ use Prim.Native.Nat.{ℕ}
 use mathlib.Core.List.{List}
 use Rattle.formulas.specs.Formulas.{freeFrom, freeVariables}
 use Rattle.unification.specs.Store.{boundTo, at, onlyAt, solve1, solved, solution}
-use Rattle.search.specs.Answers.{symbolOf, final, finalEnvironment, finalLines}
+use Rattle.search.specs.Answers.{symbolUnder, final, finalEnvironment, finalLines}
 use Rattle.search.proofs.Computing.{computeSearch}
 use Rattle.sheet_format.proofs.Computing.{computeSheet}
 use Rattle.answer_texts.specs.Spelling.{noText, spentText}
 use Rattle.answer_texts.specs.Promises.{searchText}
 use Rattle.answer_texts.proofs.Computing.{computeText}
 use Rattle.sheet_format.specs.Buffers.{demanded}
-use Rattle.engine_spec.specs.EngineRun.{Result, answerTo, fit, runSheet, turnBackIf, engineRun}
+use Rattle.sheet_format.specs.Sheets.{turnBackIf}
+use Rattle.engine_spec.specs.EngineRun.{Result, answerTo, fit, runSheet, engineRun}
 
 unfoldable pub computeRun : List ℕ → ℕ → ℕ → ℕ → ℕ → Result
-unfolding engineRun turnBackIf runSheet fit answerTo demanded searchText noText spentText finalLines finalEnvironment final symbolOf
+unfolding engineRun turnBackIf runSheet fit answerTo demanded searchText noText spentText finalLines finalEnvironment final symbolUnder
     solution solved solve1 onlyAt at boundTo
     freeVariables freeFrom computeSheet computeSearch computeText
 computeRun bytes budget t w a = engineRun bytes budget t w a

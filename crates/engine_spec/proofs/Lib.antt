@@ -5,5 +5,3 @@ pub mod Demand3
 pub mod Buffers
 pub mod Callers
 pub mod Promises
-pub mod SizeChecks
-pub mod Answering

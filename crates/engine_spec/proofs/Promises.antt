@@ -4,7 +4,7 @@ use mathlib.Core.Path.{_≡_, refl, sym, _∙_, ap, subst}
 use mathlib.Core.List.{List}
 use native.Mathlib.Omega.{arith}
 use lib.ListN.{length}
-use Rattle.search.specs.Search.{Outcome, ends, spent, proved, noProof, search}
+use Rattle.search.specs.Search.{SearchOutcome, ends, spent, proved, noProof, search}
 use Rattle.sheet_format.specs.Limits.{maxBudget, maxTextBytes}
 use Rattle.sheet_format.specs.Sheets.{Sheet, Read, sheet, readSheet}
 use Rattle.sheet_format.proofs.Good.{good}
@@ -12,14 +12,14 @@ use Rattle.answer_texts.specs.Spelled.{SpellsDerivation}
 use Rattle.answer_texts.specs.Promises.{searchText}
 use Rattle.answer_texts.proofs.Promises.{textSound}
 use Rattle.engine_spec.specs.EngineRun.{Reported, reportedProved, reportedNo, reportedSpent, Answer, answered, answerTo, engineRun}
-use Rattle.engine_spec.specs.Promises.{RunSound, AllDemand3, BuffersDoNotMatter, CallersTold, ToldAgain}
+use Rattle.engine_spec.specs.Promises.{RunSound, AllDemand2, AllDemand3, BuffersDoNotMatter, CallersTold, ToldAgain, Retry}
 use Rattle.engine_spec.proofs.Answered.{answered-answers}
-use Rattle.engine_spec.proofs.Demand3.{demand3}
+use Rattle.engine_spec.proofs.Demand3.{demand2, demand3}
 use Rattle.engine_spec.proofs.Buffers as Buffers
-use Rattle.engine_spec.proofs.Callers.{callers-told, told-again}
+use Rattle.engine_spec.proofs.Callers.{callers-told, told-again, told-retry}
 
 -- The text of an answer that tells proved spells a derivation of an instance of the goal.
-spells : (bytes : List ℕ) (s : Sheet) (budget : ℕ) (o : Outcome) (x : Answer) → readSheet bytes ≡ sheet s → budget ≤ maxBudget
+spells : (bytes : List ℕ) (s : Sheet) (budget : ℕ) (o : SearchOutcome) (x : Answer) → readSheet bytes ≡ sheet s → budget ≤ maxBudget
     → search budget (s .clauses) (s .goal) ≡ o
     → x ≡ answerTo s budget o → x .outcome ≡ reportedProved → length (x .text) ≤ maxTextBytes → SpellsDerivation s (x .text)
 unfolding answerTo
@@ -42,6 +42,10 @@ runSound bytes budget t w a x e h =
           (r .textFits),
     )
 
+-- T4: the run follows the derivation steps of CS-1992-17, for every sheet.
+pub allDemand2 : AllDemand2
+allDemand2 bytes s read = let g = good bytes s read in demand2 bytes s read (g .clausesClosed) (g .goalFree)
+
 -- T8: demand 3 holds of every sheet.
 pub allDemand3 : AllDemand3
 allDemand3 bytes s read = let g = good bytes s read in demand3 bytes s read (g .clausesClosed) (g .goalFree)
@@ -50,9 +54,12 @@ allDemand3 bytes s read = let g = good bytes s read in demand3 bytes s read (g .
 pub buffersDoNotMatter : BuffersDoNotMatter
 buffersDoNotMatter = Buffers.buffersDoNotMatter
 
--- T5 and T8 hold for callers, in the numbers handed back.
+-- T4, T5 and T8 hold for callers, in the numbers handed back.
 pub callersTold : CallersTold
-callersTold = callers-told runSound allDemand3
+callersTold = callers-told runSound allDemand2 allDemand3
 
 pub toldAgain : ToldAgain
 toldAgain = told-again allDemand3
+
+pub retry : Retry
+retry = told-retry allDemand3

@@ -5,10 +5,10 @@ use mathlib.Core.Bool.{Bool, true, false, _||_, cond}
 use mathlib.Core.List.{List, [], _∷_, _++_}
 use lib.Dec.{eqb, leb, ltb}
 use lib.ListN.{length, drop}
-use Rattle.search.specs.Search.{Outcome, ends, spent, proved, noProof, search}
+use Rattle.search.specs.Search.{SearchOutcome, ends, spent, proved, noProof, search}
 use Rattle.sheet_format.specs.Limits.{maxSheetBytes, tableNumbers, maxBudget, maxTextBytes}
 use Rattle.sheet_format.specs.Buffers.{demanded, zeroed}
-use Rattle.sheet_format.specs.Sheets.{Sheet, Refusal, refusal, Read, sheet, refused, readSheet}
+use Rattle.sheet_format.specs.Sheets.{Sheet, Refusal, refusal, turnBackIf, Read, sheet, refused, readSheet}
 use Rattle.answer_texts.specs.Spelling.{noText, spentText}
 use Rattle.answer_texts.specs.Promises.{searchText}
 
@@ -27,7 +27,7 @@ pub data Result : Type 0 where
   turnedBack : Refusal → Result
 
 -- "`R`, outcome, units ... spent reports the budget"
-unfoldable pub answerTo : Sheet → ℕ → Outcome → Answer
+unfoldable pub answerTo : Sheet → ℕ → SearchOutcome → Answer
 answerTo s budget (ends (proved store path) n) = record { outcome = reportedProved; units = n; text = searchText s store path n }
 answerTo s budget (ends noProof n) = record { outcome = reportedNo; units = n; text = noText n }
 answerTo s budget spent = record { outcome = reportedSpent; units = budget; text = spentText budget }
@@ -42,18 +42,13 @@ unfoldable pub runSheet : ℕ → ℕ → Read → Result
 runSheet budget answerLength (refused r) = turnedBack r
 runSheet budget answerLength (sheet s) = fit answerLength (answerTo s budget (search budget (s .clauses) (s .goal)))
 
--- Refused with this number and line 0, if the test says so.
-unfoldable pub turnBackIf : Bool → ℕ → Result → Result
-turnBackIf true n r = turnedBack (refusal n 0)
-turnBackIf false n r = r
-
 -- The sheet's bytes, the budget, the lengths of table, work buffer and answer buffer.
 unfoldable pub engineRun : List ℕ → ℕ → ℕ → ℕ → ℕ → Result
 engineRun bytes budget tableLength workLength answerLength =
-    turnBackIf (ltb maxSheetBytes (length bytes)) 1
-    (turnBackIf (ltb tableLength tableNumbers) 2
-    (turnBackIf (eqb budget 0 || ltb maxBudget budget) 3
-    (turnBackIf (ltb workLength (demanded budget)) 5
+    turnBackIf turnedBack (ltb maxSheetBytes (length bytes)) 1
+    (turnBackIf turnedBack (ltb tableLength tableNumbers) 2
+    (turnBackIf turnedBack (eqb budget 0 || ltb maxBudget budget) 3
+    (turnBackIf turnedBack (ltb workLength (demanded budget)) 5
     (runSheet budget answerLength (readSheet bytes)))))
 
 -- "On 1 to 5 no buffer changes. Past 5, refused or not, the first 8,192 numbers of the table and the demanded part of the work

@@ -2,4 +2,3 @@
 pub mod EngineRun
 pub mod Promises
 pub mod Handed
-pub mod Answering

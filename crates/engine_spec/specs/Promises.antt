@@ -2,15 +2,21 @@
 use Prim.Native.Nat.{ℕ, _≤_, _<_}
 use mathlib.Core.Path.{_≡_}
 use mathlib.Core.List.{List}
+use mathlib.Core.Option.{none}
 use mathlib.Core.Logic.{_⊎_, _↔_}
 use lib.ListN.{length, take}
+use Rattle.terms.specs.Lists.{All}
 use Rattle.sequents.specs.Symbols.{Symbol}
 use Rattle.sequents.specs.Sequents.{Environment}
 use Rattle.sequents.specs.Derivations.{InstanceDerivation}
-use Rattle.search.specs.Search.{Verdict, proved, noProof, ComesTo, ends}
-use Rattle.sheet_format.specs.Limits.{maxBudget}
+use Rattle.search.specs.Search.{after, Verdict, proved, noProof, verdictOf, ComesTo, ends}
+use Rattle.search.specs.Promises.{WellFormed, FollowsSteps}
+use Rattle.sheet_format.specs.Limits.{tableNumbers, maxBudget}
+use Rattle.sheet_format.specs.Buffers.{demanded}
 use Rattle.sheet_format.specs.Sheets.{Sheet, Refusal, Read, sheet, readSheet}
+use Rattle.answer_texts.specs.Spelling.{spentText}
 use Rattle.answer_texts.specs.Spelled.{SpellsDerivation}
+use Rattle.answer_texts.specs.Promises.{DerivesText}
 use Rattle.engine_spec.specs.EngineRun.{Reported, reportedProved, reportedNo, reportedSpent, Answer, Result, answered, turnedBack}
 use Rattle.engine_spec.specs.EngineRun.{answerTo, engineRun, tableAfter, workAfter, answerAfter}
 
@@ -44,6 +50,17 @@ abbrev pub RunSound : Type 0
 RunSound = (bytes : List ℕ) (budget t w a : ℕ) (x : Answer) → engineRun bytes budget t w a ≡ answered x → x .outcome ≡ reportedProved
     → (s : Sheet) × (readSheet bytes ≡ sheet s) × SpellsDerivation s (x .text)
 
+-- T4 of the run: what is told as proved is a derivation by CS-1992-17, its lines and its answer substitution being the text's; where
+-- spent is told, after as many acts as the budget another is due.
+pub record Demand2 (bytes : List ℕ) (s : Sheet) : Type 0 where
+  pub follows : (budget t w a : ℕ) (x : Answer) → engineRun bytes budget t w a ≡ answered x → x .outcome ≡ reportedProved
+      → DerivesText s (x .units) (x .text)
+  pub spent : (budget t w a : ℕ) (x : Answer) → engineRun bytes budget t w a ≡ answered x → x .outcome ≡ reportedSpent
+      → (x .units ≡ budget) × (x .text ≡ spentText budget) × (verdictOf (after (s .clauses) (s .goal) budget) ≡ none)
+
+abbrev pub AllDemand2 : Type 0
+AllDemand2 = (bytes : List ℕ) (s : Sheet) → readSheet bytes ≡ sheet s → Demand2 bytes s
+
 -- T8, demand 3, point e of document 01 observed: "told is what an answer says; a refusal tells no outcome".
 pub record Demand3 (bytes : List ℕ) (s : Sheet) : Type 0 where
   -- "whoever holds a sequent derivation of some instance of the goal, its free variables replaced by terms of level 0, is never
@@ -59,6 +76,10 @@ pub record Demand3 (bytes : List ℕ) (s : Sheet) : Type 0 where
       → (larger t′ w′ a′ : ℕ) → budget ≤ larger → larger ≤ maxBudget
       → (engineRun bytes larger t′ w′ a′ ≡ answered x)
       ⊎ ((r : Refusal) × (engineRun bytes larger t′ w′ a′ ≡ turnedBack r) × ((r .number ≡ 2) ⊎ ((r .number ≡ 5) ⊎ (r .number ≡ 12))))
+  -- Such buffers are a table of 8,192 numbers, 64 work numbers for each unit and an answer buffer as long as the text.
+  pub retry : (budget t w a : ℕ) (x : Answer) → engineRun bytes budget t w a ≡ answered x → (x .outcome ≡ reportedSpent → ⊥)
+      → (larger t′ w′ a′ : ℕ) → budget ≤ larger → larger ≤ maxBudget → tableNumbers ≤ t′ → demanded larger ≤ w′ → length (x .text) ≤ a′
+      → engineRun bytes larger t′ w′ a′ ≡ answered x
   -- "Whoever is told an outcome is told spent exactly if the walk needs more units than the budget."
   pub spends : (budget t w a : ℕ) (x : Answer) → engineRun bytes budget t w a ≡ answered x
       → (x .outcome ≡ reportedSpent) ↔ ((n : ℕ) (v : Verdict) → ComesTo (s .clauses) (s .goal) n v → budget < n)
@@ -90,9 +111,17 @@ pub record CallerTold (bytes : List ℕ) (budget : ℕ) (answer answer′ : List
   -- If no is told, no instance of the goal has a derivation.
   pub neverNo : (s : Sheet) → readSheet bytes ≡ sheet s → r .outcome ≡ 1 → (e : Environment Symbol)
       → InstanceDerivation (s .clauses) (s .goal) e → ⊥
-  -- If proved or no is told, it is what the walk comes to, after as many units as are told.
+  -- If proved or no is told, it is what the walk comes to, after as many units as are told, and the text is the walk's.
   pub comesTo : (s : Sheet) → readSheet bytes ≡ sheet s → r .outcome ≤ 1 → (v : Verdict) × ComesTo (s .clauses) (s .goal) (r .units) v
-      × (r .outcome ≡ reportedVerdict v)
+      × (r .outcome ≡ reportedVerdict v) × (take (r .length) answer′ ≡ answerTo s budget (ends v (r .units)) .text)
+  -- If spent is told, the budget and its text are told, and after as many acts another is due.
+  pub spent : (s : Sheet) → readSheet bytes ≡ sheet s → r .outcome ≡ 2
+      → (r .units ≡ budget) × (take (r .length) answer′ ≡ spentText budget) × (verdictOf (after (s .clauses) (s .goal) budget) ≡ none)
+  -- If proved is told, the text is that of a derivation sequence of CS-1992-17.
+  pub follows : (s : Sheet) → readSheet bytes ≡ sheet s → r .outcome ≡ 0 → DerivesText s (r .units) (take (r .length) answer′)
+  -- Whatever is told, every state of the walk to that point is one of T4's, and its matches are T3's.
+  pub walked : (s : Sheet) → readSheet bytes ≡ sheet s → r .outcome ≤ 2 → (n : ℕ) → n ≤ r .units
+      → All WellFormed (after (s .clauses) (s .goal) n) × All (FollowsSteps (s .clauses) (s .goal)) (after (s .clauses) (s .goal) n)
   -- If an outcome is told, it is spent exactly if the walk needs more units than the budget.
   pub spends : (s : Sheet) → readSheet bytes ≡ sheet s → r .outcome ≤ 2 → (r .outcome ≡ 2)
       ↔ ((n : ℕ) (v : Verdict) → ComesTo (s .clauses) (s .goal) n v → budget < n)
@@ -114,3 +143,15 @@ ToldAgain =
     → RunContract bytes larger table₂ work₂ answer₂ table₂′ work₂′ answer₂′ r₂
     → r .outcome ≤ 1 → budget ≤ larger → larger ≤ maxBudget
     → ((r₂ ≡ r) × (take (r₂ .length) answer₂′ ≡ take (r .length) answer′)) ⊎ ((r₂ .number ≡ 2) ⊎ ((r₂ .number ≡ 5) ⊎ (r₂ .number ≡ 12)))
+
+-- T8 in the numbers handed back, with the buffers for it: the very same is handed back, with the same text. A desk that was told
+-- proved or no and asks again with more units rests on this.
+abbrev pub Retry : Type 0
+Retry =
+    (bytes : List ℕ) (budget : ℕ) (table work answer table′ work′ answer′ : List ℕ) (r : HandedBack) (larger : ℕ)
+    (table₂ work₂ answer₂ table₂′ work₂′ answer₂′ : List ℕ) (r₂ : HandedBack)
+    → RunContract bytes budget table work answer table′ work′ answer′ r
+    → RunContract bytes larger table₂ work₂ answer₂ table₂′ work₂′ answer₂′ r₂
+    → r .outcome ≤ 1 → budget ≤ larger → larger ≤ maxBudget
+    → tableNumbers ≤ length table₂ → demanded larger ≤ length work₂ → r .length ≤ length answer₂
+    → (r₂ ≡ r) × (take (r₂ .length) answer₂′ ≡ take (r .length) answer′)

@@ -8,7 +8,7 @@ use mathlib.Core.List.{List}
 use lib.ListN.{length, set, replicate}
 use borrow.Author.Tests.{eq-eqb, ne-eqb, lt-ltb, le-ltb}
 use Rattle.node_table.specs.Layout.{childCount, labelOf}
-use Rattle.scanning.specs.Classes.{nodeElement, isName, elementNode, elementChild, rooted, rootOf, separate}
+use Rattle.scanning.specs.Classes.{nodeElement, isNameElement, elementNode, elementChild, rooted, rootOf, separate}
 use Rattle.scanning.specs.Instances.{Compared, compared, joined, joinName, sameChildren, sameNodes, sameRoots, sameElements, sameAtoms}
 
 -- children
@@ -62,22 +62,22 @@ module _ (b t x w : List ℕ) (f g : ℕ) where
     module _ (n : ℕ) (z : n ≡ 0 → ⊥) (apart : a ≡ k → ⊥) where
       pub elements-first : (o : List ℕ) (y : Bool) → a < 2048 → compared o y ≡ joinName b t x w f g e a k
           → compared o y ≡ sameElements n b t x w f g c i j
-      unfolding sameRoots isName
+      unfolding sameRoots isNameElement
       elements-first o y h p = rw (roots n z, ne-eqb a k apart, lt-ltb a 2048 h) p
 
       pub elements-second : (o : List ℕ) (y : Bool) → 2048 ≤ a → k < 2048 → compared o y ≡ joinName b t x w f g e k a
           → compared o y ≡ sameElements n b t x w f g c i j
-      unfolding sameRoots isName
+      unfolding sameRoots isNameElement
       elements-second o y h l p = rw (roots n z, ne-eqb a k apart, le-ltb a 2048 h, lt-ltb k 2048 l) p
 
       module _ (high : 2048 ≤ a) (also : 2048 ≤ k) (p q : ℕ) (one : p ≡ labelOf t (a / 2 % 1024)) (two : q ≡ labelOf t (k / 2 % 1024)) where
         pub elements-other : (p ≡ q → ⊥) → compared e false ≡ sameElements n b t x w f g c i j
-        unfolding sameRoots sameNodes isName elementNode
+        unfolding sameRoots sameNodes isNameElement elementNode
         elements-other h = rw (roots n z, ne-eqb a k apart, le-ltb a 2048 high, le-ltb k 2048 also, ← one, ← two, ne-eqb p q h)
 
         pub elements-same : (m : ℕ) → p ≡ q → m ≡ childCount t (a / 2 % 1024)
             → sameElements n b t x w f g c i j ≡ rest (inner n) t a k m 0 e
-        unfolding sameRoots sameNodes isName elementNode
+        unfolding sameRoots sameNodes isNameElement elementNode
         elements-same m h l = rw (roots n z, ne-eqb a k apart, le-ltb a 2048 high, le-ltb k 2048 also, ← one, ← two, eq-eqb p q h, ← l)
 
 -- atoms

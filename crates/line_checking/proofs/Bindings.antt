@@ -25,9 +25,9 @@ use Rattle.sheet_format.specs.Nodes.{Declaration}
 use Rattle.sheet_format.proofs.Names.{Names}
 use Rattle.answer_texts.specs.Spelling.{spellTerm}
 use Rattle.answer_texts.specs.Spelled.{WritableTerm, Writable, Stage, opening, bindings, boundStage, blank}
-use Rattle.answer_texts.specs.Judging.{allow}
-use Rattle.answer_texts.proofs.Reading.{lineBytes}
-use Rattle.answer_texts.proofs.Infer.{and-both}
+use Rattle.text_judging.specs.Judging.{allow}
+use Rattle.text_judging.proofs.Reading.{lineBytes}
+use Rattle.answer_texts.proofs.FirstShowings.{and-both}
 use Rattle.scanning.specs.declared.Number.{Number}
 use Rattle.scanning.specs.declared.Number.the-variants.{Value, Missing}
 use Rattle.scanning.specs.declared.Scan.{Scan}

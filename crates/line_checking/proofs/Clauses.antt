@@ -27,10 +27,10 @@ use Rattle.node_table.specs.Decoding.{goalAt, clauseAtNode, argumentsAt}
 use Rattle.node_table.proofs.Decoding.{Nodes, nodes-of, goal-atom, clause-fact, clause-rule}
 use Rattle.answer_texts.specs.TextLines.{derivationLine}
 use Rattle.answer_texts.specs.Spelled.{WritableTerm, WritableLine, sequents}
-use Rattle.answer_texts.specs.Judging.{sameTerms, allLow, inferEntry, entryAt, inferClause, infer}
-use Rattle.answer_texts.proofs.Reading.{lineBytes}
-use Rattle.answer_texts.proofs.Spans.{stops-digit}
-use Rattle.answer_texts.proofs.Infer.{and-both}
+use Rattle.text_judging.specs.Judging.{sameTerms, allLow, inferEntry, entryAt, inferClause, infer}
+use Rattle.text_judging.proofs.Reading.{lineBytes}
+use Rattle.text_judging.proofs.Spans.{stops-digit}
+use Rattle.answer_texts.proofs.FirstShowings.{and-both}
 use Rattle.scanning.specs.declared.Number.{Number}
 use Rattle.scanning.specs.declared.Number.the-variants.{Value, Missing}
 use Rattle.scanning.specs.declared.Scan.{Scan}

@@ -12,8 +12,8 @@ use Rattle.sequents.specs.Symbols.{Symbol}
 use Rattle.sequents.specs.Sequents.{Sequent, Line}
 use Rattle.answer_texts.specs.TextLines.{TextLine, resultLine, bindingLine, derivationLine}
 use Rattle.answer_texts.specs.Spelled.{WritableLine, Writable, sequents}
-use Rattle.answer_texts.specs.Judging.{infer, allow}
-use Rattle.answer_texts.proofs.Reading.{lineBytes}
+use Rattle.text_judging.specs.Judging.{infer, allow}
+use Rattle.text_judging.proofs.Reading.{lineBytes}
 use Rattle.line_checking.specs.declared.Registers.{Registers}
 use Rattle.line_checking.specs.Sequents.{Made, made, withStage, broken, withSequent, openSequent, nextSequent, brokenStage}
 use Rattle.line_checking.proofs.Representation.{Setting, declared, sheetOf, SequentsAt, Holds}

@@ -17,11 +17,11 @@ use Rattle.answer_texts.specs.TextLines.{TextLine, termsOf}
 use Rattle.answer_texts.specs.Numbering.{symbolsOf}
 use Rattle.answer_texts.specs.Spelling.{join}
 use Rattle.answer_texts.specs.Spelled.{Writable, Stage, opening, bindings, sequents}
-use Rattle.answer_texts.specs.Reading.{readLine}
-use Rattle.answer_texts.specs.Judging.{Seen, showSymbols, allow, Progress, progress, judgeRead, judgeLine as judgeBytes}
+use Rattle.text_judging.specs.Reading.{readLine}
+use Rattle.text_judging.specs.Judging.{Seen, showSymbols, allow, Progress, progress, judgeRead, judgeLine as judgeBytes}
 use Rattle.answer_texts.proofs.Splitting.{join-fields}
-use Rattle.answer_texts.proofs.Reading.{lineBytes, read-spell, spell-read, fields-spell}
-use Rattle.answer_texts.proofs.Showings.{shows-append, unseen}
+use Rattle.text_judging.proofs.Reading.{lineBytes, read-spell, spell-read, fields-spell}
+use Rattle.text_judging.proofs.Showings.{shows-append, unseen}
 use Rattle.scanning.specs.declared.SymbolCounts.{SymbolCounts}
 use Rattle.scanning.specs.declared.SymbolCounts.the-variants.{Counts, Misnumbered}
 use Rattle.scanning.specs.Numbering.{checkNumbering}

@@ -21,8 +21,8 @@ use Rattle.answer_texts.specs.TextLines.{TextLine, resultLine, bindingLine, der
 use Rattle.answer_texts.specs.Numbering.{symbolsIn, symbolsOf}
 use Rattle.answer_texts.specs.Spelling.{spellTerm, join, spellWord, spellTerms, lineFields, textFields}
 use Rattle.answer_texts.specs.Spelled.{WritableTerm, WritableLine, Writable}
-use Rattle.answer_texts.proofs.Spans.{Stops}
-use Rattle.answer_texts.proofs.Reading.{lineBytes}
+use Rattle.text_judging.proofs.Spans.{Stops}
+use Rattle.text_judging.proofs.Reading.{lineBytes}
 use Rattle.scanning.proofs.Positions.{drop-next, drop-past}
 use Rattle.scanning.proofs.Ranges.{Solid}
 use Rattle.scanning.proofs.SymbolsInText.{startsIn, starts-parts, Plain, plain-starts, decimal-plain, starts-byte, outside-after}

@@ -20,10 +20,10 @@ use Rattle.sheet_format.proofs.Names.{Names}
 use Rattle.sheet_format.specs.Limits.{variableNames}
 use Rattle.answer_texts.specs.Spelling.{spellTerm}
 use Rattle.answer_texts.specs.Spelled.{WritableTerm}
-use Rattle.answer_texts.specs.Reading.{Parsed, parsed, readTerm}
-use Rattle.answer_texts.specs.Judging.{allLow}
-use Rattle.answer_texts.proofs.ReadTerms.{read-term}
-use Rattle.answer_texts.proofs.Infer.{and-both}
+use Rattle.text_judging.specs.Reading.{Parsed, parsed, readTerm}
+use Rattle.text_judging.specs.Judging.{allLow}
+use Rattle.text_judging.proofs.ReadTerms.{read-term}
+use Rattle.answer_texts.proofs.FirstShowings.{and-both}
 use Rattle.scanning.specs.declared.Scan.{Scan}
 use Rattle.scanning.specs.declared.Scan.the-variants.{Term as Scanned, Malformed}
 use Rattle.scanning.specs.Scanning.{scanTerm}

@@ -15,10 +15,10 @@ use Rattle.sheet_format.proofs.Numbers.{number-some, decimal-without}
 use Rattle.sheet_format.proofs.Options.{OnSome}
 use Rattle.answer_texts.specs.TextLines.{TextLine}
 use Rattle.answer_texts.specs.Spelled.{Writable, Stage}
-use Rattle.answer_texts.specs.Judging.{allow}
-use Rattle.answer_texts.specs.Reading.{span}
-use Rattle.answer_texts.proofs.Spans.{span-split}
-use Rattle.answer_texts.proofs.Reading.{lineBytes}
+use Rattle.text_judging.specs.Judging.{allow}
+use Rattle.text_judging.specs.Reading.{span}
+use Rattle.text_judging.proofs.Spans.{span-split}
+use Rattle.text_judging.proofs.Reading.{lineBytes}
 use Rattle.scanning.specs.declared.Number.the-variants.{Value}
 use Rattle.scanning.specs.Ranges.{scanNumber}
 use Rattle.scanning.proofs.Positions.{drop-past}

@@ -28,9 +28,9 @@ use Rattle.node_table.proofs.Decoding.{Nodes, nodes-of, goal-true, goal-and, go
 use Rattle.answer_texts.specs.TextLines.{derivationLine}
 use Rattle.answer_texts.specs.Spelling.{nameOf, spellSymbol, spellTerm, spellArguments, spellWord, textFields, lineFields, join}
 use Rattle.answer_texts.specs.Spelled.{WritableTerm, WritableLine, sequents}
-use Rattle.answer_texts.specs.Judging.{infer, isPlain, sameWord, wordNumber, inferSome, inferAll, inferConstant}
-use Rattle.answer_texts.proofs.Reading.{lineBytes}
-use Rattle.answer_texts.proofs.Symbols.{marked, has-arity, name-of}
+use Rattle.text_judging.specs.Judging.{infer, isPlain, sameWord, wordNumber, inferSome, inferAll, inferConstant}
+use Rattle.text_judging.proofs.Reading.{lineBytes}
+use Rattle.answer_texts.proofs.Declared.{marked, has-arity, name-of}
 use Rattle.scanning.specs.Fields as fields
 use Rattle.scanning.proofs.Positions.{byte-is, drop-past, within}
 use Rattle.scanning.specs.declared.Scan.{Scan}

@@ -11,16 +11,17 @@ use lib.ListN.{length, drop, length-append}
 use lib.Seq.{drop-drop}
 use borrow.Author.Tests.{eq-eqb, ne-eqb, lt-ltb, le-ltb}
 use Rattle.terms.specs.Lists.{All}
-use Rattle.sheet_format.specs.Bytes.{lf, Lines, linesOf}
+use Rattle.sheet_format.specs.Bytes.{lf, SplitLines, linesOf}
 use Rattle.sheet_format.specs.Sheets.{Sheet}
 use Rattle.sheet_format.proofs.Bytes.{Without}
 use Rattle.sheet_format.proofs.Good.{Good, good}
 use Rattle.sheet_format.specs.Limits.{numbersPerUnit}
 use Rattle.answer_texts.specs.Spelled.{Stage, opening, bindings, sequents, unlines}
-use Rattle.answer_texts.specs.Judging.{showSymbols, Progress, Judgement, invalid, judgeLine as judgeBytes, judgeEnd}
-use Rattle.answer_texts.specs.Judging.{judgeFrom as judgeLines, judge}
+use Rattle.text_judging.specs.Judging.{showSymbols, Progress, judgeLine as judgeBytes, judgeEnd}
+use Rattle.answer_texts.specs.Judgements.{Judgement, invalid}
+use Rattle.text_judging.specs.Judging.{judgeFrom as judgeLines, judge}
 use Rattle.answer_texts.proofs.Splitting.{linesOf-split}
-use Rattle.answer_texts.proofs.Showings.{unseen}
+use Rattle.text_judging.proofs.Showings.{unseen}
 use Rattle.scanning.specs.Ranges.{textLineEnd}
 use Rattle.scanning.proofs.Positions.{drop-length, drop-next, drop-past}
 use Rattle.scanning.proofs.Ranges.{line-end, line-open}
@@ -191,7 +192,7 @@ simulates bytes s h t symbols nodes clauses goal made decoded x w room =
     c : Setting
     c = record { bytes = bytes; table = t; symbols = symbols; nodes = nodes; clauses = clauses; goal = goal; text = x }
 
-    l : Lines
+    l : SplitLines
     l = linesOf x
 
     p : Progress

@@ -15,8 +15,8 @@ use Rattle.node_table.proofs.Decoding.{nodes-of, GoalKind, atom-kind, true-kind
 use Rattle.node_table.proofs.Decoding.{goal-kind}
 use Rattle.answer_texts.specs.TextLines.{TextLine, resultLine, bindingLine, derivationLine}
 use Rattle.answer_texts.specs.Spelled.{Writable, Stage, opening, bindings, sequents}
-use Rattle.answer_texts.specs.Judging.{allow}
-use Rattle.answer_texts.proofs.Reading.{lineBytes}
+use Rattle.text_judging.specs.Judging.{allow}
+use Rattle.text_judging.proofs.Reading.{lineBytes}
 use Rattle.scanning.proofs.Records.{Room, Kept, kept-self}
 use Rattle.line_checking.specs.declared.Registers.{Registers}
 use Rattle.line_checking.specs.Sequents.{Made, broken}

@@ -12,7 +12,7 @@ use Rattle.sheet_format.specs.Bytes.{lf, isNameByte, isLetter, isDigit}
 use Rattle.sheet_format.proofs.Names.{Names}
 use Rattle.answer_texts.specs.Spelling.{spellTerm}
 use Rattle.answer_texts.specs.Spelled.{WritableTerm}
-use Rattle.answer_texts.proofs.Spans.{Stops}
+use Rattle.text_judging.proofs.Spans.{Stops}
 use Rattle.scanning.specs.declared.Scan.{Scan}
 use Rattle.scanning.specs.declared.Scan.the-variants.{Term as Scanned, Malformed}
 use Rattle.scanning.specs.Scanning.{scanTerm}

@@ -9,7 +9,8 @@ use Rattle.sheet_format.specs.Sheets.{Sheet, sheet, readSheet}
 use Rattle.sheet_format.specs.Limits.{numbersPerUnit}
 use Rattle.node_table.specs.Decoding.{decodeSheet}
 use Rattle.node_table.specs.WellMade.{WellMade}
-use Rattle.answer_texts.specs.Judging.{Judgement, valid, invalid, judge}
+use Rattle.answer_texts.specs.Judgements.{Judgement, valid, invalid}
+use Rattle.text_judging.specs.Judging.{judge}
 use Rattle.line_checking.specs.Judging.{Judged, judgeText}
 
 -- A verdict as a judgement.

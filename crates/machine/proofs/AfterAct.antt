@@ -36,7 +36,7 @@ module _ (T : Table) where
       go : (gs : List (Sequent Leaf)) (q : ℕ) → r .goals ≡ q → GoalsAt T n gs w q
           → ResultAt T n (made w (cond (eqb (r .goals) 0) (withMode r provedMode) (dueGoal w r (r .goals - 1))))
           (level1.proceed s gs (b .path) ++ ds)
-      go [] zero e i = rw (eq-eqb (r .goals) 0 e) (record { front = (refl, h .taken); shared = c })
+      go [] zero e i = rw (eq-eqb (r .goals) 0 e) (record { front = (refl, h .taken, e); shared = c })
       go [] (suc q) e i = absurd i
       go (g ∷ gs) zero e i = absurd i
       go (g ∷ gs) (suc q) e i =

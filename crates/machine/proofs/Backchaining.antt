@@ -39,7 +39,8 @@ use Rattle.machine.proofs.Tables.{Table, nodes-are}
 use Rattle.machine.proofs.Terms.{FrameIn, framed-extends, framed-up, environment-extends}
 use Rattle.machine.proofs.Stores.{store-up, store-grow}
 use Rattle.machine.proofs.WaitingArguments.{PairsAt, Pushed}
-use Rattle.machine.proofs.Branches.{path-wider, GoalsAt, goals-extends, goals-up, BranchAt, branch-extends, branch-up, Anything}
+use Rattle.machine.proofs.Branches.{path-wider, GoalsAt, goals-extends, goals-up, goals-le, BranchAt, branch-extends}
+use Rattle.machine.proofs.Branches.{branch-up, Anything}
 use Rattle.machine.proofs.Branches.{LeafOf}
 use Rattle.machine.proofs.Configurations.{storeOf, AtomAt, atom-extends, atom-up, PositionAt, position-extends, position-up}
 use Rattle.machine.proofs.Configurations.{position-same, ConfigurationAt}
@@ -345,6 +346,7 @@ module _ (T : Table) (w : List ℕ) (r : Registers) (s : Store) (a : Atom) (k : 
               low = A .low;
             },
             before,
+            goals-le T u (b .goals) w (r .goals) (branch₀ .waiting),
           )
       go false z f = before
 
@@ -439,7 +441,7 @@ module _ (T : Table) (w : List ℕ) (r : Registers) (s : Store) (a : Atom) (k : 
             (prefix-below prefix x (environmentAt w (clauseFrame w r)) (frame₀ .below));
       })
       (environment-extends u w w′ (r .frame) e (atom .frame .frame)) (M .environment) same
-      (qa 0 (omega arith)) (qa 1 (omega arith)) (qa 2 (omega arith)) (qa 3 (omega arith)) (qa 4 (omega arith)) refl in
+      (qa 0 (omega arith)) (qa 1 (omega arith)) (qa 2 (omega arith)) (qa 3 (omega arith)) (qa 4 (omega arith)) refl (omega arith) in
       let sh = shared-grow T u w w′ (r .next) (r .trail) (r .choice) s ds gr shared in
       let ln : lineAt w′ u 7 ≡ Dclause k (freshVariables prefix x) =
       ap₂ Dclause (pa 2 (omega arith) ∙ place) (ap₂ variablesFrom (pa 3 (omega arith) ∙ sym (names-length (m .count) (m .names))) na

@@ -146,32 +146,38 @@ module _ (T : Table) where
   abbrev pub sheetFrom : ℕ → ℕ → Program Leaf
   sheetFrom c i = sheetProgram (clausesFrom (T .numbers) c i) startEnvironment
 
-  -- A program: assumptions, then the sheet's clauses.
+  -- A program: assumptions, each in an earlier record than the one before it, then the sheet's clauses.
   pub data ProgramAt (n : ℕ) (w : List ℕ) : ℕ → Program Leaf → Type 0 where
     program-sheet : ProgramAt n w zero (sheetFrom (T .clauses) 0)
     program-more : {c : Clause} {e : Environment Leaf} {P : Program Leaf} (r : ℕ) → r < n → ClauseOf (field w r fields.assumptionNode)
         → FrameAt n w (field w r fields.assumptionFrame)
         → clauseAtNode (T .numbers) (field w r fields.assumptionNode) ≡ c → environmentAt w (field w r fields.assumptionFrame) ≡ e
-        → ProgramAt n w (field w r fields.assumptionNext) P → ProgramAt n w (suc r) (hypothesis c e ∷ P)
+        → ProgramAt n w (field w r fields.assumptionNext) P → field w r fields.assumptionNext ≤ r
+        → ProgramAt n w (suc r) (hypothesis c e ∷ P)
 
   -- A program stays in an extended memory.
   pub program-extends : (n : ℕ) (w w′ : List ℕ) {h : ℕ} {P : Program Leaf} → Extends fields.constantLevel n w w′ → ProgramAt n w h P
       → ProgramAt n w′ h P
   program-extends n w w′ e program-sheet = program-sheet
-  program-extends n w w′ e (program-more {P = P} r l c f i j p) =
+  program-extends n w w′ e (program-more {P = P} r l c f i j p b) =
       let e₁ = e .old r fields.assumptionNode l (omega arith) (omega arith) in
       let e₂ = e .old r fields.assumptionFrame l (omega arith) (omega arith) in
       let e₃ = e .old r fields.assumptionNext l (omega arith) (omega arith) in
       program-more r l (rw e₁ c) (rw e₂ (frame-extends n w w′ (field w r fields.assumptionFrame) e f)) (ap (clauseAtNode (T .numbers)) e₁
       ∙ i)
       (ap (environmentAt w′) e₂ ∙ environment-extends n w w′ (field w r fields.assumptionFrame) e f ∙ j)
-      (subst (λ (x : ℕ). ProgramAt n w′ x P) (sym e₃) (program-extends n w w′ e p))
+      (subst (λ (x : ℕ). ProgramAt n w′ x P) (sym e₃) (program-extends n w w′ e p)) (rw e₃ b)
 
   -- A program stays one act later.
   pub program-up : (n : ℕ) (w : List ℕ) {h : ℕ} {P : Program Leaf} → ProgramAt n w h P → ProgramAt (suc n) w h P
   program-up n w program-sheet = program-sheet
-  program-up n w (program-more r l c f i j p) =
-      program-more r (omega arith) c (frame-up n w (field w r fields.assumptionFrame) f) i j (program-up n w p)
+  program-up n w (program-more r l c f i j p b) =
+      program-more r (omega arith) c (frame-up n w (field w r fields.assumptionFrame) f) i j (program-up n w p) b
+
+  -- Assumptions were made before.
+  pub program-le : (n : ℕ) (w : List ℕ) {h : ℕ} {P : Program Leaf} → ProgramAt n w h P → h ≤ n
+  program-le n w program-sheet = omega arith
+  program-le n w (program-more r l c f i j p b) = omega arith
 
   -- An open goal in four numbers.
   pub record SequentAt (n : ℕ) (w : List ℕ) (a f h i : ℕ) (g : Sequent Leaf) : Type 0 where
@@ -208,14 +214,14 @@ module _ (T : Table) where
     low = let l = c .low in omega arith;
   }
 
-  -- The goals that wait.
+  -- The goals that wait, each in an earlier record than the one before it.
   unfoldable pub GoalsAt : ℕ → List (Sequent Leaf) → List ℕ → ℕ → Type 0
   GoalsAt n [] w zero = Unit {0}
   GoalsAt n [] w (suc r) = ⊥
   GoalsAt n (g ∷ gs) w zero = ⊥
   GoalsAt n (g ∷ gs) w (suc r) =
       (r < n) × SequentAt n w (field w r fields.goalNode) (field w r fields.goalFrame) (field w r fields.goalProgram)
-      (field w r fields.goalLevel) g × GoalsAt n gs w (field w r fields.goalNext)
+      (field w r fields.goalLevel) g × GoalsAt n gs w (field w r fields.goalNext) × (field w r fields.goalNext ≤ r)
 
   -- The goals that wait stay in an extended memory.
   pub goals-extends : (n : ℕ) (gs : List (Sequent Leaf)) (w w′ : List ℕ) (p : ℕ) → Extends fields.constantLevel n w w′ → GoalsAt n gs w p
@@ -237,6 +243,7 @@ module _ (T : Table) where
         sequent-extends n w w′ (field w r fields.goalNode) (field w r fields.goalFrame) (field w r fields.goalProgram)
             (field w r fields.goalLevel) g e (c .1),
         goals-extends n gs w w′ (field w r fields.goalNext) e (c .2),
+        c .3,
       )
 
   -- The goals that wait stay one act later.
@@ -250,7 +257,16 @@ module _ (T : Table) where
     sequent-up n w (field w r fields.goalNode) (field w r fields.goalFrame) (field w r fields.goalProgram)
         (field w r fields.goalLevel) g (c .1),
     goals-up n gs w (field w r fields.goalNext) (c .2),
+    c .3,
   )
+
+  -- Goals that wait were made before.
+  pub goals-le : (n : ℕ) (gs : List (Sequent Leaf)) (w : List ℕ) (p : ℕ) → GoalsAt n gs w p → p ≤ n
+  unfolding GoalsAt
+  goals-le n [] w zero c = omega arith
+  goals-le n [] w (suc r) c = absurd c
+  goals-le n (g ∷ gs) w zero c = absurd c
+  goals-le n (g ∷ gs) w (suc r) c = let l = c .0 in omega arith
 
   -- A branch: the goals that wait and the path.
   pub record BranchAt (n x : ℕ) (w : List ℕ) (goals path line : ℕ) (b : Branch) : Type 0 where

@@ -36,7 +36,8 @@ use Rattle.machine.proofs.Terms.{FrameIn, framed-extends, framed-up, en
 use Rattle.machine.proofs.Terms.{word-closure, word-extends, word-up}
 use Rattle.machine.proofs.Bindings.{cell}
 use Rattle.machine.proofs.Stores.{CellAt, StoreAt, store-grow, store-up, store-lower, store-bind}
-use Rattle.machine.proofs.WaitingArguments.{PairsAt, NodesAt, pairs-extends, pairs-up, nodes-extends, nodes-up, push-nodes}
+use Rattle.machine.proofs.WaitingArguments.{PairsAt, NodesAt, pairs-extends, pairs-up, nodes-extends, nodes-up, nodes-before}
+use Rattle.machine.proofs.WaitingArguments.{push-nodes}
 use Rattle.machine.proofs.Branches.{BranchAt, branch-extends, branch-up}
 use Rattle.machine.proofs.Configurations.{storeOf, ConfigurationAt}
 use Rattle.machine.proofs.ChoicePoints.{bounded-next, alternatives-noted, SharedAt, shared-same, ResultAt}
@@ -243,7 +244,8 @@ module _ (T : Table) where
         (rw (← environment-extends u w w′ f h₀ (hf .frame), ← e₀, ← e₁)
         (push-nodes T (childCount (T .numbers) (field w′ u fields.waitingNode)) (suc u) (s .next) w′ ns u 0 (omega arith) (omega arith)
         (rw e₀ a) (rw e₁ (framed-up u (s .next) (s .next) w′ f (omega arith) (framed-extends u (s .next) w w′ f h₀ hf))) (omega arith)
-        (rw e₂ (nodes-up T u (s .next) (s .next) ns w′ e (omega arith) (nodes-extends T u (s .next) ns w w′ e h₀ h))))))
+        (rw e₂ (nodes-up T u (s .next) (s .next) ns w′ e (omega arith) (nodes-extends T u (s .next) ns w w′ e h₀ h)))
+        (rw e₂ (nodes-before T u (s .next) ns w e h)))))
 
     -- By the node's word: level 1's `visit`.
     pub visit-result : (x : ℕ) (p : Term Leaf) → WordAt T (r .acts) (s .next) w x p → Leaves p (Below (s .next))

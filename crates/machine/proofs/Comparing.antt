@@ -29,7 +29,7 @@ use Rattle.machine.proofs.MemoryOrder.{Grow, extends-22, grow-refl, gro
 use Rattle.machine.proofs.Tables.{Table, Applied, applied, node-small, same-count}
 use Rattle.machine.proofs.Terms.{FrameIn, framed-extends, framed-up, environment-extends, WordAt, word-variable, word-constant}
 use Rattle.machine.proofs.Terms.{word-closure, word-up}
-use Rattle.machine.proofs.WaitingArguments.{PairsAt, pairs-extends, pairs-up, Pushed, push-pairs}
+use Rattle.machine.proofs.WaitingArguments.{PairsAt, pairs-extends, pairs-up, pairs-before, Pushed, push-pairs}
 use Rattle.machine.proofs.Branches.{BranchAt, branch-extends, branch-up}
 use Rattle.machine.proofs.Configurations.{storeOf, ConfigurationAt}
 use Rattle.machine.proofs.ChoicePoints.{alternatives-up, SharedAt, shared-grow, ResultAt, failed-result}
@@ -58,14 +58,14 @@ pub push-held : (T : Table) (n v : ℕ) (w : List ℕ) (ps : List Pair) (u a f b
     → Applied T a → Applied T b → FrameIn n v w f → FrameIn n v w g
     → environmentAt w f ≡ x → environmentAt w g ≡ y → labelOf (T .numbers) a ≡ labelOf (T .numbers) b
     → field w u fields.goalSideNode ≡ a → field w u fields.goalSideFrame ≡ f → field w u fields.clauseSideNode ≡ b
-    → field w u fields.clauseSideFrame ≡ g → field w u fields.pairsAfter ≡ e → PairsAt T n v ps w e
+    → field w u fields.clauseSideFrame ≡ g → field w u fields.pairsAfter ≡ e → PairsAt T n v ps w e → e < 4 * suc u
     → Pushed T n v w (pushPairs (substitutes (argumentsAt (T .numbers) a) x) (substitutes (argumentsAt (T .numbers) b) y) ps)
     (pairsFrom (T .numbers) w (suc u) 0)
 unfolding argumentsAt
-push-held T n v w ps u a f b g e x y small l aa ab hf hg ex ey lab e₀ e₁ e₂ e₃ e₄ p =
+push-held T n v w ps u a f b g e x y small l aa ab hf hg ex ey lab e₀ e₁ e₂ e₃ e₄ p d =
     rw (← ex, ← ey, ← same-count T a b aa ab lab, ← e₀, ← e₁, ← e₂, ← e₃)
     (push-pairs T (childCount (T .numbers) (field w u fields.goalSideNode)) n v w ps u 0 small l (rw e₀ aa) (rw e₂ ab) (rw e₁ hf) (rw e₃ hg)
-    (rw (e₀, e₂) (same-count T a b aa ab lab)) (omega arith) (rw e₄ p))
+    (rw (e₀, e₂) (same-count T a b aa ab lab)) (omega arith) (rw e₄ p) (rw e₄ d))
 
 -- One act, in the registers r at the branch b of the store s.
 module _ (T : Table) (w : List ℕ) (r : Registers) (s : Store) (b : Branch) (ds : List Configuration)
@@ -122,7 +122,8 @@ module _ (T : Table) (w : List ℕ) (r : Registers) (s : Store) (b : Branch) (ds
       (framed-up u (s .next) (s .next) w′ g (omega arith) (framed-extends u (s .next) w w′ g h hg))
       (environment-extends u w w′ f h (hf .frame)) (environment-extends u w w′ g h (hg .frame)) lab
       (at 0 (omega arith)) (at 1 (omega arith)) (at 2 (omega arith)) (at 3 (omega arith)) (at 4 (omega arith))
-      (pairs-up T u (s .next) (s .next) ps w′ e (omega arith) (pairs-extends T u (s .next) ps w w′ e h p)) in
+      (pairs-up T u (s .next) (s .next) ps w′ e (omega arith) (pairs-extends T u (s .next) ps w w′ e h p))
+      (pairs-before T u (s .next) ps w e p) in
       rw (increment-small u (omega arith))
       (pushed-result T (suc u) w′ r s b ds _ (pairsFrom (T .numbers) w′ (suc u) 0) P
       (branch-up T u (s .next) w′ (r .goals) (r .path) (r .line) b

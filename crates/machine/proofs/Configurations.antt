@@ -55,6 +55,7 @@ module _ (T : Table) where
   unfoldable pub RestAt : ℕ → List ℕ → ℕ → ℕ → List (Entry Leaf) → Type 0
   RestAt n w zero i rest = (i < T .clauses) × (rest ≡ entries (sheetFrom T (T .clauses - suc i) (suc i)))
   RestAt n w (suc r) i rest = (r < n) × (P : Program Leaf) × ProgramAt T n w (field w r fields.assumptionNext) P × (rest ≡ entries P)
+      × (field w r fields.assumptionNext ≤ r)
 
   -- The members from the one that the registers name.
   pub record PositionAt (n : ℕ) (w : List ℕ) (r : Registers) (es : List (Entry Leaf)) : Type 0 where
@@ -103,7 +104,7 @@ module _ (T : Table) where
   ConfigurationAt n w r (match (pairs s ps) b) = CompareAt n (s .next) w r ps b
   ConfigurationAt n w r (match (check s y t x ns ps) b) = CheckAt n (s .next) w r y t x ns ps b
   ConfigurationAt n w r (match fail b) = ⊥
-  ConfigurationAt n w r (done s ls) = (r .mode ≡ provedMode) × PathAt n (s .next) ls w (r .path) (r .line)
+  ConfigurationAt n w r (done s ls) = (r .mode ≡ provedMode) × PathAt n (s .next) ls w (r .path) (r .line) × (r .goals ≡ 0)
 
   -- They stay.
   pub atom-extends : (n x : ℕ) (w w′ : List ℕ) (m f h i : ℕ) (a : Atom) → Extends fields.constantLevel n w w′ → AtomAt n x w m f h i a
@@ -141,13 +142,14 @@ module _ (T : Table) where
     subst (λ (x : ℕ). ProgramAt T n w′ x (c .1)) (sym (e .old r fields.assumptionNext (c .0) (omega arith) (omega arith)))
         (program-extends T n w w′ e (c .2)),
     c .3,
+    rw (e .old r fields.assumptionNext (c .0) (omega arith) (omega arith)) (c .4),
   )
 
   -- The members of the clauses after a position stay one act later.
   rest-up : (n : ℕ) (w : List ℕ) (h i : ℕ) (rest : List (Entry Leaf)) → RestAt n w h i rest → RestAt (suc n) w h i rest
   unfolding RestAt
   rest-up n w zero i rest c = c
-  rest-up n w (suc r) i rest c = (let l = c .0 in omega arith, c .1, program-up T n w (c .2), c .3)
+  rest-up n w (suc r) i rest c = (let l = c .0 in omega arith, c .1, program-up T n w (c .2), c .3, c .4)
 
   -- The node and the frame of the clause to try stay in an extended memory.
   pub clause-extends : (n : ℕ) (w w′ : List ℕ) (r : Registers) (rest : List (Entry Leaf)) → Extends fields.constantLevel n w w′
@@ -252,7 +254,7 @@ module _ (T : Table) where
     branch = branch-extends T n (s .next) w w′ (r .goals) (r .path) (r .line) b e (h .branch);
   }
   configuration-extends n w w′ r (match fail b) e h = h
-  configuration-extends n w w′ r (done s ls) e h = (h .0, path-extends n (s .next) ls w w′ (r .path) (r .line) e (h .1))
+  configuration-extends n w w′ r (done s ls) e h = (h .0, path-extends n (s .next) ls w w′ (r .path) (r .line) e (h .1), h .2)
 
   -- The whole configuration stays one act later.
   pub configuration-up : (n : ℕ) (w : List ℕ) (r : Registers) (c : Configuration) → ConfigurationAt n w r c → ConfigurationAt (suc n) w r c
@@ -286,4 +288,4 @@ module _ (T : Table) where
     branch = branch-up T n (s .next) w (r .goals) (r .path) (r .line) b (h .branch);
   }
   configuration-up n w r (match fail b) h = h
-  configuration-up n w r (done s ls) h = (h .0, path-up n (s .next) ls w (r .path) (r .line) (h .1))
+  configuration-up n w r (done s ls) h = (h .0, path-up n (s .next) ls w (r .path) (r .line) (h .1), h .2)

@@ -33,8 +33,8 @@ use Rattle.machine.proofs.MemoryOrder.{Extends, Grow, extends-22, grow-
 use Rattle.machine.proofs.Tables.{Table, nodes-are}
 use Rattle.machine.proofs.Terms.{constant-at, constant-leaf}
 use Rattle.machine.proofs.Stores.{store-up, store-grow}
-use Rattle.machine.proofs.Branches.{LineBelow, PathAt, path-extends, path-wider, GoalOf, ProgramAt, program-more, SequentAt}
-use Rattle.machine.proofs.Branches.{sequent-extends, sequent-up, GoalsAt, goals-extends, goals-up, BranchAt}
+use Rattle.machine.proofs.Branches.{LineBelow, PathAt, path-extends, path-wider, GoalOf, ProgramAt, program-more, program-le}
+use Rattle.machine.proofs.Branches.{SequentAt, sequent-extends, sequent-up, GoalsAt, goals-extends, goals-up, goals-le, BranchAt}
 use Rattle.machine.proofs.Configurations.{storeOf, ConfigurationAt}
 use Rattle.machine.proofs.ChoicePoints.{bounded-next, alternatives-wider, SharedAt, shared-grow, ResultAt}
 use Rattle.machine.proofs.AfterAct.{proceed-result}
@@ -168,7 +168,7 @@ module _ (T : Table) (w : List ℕ) (r : Registers) (s : Store) (g : Sequent Lea
           record {
             waiting =
                 rw (f 0 (omega arith), f 1 (omega arith), f 2 (omega arith), f 3 (omega arith), f 4 (omega arith))
-                (omega arith, right, waiting-later w′ h);
+                (omega arith, right, waiting-later w′ h, goals-le T u (b .goals) w (r .goals) (branch₀ .waiting));
             taken =
                 path-pushed u (s .next) w w′ (r .path) (r .line) 1 (plain Dand) (b .path) h (e 0 (omega arith)) (e 1 (omega arith)) refl
                 (line-plain (s .next) w′ u 1 (omega arith) (λ q. omega arith)) (branch₀ .taken);
@@ -223,7 +223,7 @@ module _ (T : Table) (w : List ℕ) (r : Registers) (s : Store) (g : Sequent Lea
             program =
                 program-more u (omega arith) (rw f₀ (omega arith, a .1)) (rw f₁ (c .frame)) (ap (clauseAtNode t) f₀)
                 (ap (environmentAt w′) f₁ ∙ c .environment)
-                (subst (λ (x : ℕ). ProgramAt T (suc u) w′ x (g .program)) (sym f₂) (c .program));
+                (subst (λ (x : ℕ). ProgramAt T (suc u) w′ x (g .program)) (sym f₂) (c .program)) (rw f₂ (program-le T u w (goal .program)));
             level = c .level;
             low = c .low;
           },

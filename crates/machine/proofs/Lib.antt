@@ -25,6 +25,8 @@ pub mod BackchainingActs
 pub mod Lengths
 pub mod Acts
 pub mod Start
+pub mod ReadingStates
+pub mod Standing
 pub mod Simulation
 pub mod Proved
 pub mod Promises

@@ -31,6 +31,24 @@ use Rattle.machine.proofs.Comparing.{compare-result}
 use Rattle.machine.proofs.Checking.{visit-result}
 use Rattle.memory.specs.Records.{field}
 
+-- The node that is due has its word, and the nodes left wait after it.
+pub due-word : (T : Table) (w : List ℕ) (r : Registers) → r .acts ≤ maxBudget → (v : ℕ) (t x : Term Leaf) (ns : List (Term Leaf))
+    → WordAt T (r .acts) v w (r .value) t → DueAt T (r .acts) v w (r .nodes) t x ns
+    → WordAt T (r .acts) v w (dueWord (T .numbers) w r) x × NodesAt T (r .acts) v ns w (nodesAfter (T .numbers) w (r .nodes))
+unfolding dueWord nodesAfter NodesAt
+due-word T w r small n t x ns v (inl d) = rw (eq-eqb (r .nodes) 0 (d .0), d .1, d .2) (v, refl)
+due-word T w r small n t x ns v (inr d) =
+    let u = r .acts in
+    let q = d .0 in
+    let j = d .1 in
+    let e = d .2 in
+    let k = few-arguments T (field w q fields.waitingNode) j (d .4 .node) (d .4 .more) in
+    let e₀ : r .nodes / 4 ≡ suc q = ap (λ (z : ℕ). z / 4) e ∙ position-record (suc q) j k in
+    let e₁ : r .nodes % 4 + 1 ≡ suc j = ap (λ (z : ℕ). z % 4 + 1) e ∙ ap (λ (z : ℕ). z + 1) (position-argument (suc q) j k)
+    ∙ (omega arith) in
+    rw (ne-eqb (r .nodes) 0 (λ z. omega arith), e₀, e₁)
+    (position-word T u n w (r .nodes) q j fields.goalSideNode x small e (d .4), d .5)
+
 module _ (T : Table) (w : List ℕ) (r : Registers) (b : Branch) (ds : List Configuration)
     (room : numbersPerUnit * suc (r .acts) ≤ length w) (small : r .acts < maxBudget) where
   -- Comparing the pair that is due.
@@ -45,8 +63,8 @@ module _ (T : Table) (w : List ℕ) (r : Registers) (b : Branch) (ds : List Conf
       let q = P .0 in
       let j = P .1 in
       let e = P .2 in
-      let good = i .1 .0 .formed in
-      let below = i .1 .1 .0 in
+      let good = i .0 .formed in
+      let below = i .1 .0 in
       let k = few-arguments T (field w q fields.goalSideNode) j (P .4 .node) (P .4 .more) in
       let a₁ : WordAt T u (s .next) w (argumentWord (T .numbers) w (r .pairs) fields.goalSideNode) (p .goal) =
       position-word T u (s .next) w (r .pairs) q j fields.goalSideNode (p .goal) (omega arith) e (P .4) in
@@ -66,24 +84,6 @@ module _ (T : Table) (w : List ℕ) (r : Registers) (b : Branch) (ds : List Conf
       (deref u w (argumentWord (T .numbers) w (r .pairs) fields.goalSideNode))
       (deref u w (argumentWord (T .numbers) w (r .pairs) fields.clauseSideNode)) (look bs (p .goal)) (look bs (p .clause)) ps x₁ x₂ (P .6))
 
-  -- The node that is due has its word, and the nodes left wait after it.
-  due-word : (v : ℕ) (t x : Term Leaf) (ns : List (Term Leaf)) → WordAt T (r .acts) v w (r .value) t
-      → DueAt T (r .acts) v w (r .nodes) t x ns
-      → WordAt T (r .acts) v w (dueWord (T .numbers) w r) x × NodesAt T (r .acts) v ns w (nodesAfter (T .numbers) w (r .nodes))
-  unfolding dueWord nodesAfter NodesAt
-  due-word n t x ns v (inl d) = rw (eq-eqb (r .nodes) 0 (d .0), d .1, d .2) (v, refl)
-  due-word n t x ns v (inr d) =
-      let u = r .acts in
-      let q = d .0 in
-      let j = d .1 in
-      let e = d .2 in
-      let k = few-arguments T (field w q fields.waitingNode) j (d .4 .node) (d .4 .more) in
-      let e₀ : r .nodes / 4 ≡ suc q = ap (λ (z : ℕ). z / 4) e ∙ position-record (suc q) j k in
-      let e₁ : r .nodes % 4 + 1 ≡ suc j = ap (λ (z : ℕ). z % 4 + 1) e ∙ ap (λ (z : ℕ). z + 1) (position-argument (suc q) j k)
-      ∙ (omega arith) in
-      rw (ne-eqb (r .nodes) 0 (λ z. omega arith), e₀, e₁)
-      (position-word T u n w (r .nodes) q j fields.goalSideNode x (omega arith) e (d .4), d .5)
-
   -- Looking at the node that is due.
   pub check-act : (s : Store) (y : ℕ) (t x : Term Leaf) (ns : List (Term Leaf)) (ps : List Pair) → Invariant (match (check s y t x ns ps) b)
       → StateAt T (r .acts) w r (match (check s y t x ns ps) b) ds
@@ -92,9 +92,9 @@ module _ (T : Table) (w : List ℕ) (r : Registers) (b : Branch) (ds : List Conf
   check-act s y t x ns ps i st =
       let u = r .acts in
       let f = st .front in
-      let c = i .1 .0 in
+      let c = i .0 in
       let good = c .good .formed in
-      let d = due-word (s .next) t x ns (f .value) (f .nodes) in
+      let d = due-word T w r (omega arith) (s .next) t x ns (f .value) (f .nodes) in
       let m = st .shared .bounded .bindings in
       let bs = s .bindings in
       let v = deref-word T u w s (st .shared .store) (good .bound) (good .below) u (d .0) (c .nodes .0)

@@ -92,13 +92,13 @@ module _ (T : Table) where
   program-members n w r p program-sheet =
       let z : T .clauses - 0 ≡ T .clauses = omega arith in
       subst (λ (c : ℕ). MembersAt n w (withMember r 0 0 0 p) (entries (sheetFrom T c 0))) z (sheet-members n w r 0 p)
-  program-members n w r p (program-more {c = c} {e = e} {P = P} q l a f i j g) =
+  program-members n w r p (program-more {c = c} {e = e} {P = P} q l a f i j g b) =
       let z : suc q - 1 ≡ q = omega arith in
       let d = ne-eqb (suc q) 0 (λ x. omega arith) in
       some-left (rw d)
       (subst (λ (x : Clause). PositionAt T n w (withMember r (suc q) 0 0 p) (map (entry e) (members x) ++ entries P)) i
       (position-start n w (withMember r (suc q) 0 0 p) (field w q fields.assumptionNode) (field w q fields.assumptionFrame) e (entries P)
-      (rw (d, z)) (rw (d, z)) refl a f j (l, P, g, refl)))
+      (rw (d, z)) (rw (d, z)) refl a f j (l, P, g, refl, b)))
 
   -- The member that the position names, and the members after it.
   pub record FirstAt (n : ℕ) (w : List ℕ) (r : Registers) (es : List (Entry Leaf)) : Type 0 where

@@ -19,5 +19,5 @@ machineReports bytes t symbols nodes clauses goal s h budget few work room =
 pub machineFollows : MachineFollows
 unfolding decodeSheet
 machineFollows bytes t symbols nodes clauses goal s h n few work some room =
-    subst (λ (q : Sheet). Stands t (runMachine n t clauses goal work) (after (q .clauses) (q .goal) n)) (h .decoded)
+    subst (λ (q : Sheet). Stands t clauses (runMachine n t clauses goal work) (after (q .clauses) (q .goal) n)) (h .decoded)
     (follows t nodes clauses goal (h .made) n few work some room)

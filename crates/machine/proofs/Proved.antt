@@ -1,17 +1,16 @@
 -- The machine at the end of a proved search: all that the writer may rely on.
-use Prim.Native.Nat.{ℕ, zero, suc, _*_, _≤_}
+use Prim.Native.Nat.{ℕ, _*_, _≤_}
 use native.Mathlib.Omega.{arith}
 use mathlib.Core.Path.{_≡_, _∙_, subst}
 use mathlib.Core.List.{List}
 use lib.ListN.{length}
-use Rattle.formulas.specs.Formulas.{Goal, Clause}
 use Rattle.sequents.specs.Sequents.{Line}
 use Rattle.unification.specs.Store.{Leaf, Store}
 use Rattle.unification.specs.Promises.{Formed}
 use Rattle.search.specs.Configurations.{Configuration, done}
-use Rattle.search.specs.Search.{Verdict, Outcome, ends, proved, search, ComesTo, ComesToFrom, status, start}
+use Rattle.search.specs.Search.{SearchOutcome, ends, proved, search}
 use Rattle.search.proofs.Units.{allUnits}
-use Rattle.search.proofs.After.{proved-all}
+use Rattle.search.proofs.After.{proved-all, comes-least}
 use Rattle.search.proofs.Invariant.{Invariant, step-keeps, start-invariant}
 use Rattle.sheet_format.specs.Limits.{maxBudget, numbersPerUnit}
 use Rattle.node_table.specs.Decoding.{clausesFrom, goalAt}
@@ -32,12 +31,6 @@ pub record ProvedAt (T : Table) (m : Made) (s : Store) (ls : List (Line Leaf)) (
   pub room : numbersPerUnit * n ≤ length (m .memory)
   pub formed : Formed s
 
--- The search takes at least one act.
-not-first : (cs : List Clause) (g : Goal) (v : Verdict) (n : ℕ) → ComesTo cs g n v → 1 ≤ n
-unfolding ComesTo ComesToFrom status start
-not-first cs g v zero h = absurd h
-not-first cs g v (suc n) h = omega arith
-
 -- Every proved search ends in such a state.
 pub proved-at : (T : Table) (budget : ℕ) → budget ≤ maxBudget → (w : List ℕ) → numbersPerUnit * budget ≤ length w
     → (s : Store) (ls : List (Line Leaf)) (n : ℕ)
@@ -48,14 +41,14 @@ proved-at T budget b w l s ls n e =
     let cs = clausesFrom (T .numbers) (T .clauses) 0 in
     let g = goalAt (T .numbers) (T .goal) in
     let m = runMachine budget (T .numbers) (T .clauses) (T .goal) w in
-    let h = subst (λ (o : Outcome). Told T m o) e (told T budget b w l) in
+    let h = subst (λ (o : SearchOutcome). Told T m o) e (told T budget b w l) in
     let k = allUnits cs g .tells budget n (proved s ls) .0 e .1 in
     let z = keepsLength budget (T .numbers) (T .clauses) (startMemory w) (startRegisters (T .goal)) ∙ start-length w in
     record {
       alternatives = h .0;
       state = h .1;
       acts = h .2;
-      first = not-first cs g (proved s ls) n (allUnits cs g .tells budget n (proved s ls) .0 e .0);
+      first = comes-least cs g n (proved s ls) (allUnits cs g .tells budget n (proved s ls) .0 e .0);
       few = omega arith;
       room = omega arith;
       formed = proved-all cs g Invariant (start-invariant cs g) step-keeps budget n s ls e;

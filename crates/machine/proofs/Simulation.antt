@@ -10,12 +10,10 @@ use borrow.Author.Tests.{ltb-true, ltb-false, lt-ltb, le-ltb}
 use Rattle.terms.specs.Lists.{All}
 use Rattle.terms.proofs.Lists.{all-append}
 use Rattle.formulas.specs.Formulas.{Goal, Clause}
-use Rattle.sequents.specs.Sequents.{Line}
-use Rattle.unification.specs.Store.{Leaf, Store}
 use Rattle.unification.specs.Matching.{Matching, pairs, check, fail}
 use Rattle.search.specs.Configurations.{Branch, Configuration, take, try, match, done}
 use Rattle.search.specs.Steps.{step}
-use Rattle.search.specs.Search.{status, start, advance, after, proved, noProof, Outcome, ends, spent, searchFrom, search}
+use Rattle.search.specs.Search.{start, advance, after, verdictOf, proved, noProof, SearchOutcome, ends, spent, searchFrom, search}
 use Rattle.search.proofs.Invariant.{Invariant, step-keeps, start-invariant, after-invariant}
 use Rattle.sheet_format.specs.Limits.{maxBudget, numbersPerUnit}
 use Rattle.node_table.specs.Decoding.{clausesFrom, goalAt}
@@ -23,16 +21,15 @@ use Rattle.machine.specs.declared.Registers.{Registers}
 use Rattle.machine.specs.Records.{Made, made, noMode, provedMode}
 use Rattle.machine.specs.RegisterUpdates.{withActs}
 use Rattle.machine.specs.Machine.{act, runActs, startMemory, startRegisters, runMachine}
-use Rattle.machine.specs.Simulation.{StandsAt, Reports, Stands, Simulates, Follows, Resumes}
+use Rattle.machine.specs.Simulation.{Reports, Simulates, Follows, Resumes}
 use Rattle.machine.proofs.Words.{increment-small}
 use Rattle.machine.proofs.Tables.{Table}
-use Rattle.machine.proofs.Stores.{store-bindings}
-use Rattle.machine.proofs.Branches.{PathAt, path-read}
 use Rattle.machine.proofs.Configurations.{storeOf, CompareAt, ConfigurationAt}
-use Rattle.machine.proofs.ChoicePoints.{SharedAt, StateAt, ResultAt}
+use Rattle.machine.proofs.ChoicePoints.{StateAt, ResultAt}
 use Rattle.machine.proofs.Lengths.{length-act, length-variables, keepsLength}
 use Rattle.machine.proofs.Acts.{mode-due, act-result}
 use Rattle.machine.proofs.Start.{start-result}
+use Rattle.machine.proofs.Standing.{stands-at, stands}
 
 -- Turns of the run.
 run-ended : (n : ℕ) (t : List ℕ) (c : ℕ) (w : List ℕ) (r : Registers) → 4 ≤ r .mode → runActs n t c w r ≡ made w r
@@ -80,28 +77,6 @@ module _ (T : Table) where
   abbrev t : List ℕ
   t = T .numbers
 
-  -- What a state says of a branch.
-  stands-at : (w : List ℕ) (r : Registers) (s : Store) (ds : List Configuration) (ls : List (Line Leaf)) (k : ℕ) → r .mode ≡ k
-      → SharedAt T (r .acts) w (r .next) (r .trail) (r .choice) s ds → PathAt (r .acts) (s .next) ls w (r .path) (r .line)
-      → StandsAt (T .numbers) (made w r) k s ls
-  stands-at w r s ds ls k e sh p = record {
-    mode = e;
-    store = record { next = sh .next; bindings = store-bindings T (r .acts) w s (sh .store); levels = sh .store .levels };
-    path = path-read (r .acts) (r .acts) (s .next) ls w (r .path) (r .line) (omega arith) p;
-  }
-
-  -- What a state says of the search.
-  stands : (w : List ℕ) (r : Registers) (ds : List Configuration) → ResultAt T (r .acts) (made w r) ds → Stands (T .numbers) (made w r) ds
-  unfolding Stands ResultAt ConfigurationAt CompareAt storeOf
-  stands w r [] h = h
-  stands w r (take s g b ∷ ds) h = stands-at w r s ds (b .path) 0 (h .front .0) (h .shared) (h .front .2 .taken)
-  stands w r (try s a m ms k b ∷ ds) h = stands-at w r s ds (b .path) 1 (h .front .mode) (h .shared) (h .front .branch .taken)
-  stands w r (match (pairs s []) b ∷ ds) h = absurd (h .front)
-  stands w r (match (pairs s (p ∷ ps)) b ∷ ds) h = stands-at w r s ds (b .path) 2 (h .front .0) (h .shared) (h .front .2 .taken)
-  stands w r (match (check s y v n ns ps) b ∷ ds) h = stands-at w r s ds (b .path) 3 (h .front .mode) (h .shared) (h .front .branch .taken)
-  stands w r (match fail b ∷ ds) h = h .front
-  stands w r (done s ls ∷ ds) h = stands-at w r s ds ls 4 (h .front .0) (h .shared) (h .front .1)
-
   -- An act adds one to the number of acts.
   act-counts : (w : List ℕ) (r : Registers) → r .acts < maxBudget → act (T .numbers) (T .clauses) w r .registers .acts ≡ suc (r .acts)
   unfolding act withActs
@@ -119,18 +94,19 @@ module _ (T : Table) where
   pub record Following (n : ℕ) (m : Made) (ds : List Configuration) : Type 0 where
     pub result : ResultAt T (m .registers .acts) m ds
     pub counted : m .registers .mode < 4 → m .registers .acts ≡ n
+    pub few : m .registers .acts ≤ n
 
   -- A search that has come to its end stays there.
-  ended : (n : ℕ) (w : List ℕ) (r : Registers) (c : Configuration) (ds : List Configuration) → 4 ≤ r .mode → StateAt T (r .acts) w r c ds
-      → Following (suc n) (made w r) (step n c ++ ds)
+  ended : (n : ℕ) (w : List ℕ) (r : Registers) (c : Configuration) (ds : List Configuration) → 4 ≤ r .mode → r .acts ≤ n
+      → StateAt T (r .acts) w r c ds → Following (suc n) (made w r) (step n c ++ ds)
   unfolding ConfigurationAt CompareAt step ResultAt
-  ended n w r (take s g b) ds d st = absurd (let e = st .front .0 in omega arith)
-  ended n w r (try s a m ms k b) ds d st = absurd (let e = st .front .mode in omega arith)
-  ended n w r (match (pairs s []) b) ds d st = absurd (st .front)
-  ended n w r (match (pairs s (p ∷ ps)) b) ds d st = absurd (let e = st .front .0 in omega arith)
-  ended n w r (match (check s y v x ns ps) b) ds d st = absurd (let e = st .front .mode in omega arith)
-  ended n w r (match fail b) ds d st = absurd (st .front)
-  ended n w r (done s ls) ds d st = record { result = st; counted = λ q. absurd (omega arith) }
+  ended n w r (take s g b) ds d few st = absurd (let e = st .front .0 in omega arith)
+  ended n w r (try s a m ms k b) ds d few st = absurd (let e = st .front .mode in omega arith)
+  ended n w r (match (pairs s []) b) ds d few st = absurd (st .front)
+  ended n w r (match (pairs s (p ∷ ps)) b) ds d few st = absurd (let e = st .front .0 in omega arith)
+  ended n w r (match (check s y v x ns ps) b) ds d few st = absurd (let e = st .front .mode in omega arith)
+  ended n w r (match fail b) ds d few st = absurd (st .front)
+  ended n w r (done s ls) ds d few st = record { result = st; counted = λ q. absurd (omega arith); few = omega arith }
 
   -- One act more follows one step more of the search.
   follow : (n : ℕ) (w : List ℕ) (r : Registers) (ds : List Configuration) → numbersPerUnit * suc n ≤ length w → n < maxBudget
@@ -140,7 +116,7 @@ module _ (T : Table) where
   follow n w r [] l b i f =
       let e = f .result in
       subst (λ (m : Made). Following (suc n) m []) (sym (run-ended 1 t (T .clauses) w r (omega arith)))
-      (record { result = e; counted = λ q. absurd (omega arith) })
+      (record { result = e; counted = λ q. absurd (omega arith); few = let k = f .few in omega arith })
   follow n w r (c ∷ ds) l b i f = go (ltb (r .mode) provedMode) refl
     where
       go : (x : Bool) → ltb (r .mode) provedMode ≡ x → Following (suc n) (runActs 1 t (T .clauses) w r) (step n c ++ ds)
@@ -153,11 +129,12 @@ module _ (T : Table) where
           (record {
             result = subst (λ (j : ℕ). ResultAt T j (act t (T .clauses) w r) (step n c ++ ds)) (sym (k ∙ ap suc e)) R;
             counted = λ z. k ∙ ap suc e;
+            few = omega arith;
           })
       go false q =
           let d = ltb-false (r .mode) provedMode q in
           subst (λ (m : Made). Following (suc n) m (step n c ++ ds)) (sym (run-ended 1 t (T .clauses) w r d))
-          (ended n w r c ds d (f .result))
+          (ended n w r c ds d (f .few) (f .result))
 
   -- The sheet that the table holds.
   abbrev clauses : List Clause
@@ -172,7 +149,7 @@ module _ (T : Table) where
       → Following n (runMachine n (T .numbers) (T .clauses) (T .goal) w)
       (after (clausesFrom (T .numbers) (T .clauses) 0) (goalAt (T .numbers) (T .goal)) n)
   unfolding runMachine runActs after startRegisters
-  following zero w b k l = record { result = start-result T w k; counted = λ q. refl }
+  following zero w b k l = record { result = start-result T w k; counted = λ q. refl; few = omega arith }
   following (suc n) w b k l =
       let m = runMachine n t (T .clauses) (T .goal) w in
       let e : n + 1 ≡ suc n = omega arith in
@@ -186,19 +163,19 @@ module _ (T : Table) where
       (following n w (omega arith) k (omega arith)))
 
   -- What the machine tells, with the whole state at the end of a proved search.
-  unfoldable pub Told : Made → Outcome → Type 0
+  unfoldable pub Told : Made → SearchOutcome → Type 0
   Told m (ends (proved s ls) n) =
       (ds : List Configuration) × StateAt T n (m .memory) (m .registers) (done s ls) ds × (m .registers .acts ≡ n)
   Told m (ends noProof n) = (m .registers .mode ≡ noMode) × (m .registers .acts ≡ n)
   Told m spent = m .registers .mode < 4
 
   -- That is what was stated.
-  told-tells : (m : Made) (o : Outcome) → Told m o → Reports (T .numbers) m o
+  told-tells : (m : Made) (o : SearchOutcome) → Told m o → Reports (T .numbers) m o
   unfolding Told Reports ConfigurationAt storeOf
   told-tells m (ends (proved s ls) n) h =
       let e = h .2 in
       let st = subst (λ (k : ℕ). StateAt T k (m .memory) (m .registers) (done s ls) (h .0)) (sym e) (h .1) in
-      (stands-at (m .memory) (m .registers) s (h .0) ls 4 (st .front .0) (st .shared) (st .front .1), e)
+      (stands-at T (m .memory) (m .registers) s (h .0) ls 4 (st .front .0) (st .shared) (st .front .1), e)
   told-tells m (ends noProof n) h = h
   told-tells m spent h = h
 
@@ -216,21 +193,21 @@ module _ (T : Table) where
       → numbersPerUnit * (u + suc f) ≤ length w → All Invariant (c ∷ ds) → StateAt T u w r c ds → r .mode < 4
       → ((w′ : List ℕ) (r′ : Registers) (ds′ : List Configuration) → r′ .acts ≡ suc u → suc u + f ≤ maxBudget
       → numbersPerUnit * (suc u + f) ≤ length w′ → All Invariant ds′ → ResultAt T (suc u) (made w′ r′) ds′
-      → Told (runActs f (T .numbers) (T .clauses) w′ r′) (searchFrom f (suc u) (status (suc u) ds′)))
-      → Told (runActs (suc f) (T .numbers) (T .clauses) w r) (searchFrom f (suc u) (status (suc u) (step u c ++ ds)))
+      → Told (runActs f (T .numbers) (T .clauses) w′ r′) (searchFrom f (suc u) ds′))
+      → Told (runActs (suc f) (T .numbers) (T .clauses) w r) (searchFrom f (suc u) (step u c ++ ds))
   go-on f u w r c ds e b l i h d ih =
       let m = act t (T .clauses) w r in
       let n = length-act t (T .clauses) w r in
       let k = act-counts w r (omega arith) in
-      subst (λ (x : Made). Told x (searchFrom f (suc u) (status (suc u) (step u c ++ ds)))) (sym (run-due f t (T .clauses) w r d))
+      subst (λ (x : Made). Told x (searchFrom f (suc u) (step u c ++ ds))) (sym (run-due f t (T .clauses) w r d))
       (ih (m .memory) (m .registers) (step u c ++ ds) (k ∙ ap suc e) (omega arith) (omega arith)
       (all-append Invariant (step u c) ds (step-keeps u c (i .0)) (i .1)) (acted u w r c ds e (omega arith) (omega arith) (i .0) d h))
 
   -- What is told within a budget of f acts more, u having been done.
   pub tells : (f u : ℕ) (w : List ℕ) (r : Registers) (ds : List Configuration) → r .acts ≡ u → u + f ≤ maxBudget
       → numbersPerUnit * (u + f) ≤ length w → All Invariant ds → ResultAt T u (made w r) ds
-      → Told (runActs f (T .numbers) (T .clauses) w r) (searchFrom f u (status u ds))
-  unfolding runActs searchFrom status Told ResultAt ConfigurationAt CompareAt storeOf
+      → Told (runActs f (T .numbers) (T .clauses) w r) (searchFrom f u ds)
+  unfolding runActs searchFrom verdictOf advance Told ResultAt ConfigurationAt CompareAt storeOf
   tells zero u w r [] e b l i h = (h, e)
   tells zero u w r (take s g x ∷ ds) e b l i h = let d = h .front .0 in omega arith
   tells zero u w r (try s a m ms k x ∷ ds) e b l i h = let d = h .front .mode in omega arith
@@ -256,7 +233,7 @@ module _ (T : Table) where
   pub told : (budget : ℕ) → budget ≤ maxBudget → (w : List ℕ) → numbersPerUnit * budget ≤ length w
       → Told (runMachine budget (T .numbers) (T .clauses) (T .goal) w)
       (search budget (clausesFrom (T .numbers) (T .clauses) 0) (goalAt (T .numbers) (T .goal)))
-  unfolding runMachine search runActs Told start status searchFrom startRegisters
+  unfolding runMachine search runActs Told start verdictOf searchFrom startRegisters
   told zero b w l = omega arith
   told (suc f) b w l =
       let n = start-length w in
@@ -274,4 +251,6 @@ pub follows : Follows
 follows t nodes clauses goal made n b w k l =
     let T : Table = record { numbers = t; nodes = nodes; clauses = clauses; goal = goal; made = made } in
     let m = runMachine n t clauses goal w in
-    stands T (m .memory) (m .registers) (after (clausesFrom t clauses 0) (goalAt t goal) n) (following T n w b k l .result)
+    let f = following T n w b k l in
+    let few = f .few in
+    stands T (after (clausesFrom t clauses 0) (goalAt t goal) n) (m .memory) (m .registers) (omega arith) (f .result)

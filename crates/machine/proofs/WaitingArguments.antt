@@ -52,14 +52,14 @@ module _ (T : Table) where
     pub more : i < childCount (T .numbers) a
     pub is : substitute (termAt (T .numbers) (childOf (T .numbers) a i)) (environmentAt w f) ≡ s
 
-  -- Pairs from a position on.
+  -- Pairs from a position on. What comes after a record is in an earlier one.
   unfoldable pub PairsAt : ℕ → ℕ → List Pair → List ℕ → ℕ → Type 0
   PairsAt n x [] w a = a ≡ 0
   PairsAt n x (q ∷ ps) w a =
       (r : ℕ) × (i : ℕ) × (a ≡ 4 * suc r + i) × (r < n)
       × ArgumentAt n x w (field w r fields.goalSideNode) (field w r fields.goalSideFrame) i (q .goal)
       × ArgumentAt n x w (field w r fields.clauseSideNode) (field w r fields.clauseSideFrame) i (q .clause)
-      × PairsAt n x ps w (pairsFrom (T .numbers) w (suc r) (suc i))
+      × PairsAt n x ps w (pairsFrom (T .numbers) w (suc r) (suc i)) × (field w r fields.pairsAfter < 4 * suc r)
 
   -- Nodes from a position on.
   unfoldable pub NodesAt : ℕ → ℕ → List (Term Leaf) → List ℕ → ℕ → Type 0
@@ -67,7 +67,7 @@ module _ (T : Table) where
   NodesAt n x (s ∷ ss) w a =
       (r : ℕ) × (i : ℕ) × (a ≡ 4 * suc r + i) × (r < n)
       × ArgumentAt n x w (field w r fields.waitingNode) (field w r fields.waitingFrame) i s
-      × NodesAt n x ss w (nodesFrom (T .numbers) w (suc r) (suc i))
+      × NodesAt n x ss w (nodesFrom (T .numbers) w (suc r) (suc i)) × (field w r fields.waitingAfter < 4 * suc r)
 
   -- They stay.
   argument-extends : (n x : ℕ) (w w′ : List ℕ) (a f i : ℕ) (s : Term Leaf) → Extends fields.constantLevel n w w′
@@ -129,6 +129,7 @@ module _ (T : Table) where
         argument-fields n x w w′ r fields.goalSideNode i (q .goal) h l (omega arith) (omega arith) (c .4),
         argument-fields n x w w′ r fields.clauseSideNode i (q .clause) h l (omega arith) (omega arith) (c .5),
         rw (pairs-from-extends n w w′ r (suc i) h l) (pairs-extends n x ps w w′ (pairsFrom (T .numbers) w (suc r) (suc i)) h (c .6)),
+        rw (h .old r fields.pairsAfter l (omega arith) (omega arith)) (c .7),
       )
 
   -- Pairs that wait stay one act later.
@@ -146,6 +147,7 @@ module _ (T : Table) where
         argument-up n x y w (field w r fields.goalSideNode) (field w r fields.goalSideFrame) i (q .goal) b (c .4),
         argument-up n x y w (field w r fields.clauseSideNode) (field w r fields.clauseSideFrame) i (q .clause) b (c .5),
         pairs-up n x y ps w (pairsFrom (T .numbers) w (suc r) (suc i)) b (c .6),
+        c .7,
       )
 
   -- Nodes that wait stay in an extended memory.
@@ -163,6 +165,7 @@ module _ (T : Table) where
         l,
         argument-fields n x w w′ r fields.goalSideNode i s h l (omega arith) (omega arith) (c .4),
         rw (nodes-from-extends n w w′ r (suc i) h l) (nodes-extends n x ss w w′ (nodesFrom (T .numbers) w (suc r) (suc i)) h (c .5)),
+        rw (h .old r fields.waitingAfter l (omega arith) (omega arith)) (c .6),
       )
 
   -- Nodes that wait stay one act later.
@@ -179,7 +182,28 @@ module _ (T : Table) where
         omega arith,
         argument-up n x y w (field w r fields.waitingNode) (field w r fields.waitingFrame) i s b (c .4),
         nodes-up n x y ss w (nodesFrom (T .numbers) w (suc r) (suc i)) b (c .5),
+        c .6,
       )
+
+  -- Pairs that wait are arguments of records made before.
+  pub pairs-before : (n x : ℕ) (ps : List Pair) (w : List ℕ) (a : ℕ) → PairsAt n x ps w a → a < 4 * suc n
+  unfolding PairsAt
+  pairs-before n x [] w a c = omega arith
+  pairs-before n x (q ∷ ps) w a c =
+      let e = c .2 in
+      let l = c .3 in
+      let k = few-arguments T (field w (c .0) fields.goalSideNode) (c .1) (c .4 .node) (c .4 .more) in
+      omega arith
+
+  -- Nodes that wait are arguments of records made before.
+  pub nodes-before : (n x : ℕ) (ss : List (Term Leaf)) (w : List ℕ) (a : ℕ) → NodesAt n x ss w a → a < 4 * suc n
+  unfolding NodesAt
+  nodes-before n x [] w a c = omega arith
+  nodes-before n x (s ∷ ss) w a c =
+      let e = c .2 in
+      let l = c .3 in
+      let k = few-arguments T (field w (c .0) fields.waitingNode) (c .1) (c .4 .node) (c .4 .more) in
+      omega arith
 
   -- Pushing the arguments of a record.
   pub record Pushed (n x : ℕ) (w : List ℕ) (o : Option (List Pair)) (a : ℕ) : Type 0 where
@@ -193,20 +217,21 @@ module _ (T : Table) where
       → FrameIn n x w (field w r fields.clauseSideFrame)
       → childCount (T .numbers) (field w r fields.goalSideNode) ≡ childCount (T .numbers) (field w r fields.clauseSideNode)
       → i + k ≡ childCount (T .numbers) (field w r fields.goalSideNode) → PairsAt n x ps w (field w r fields.pairsAfter)
+      → field w r fields.pairsAfter < 4 * suc r
       → Pushed n x w
       (pushPairs (substitutes (childrenBy (termAt (T .numbers)) (T .numbers) (field w r fields.goalSideNode) k i)
       (environmentAt w (field w r fields.goalSideFrame)))
       (substitutes (childrenBy (termAt (T .numbers)) (T .numbers) (field w r fields.clauseSideNode) k i)
       (environmentAt w (field w r fields.clauseSideFrame))) ps) (pairsFrom (T .numbers) w (suc r) i)
   unfolding childrenBy substitutes pushPairs PairsAt
-  push-pairs zero n x w ps r i z l a b f g e q h =
+  push-pairs zero n x w ps r i z l a b f g e q h d =
       record {
         list = ps;
         is = refl;
         there = rw (pairs-from (T .numbers) w r i, le-ltb i (childCount (T .numbers) (field w r fields.goalSideNode)) (omega arith)) h;
       }
-  push-pairs (suc k) n x w ps r i z l a b f g e q h =
-      let c = push-pairs k n x w ps r (suc i) z l a b f g e (omega arith) h in
+  push-pairs (suc k) n x w ps r i z l a b f g e q h d =
+      let c = push-pairs k n x w ps r (suc i) z l a b f g e (omega arith) h d in
       let t = T .numbers in
       record {
         list =
@@ -228,6 +253,7 @@ module _ (T : Table) where
           record { node = a; frame = f; more = omega arith; is = refl },
           record { node = b; frame = g; more = omega arith; is = refl },
           c .there,
+          d,
         );
       }
 
@@ -235,13 +261,14 @@ module _ (T : Table) where
   pub push-nodes : (k n x : ℕ) (w : List ℕ) (ss : List (Term Leaf)) (r i : ℕ) → n ≤ maxBudget → r < n
       → Applied T (field w r fields.waitingNode) → FrameIn n x w (field w r fields.waitingFrame)
       → i + k ≡ childCount (T .numbers) (field w r fields.waitingNode) → NodesAt n x ss w (field w r fields.waitingAfter)
+      → field w r fields.waitingAfter < 4 * suc r
       → NodesAt n x
       (pushTerms (substitutes (childrenBy (termAt (T .numbers)) (T .numbers) (field w r fields.waitingNode) k i)
       (environmentAt w (field w r fields.waitingFrame))) ss) w (nodesFrom (T .numbers) w (suc r) i)
   unfolding childrenBy substitutes pushTerms NodesAt
-  push-nodes zero n x w ss r i z l a f q h =
+  push-nodes zero n x w ss r i z l a f q h d =
       rw (nodes-from (T .numbers) w r i, le-ltb i (childCount (T .numbers) (field w r fields.waitingNode)) (omega arith)) h
-  push-nodes (suc k) n x w ss r i z l a f q h =
+  push-nodes (suc k) n x w ss r i z l a f q h d =
       let t = T .numbers in (
         r,
         i,
@@ -249,7 +276,8 @@ module _ (T : Table) where
             (position-small (suc r) i (omega arith) (few-arguments T (field w r fields.waitingNode) i a (omega arith))),
         l,
         record { node = a; frame = f; more = omega arith; is = refl },
-        push-nodes k n x w ss r (suc i) z l a f (omega arith) h,
+        push-nodes k n x w ss r (suc i) z l a f (omega arith) h d,
+        d,
       )
 
   -- The word of the argument at a position.

@@ -23,8 +23,8 @@ MachineReports = (bytes t : List ℕ) (symbols nodes clauses goal : ℕ) (s : Sh
     → (budget : ℕ) → budget ≤ maxBudget → (work : List ℕ) → numbersPerUnit * budget ≤ length work
     → Reports t (runMachine budget t clauses goal work) (search budget (s .clauses) (s .goal))
 
--- After each number of acts.
+-- After each number of acts: the whole state of the search.
 abbrev pub MachineFollows : Type 0
 MachineFollows = (bytes t : List ℕ) (symbols nodes clauses goal : ℕ) (s : Sheet) → StandsFor bytes t symbols nodes clauses goal s
     → (n : ℕ) → n ≤ maxBudget → (work : List ℕ) → numbersPerUnit ≤ length work → numbersPerUnit * n ≤ length work
-    → Stands t (runMachine n t clauses goal work) (after (s .clauses) (s .goal) n)
+    → Stands t clauses (runMachine n t clauses goal work) (after (s .clauses) (s .goal) n)

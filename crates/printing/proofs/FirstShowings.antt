@@ -7,8 +7,8 @@ use mathlib.Core.List.{List, [], _∷_, _++_, append-assoc, append-nil}
 use lib.ListN.{length, length-append}
 use Rattle.sequents.specs.Symbols.{Symbol}
 use Rattle.answer_texts.specs.Numbering.{sameSymbol, firsts, indexOf}
-use Rattle.answer_texts.proofs.Infer.{sameSymbol-true, sameSymbol-refl}
-use Rattle.answer_texts.proofs.Showings.{has, fresh, has-firsts, firsts-snoc, firsts-append, index-new}
+use Rattle.answer_texts.proofs.FirstShowings.{sameSymbol-true, sameSymbol-refl}
+use Rattle.answer_texts.proofs.FirstShowings.{has, fresh, has-firsts, firsts-snoc, firsts-append, index-new}
 
 -- A list with y added has z if it had z or if y and z are the same symbol.
 has-snoc : (z y : Symbol) (l : List Symbol) → has z (l ++ (y ∷ [])) ≡ (has z l || sameSymbol y z)

@@ -20,8 +20,8 @@ use Rattle.machine.specs.Words.{truncate, tagOf}
 use Rattle.machine.proofs.Words.{increment-small}
 use Rattle.answer_texts.specs.Numbering.{sameSymbol, isMade, madeOnly, leftoverOnly, firsts, indexOf, numberingOf}
 use Rattle.answer_texts.specs.Spelling.{spellSymbol}
-use Rattle.answer_texts.proofs.Showings.{has, madeOnly-append, leftoverOnly-append}
-use Rattle.answer_texts.proofs.Infer.{sameSymbol-refl}
+use Rattle.answer_texts.proofs.FirstShowings.{has, madeOnly-append, leftoverOnly-append}
+use Rattle.answer_texts.proofs.FirstShowings.{sameSymbol-refl}
 use Rattle.printing.specs.declared.Cursor.{Cursor}
 use Rattle.printing.specs.Output.{Written, written, emit, writeBytes, writeSymbol}
 use Rattle.printing.specs.Numbering.{withPosition, withVariables, withConstants, Printer, printer, wrote, numberVariable}

@@ -24,7 +24,7 @@ use Rattle.answer_texts.specs.TextLines.{TextLine, bindingLine, derivationLine,
 use Rattle.answer_texts.specs.Numbering.{madeOnly, leftoverOnly, firsts, shown, numberingOf, numbered}
 use Rattle.answer_texts.specs.Spelling.{proofText, noText, spentText, textLine, join}
 use Rattle.answer_texts.specs.Promises.{searchText}
-use Rattle.answer_texts.proofs.Showings.{has}
+use Rattle.answer_texts.proofs.FirstShowings.{has}
 use Rattle.machine.specs.Records.{Made, provedMode}
 use Rattle.machine.specs.Simulation.{StandsAt}
 use Rattle.printing.specs.declared.Cursor.{Cursor}

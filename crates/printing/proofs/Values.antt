@@ -21,7 +21,7 @@ use Rattle.unification.proofs.Look.{unbound-beyond}
 use Rattle.unification.proofs.Solution.{look-twice, boundTo-unbound, appears-unbound}
 use Rattle.unification.proofs.Valuation.{look-value}
 use Rattle.unification.proofs.General.{general-equations}
-use Rattle.search.specs.Answers.{symbolOf, final}
+use Rattle.search.specs.Answers.{symbolUnder, final}
 use Rattle.search.proofs.Values.{symbols}
 use Rattle.search.proofs.Answers.{leftovers, finalValues, final-valued}
 use Rattle.sheet_format.specs.Limits.{maxBudget, maxNodes, variableNames}
@@ -70,8 +70,8 @@ value-look s u f =
 
 -- That of an unbound variable is a symbol.
 pub value-unbound : (s : Store) (x : ℕ) → Formed s → Unbound (s .bindings) x → final s (var x) ≡ leaf (leftover x (s .level x))
-unfolding final at solution substitute symbolOf
-value-unbound s x f u = ap (λ (t : Term Leaf). substitute t (symbolOf s)) (boundTo-unbound (s .bindings) x (f .bound) u)
+unfolding final at solution substitute symbolUnder
+value-unbound s x f u = ap (λ (t : Term Leaf). substitute t (symbolUnder (s .level))) (boundTo-unbound (s .bindings) x (f .bound) u)
 
 -- What a variable is bound to has only variables below the next number.
 bound-below : (bs : List Binding) (n x : ℕ) → All (BelowBinding n) bs → x < n → Leaves (boundTo bs x) (Below n)
@@ -333,7 +333,7 @@ module _ (t : List ℕ) (nodes : ℕ) (table : Nodes t nodes) (size : nodes ≤ 
     -- A word looked through that is a constant has that made constant as its value.
     pub constant-value : (a : ℕ) → Good a → tagOf (deref acts w a) ≡ constantTag
         → value s (termOf t w a) ≡ leaf (made (nameOf (deref acts w a)) (field w (nameOf (deref acts w a)) fields.constantLevel))
-    unfolding substitute final at symbolOf
+    unfolding substitute final at symbolUnder
     constant-value a g e = sought-value a g ∙ ap (value s) (constant-term (deref acts w a) e)
 
     -- A word looked through that is a closure has an application as its value.
@@ -363,14 +363,14 @@ module _ (t : List ℕ) (nodes : ℕ) (table : Nodes t nodes) (size : nodes ≤ 
 
     -- All symbols of a word's value are as the memory has them.
     pub value-right : (a : ℕ) → Good a → Leaves (value s (termOf t w a)) (Right w (s .next) acts)
-    unfolding Leaves final at solution symbolOf Right Known substitute Below
+    unfolding Leaves final at solution symbolUnder Right Known substitute Below
     value-right a g =
         leaves-substitute (termOf t w a) (final s) (Appears (termOf t w a)) (Right w (s .next) acts)
         (λ c i. each c (appears-leaves (termOf t w a) (Below (s .next)) c (g .1) i)
         (appears-leaves (termOf t w a) Known c (word-known a (g .0)) i))
         (leaves-appear (termOf t w a) (Appears (termOf t w a)) (λ c i. i))
       where
-        of : (x : ℕ) → x < s .next → (c : Leaf) → Appears (solution s x) c → Leaves (symbolOf s c) (Right w (s .next) acts)
+        of : (x : ℕ) → x < s .next → (c : Leaf) → Appears (solution s x) c → Leaves (symbolUnder (s .level) c) (Right w (s .next) acts)
         of x l (var z) i =
             let o = formed .ordered x z l i in
             (o .0, free z (o .0) (appears-unbound (s .bindings) x z (formed .bound) i), sym (levels z (o .0)))
@@ -379,6 +379,6 @@ module _ (t : List ℕ) (nodes : ℕ) (table : Nodes t nodes) (size : nodes ≤ 
 
         each : (c : Leaf) → Below (s .next) c → Known c → Leaves (final s c) (Right w (s .next) acts)
         each (var x) l k =
-            leaves-substitute (solution s x) (symbolOf s) (Appears (solution s x)) (Right w (s .next) acts) (of x l)
+            leaves-substitute (solution s x) (symbolUnder (s .level)) (Appears (solution s x)) (Right w (s .next) acts) (of x l)
             (leaves-appear (solution s x) (Appears (solution s x)) (λ c i. i))
         each (con c j) l k = k

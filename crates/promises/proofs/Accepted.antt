@@ -10,17 +10,18 @@ use lib.ListN.{length, take}
 use borrow.Author.Tests.{ltb-true, le-ltb}
 use Rattle.sheet_format.specs.Limits.{maxSheetBytes, tableNumbers, maxTextBytes}
 use Rattle.sheet_format.specs.Buffers.{demanded}
-use Rattle.sheet_format.specs.Sheets.{Refusal, refusal}
-use Rattle.answer_texts.specs.Judging.{valid, judge}
-use Rattle.answer_texts.specs.Promises.{CheckerExact}
-use Rattle.answer_texts.proofs.Promises.{checkerExact}
+use Rattle.sheet_format.specs.Sheets.{Refusal, refusal, turnBackIf}
+use Rattle.answer_texts.specs.Judgements.{valid}
+use Rattle.text_judging.specs.Judging.{judge}
+use Rattle.text_judging.specs.Promises.{CheckerExact}
+use Rattle.text_judging.proofs.Promises.{checkerExact}
 use Rattle.engine_spec.proofs.Callers.{proved-number}
 use Rattle.engine_spec.specs.EngineRun.{reportedProved, Answer, Result, answered, turnedBack as refusedRun, engineRun, answerAfter}
 use Rattle.engine_spec.specs.Promises.{HandedBack, handedBack, RunContract, RunSound}
 use Rattle.engine_spec.proofs.Answered.{answered-answers}
 use Rattle.engine_spec.proofs.Buffers.{take-front}
 use Rattle.engine_spec.proofs.Promises.{runSound}
-use Rattle.checker_spec.specs.CheckText.{Checked, judged, checkRefused, countLf, checkSheet, turnBackIf, checkText}
+use Rattle.checker_spec.specs.CheckText.{Checked, judged, checkRefused, countLf, checkSheet, checkText}
 use Rattle.checker_spec.specs.Promises.{HandedBack as CheckedBack, handedBack as checkedBack}
 use Rattle.promises.specs.Accepted.{AcceptsWritten, RunChecks}
 
@@ -39,12 +40,12 @@ accepts-written exact sound bytes budget t w a x e h t′ w′ =
         ⊎ ((r : Refusal) × (c ≡ checkRefused r)
         × (((r .number ≡ 2) × (t′ < tableNumbers)) ⊎ ((r .number ≡ 5) × (w′ < demanded (countLf (x .text))))))
 
-    work : (b : Bool) → ltb w′ (demanded (countLf (x .text))) ≡ b → Ends (turnBackIf b 5 (judged valid))
+    work : (b : Bool) → ltb w′ (demanded (countLf (x .text))) ≡ b → Ends (turnBackIf checkRefused b 5 (judged valid))
     work true q = inr (refusal 5 0, refl, inr (refl, ltb-true _ _ q))
     work false q = inl refl
 
     table : (b : Bool) → ltb t′ tableNumbers ≡ b
-        → Ends (turnBackIf b 2 (turnBackIf (ltb w′ (demanded (countLf (x .text)))) 5 (judged valid)))
+        → Ends (turnBackIf checkRefused b 2 (turnBackIf checkRefused (ltb w′ (demanded (countLf (x .text)))) 5 (judged valid)))
     table true q = inr (refusal 2 0, refl, inl (refl, ltb-true _ _ q))
     table false q = work (ltb w′ (demanded (countLf (x .text)))) refl
 

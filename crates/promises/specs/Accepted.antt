@@ -7,7 +7,7 @@ use lib.ListN.{length, take}
 use Rattle.sheet_format.specs.Limits.{tableNumbers}
 use Rattle.sheet_format.specs.Buffers.{demanded}
 use Rattle.sheet_format.specs.Sheets.{Refusal}
-use Rattle.answer_texts.specs.Judging.{valid}
+use Rattle.answer_texts.specs.Judgements.{valid}
 use Rattle.engine_spec.specs.EngineRun.{reportedProved, Answer, answered, engineRun}
 use Rattle.engine_spec.specs.Promises.{HandedBack, RunContract}
 use Rattle.checker_spec.specs.CheckText.{judged, checkRefused, countLf, checkText}

@@ -7,7 +7,7 @@ use Rattle.terms.specs.Lists.{All}
 use Rattle.sheet_format.specs.Limits.{tableNumbers}
 use Rattle.sheet_format.specs.Bytes.{ascii}
 use Rattle.sheet_format.specs.Sheets.{refusal}
-use Rattle.answer_texts.specs.Judging.{valid}
+use Rattle.answer_texts.specs.Judgements.{valid}
 use Rattle.engine_spec.specs.EngineRun.{Reported, reportedProved, reportedNo, reportedSpent, Result, answered, turnedBack, engineRun}
 use Rattle.checker_spec.specs.CheckText.{judged, checkText, countLf}
 

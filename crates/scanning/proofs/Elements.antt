@@ -15,9 +15,9 @@ use Rattle.sheet_format.specs.Limits.{maxNodes, variableNames}
 use Rattle.node_table.specs.Layout.{kindOf, labelOf, applicationKind, variableKind}
 use Rattle.node_table.specs.Decoding.{termAt, declarationsFrom}
 use Rattle.node_table.proofs.Decoding.{Nodes}
-use Rattle.answer_texts.specs.Judging.{sameTerm}
-use Rattle.answer_texts.proofs.Infer.{sameTerm-true}
-use Rattle.scanning.specs.Classes.{nameElement, nodeElement, elementOf, isName, elementSide, elementName, elementNode, sideFrame}
+use Rattle.text_judging.specs.Judging.{sameTerm}
+use Rattle.text_judging.proofs.Infer.{sameTerm-true}
+use Rattle.scanning.specs.Classes.{nameElement, nodeElement, elementOf, isNameElement, elementSide, elementName, elementNode, sideFrame}
 use Rattle.scanning.specs.Instances.{startOf, endOf, sameName}
 use Rattle.scanning.proofs.TermsInText.{SpelledAt, spelled-at-once, same-slots}
 use Rattle.scanning.proofs.Nodes.{TermIn, is-instance, slot-of}
@@ -26,26 +26,26 @@ use Rattle.scanning.proofs.Nodes.{TermIn, is-instance, slot-of}
 
 -- A name v on side s.
 pub record NameNumber (i v s : ℕ) : Type 0 where
-  pub kind : isName i ≡ true
+  pub kind : isNameElement i ≡ true
   pub side : elementSide i ≡ s
   pub name : elementName i ≡ v
 
 -- An application at node m on side s.
 pub record NodeNumber (i m s : ℕ) : Type 0 where
-  pub kind : isName i ≡ false
+  pub kind : isNameElement i ≡ false
   pub side : elementSide i ≡ s
   pub node : elementNode i ≡ m
 
 -- A name's element has the side and the name.
 name-number : (v s : ℕ) → v < variableNames → s < 2 → NameNumber (nameElement s v) v s
-unfolding nameElement isName elementSide elementName
+unfolding nameElement isNameElement elementSide elementName
 name-number v s h k =
     let e : v % 8 ≡ v = omega arith in
     rw e (record { kind = lt-ltb (2 * v + (s + 16)) 2048 (omega arith); side = omega arith; name = omega arith })
 
 -- An application's element has the side and the node.
 pub node-number : (m s : ℕ) → m < 1024 → s < 2 → NodeNumber (nodeElement s m) m s
-unfolding nodeElement isName elementSide elementNode
+unfolding nodeElement isNameElement elementSide elementNode
 node-number m s h k =
     let e : m % 1024 ≡ m = omega arith in
     rw e (record { kind = le-ltb (2 * m + (s + 2048)) 2048 (omega arith); side = omega arith; node = omega arith })
@@ -83,16 +83,16 @@ module _ (b t : List ℕ) (symbols : ℕ) (names : Names (declarationsFrom b t s
 
   -- Element i means the term u: the name stands for it in the frame of its side, or the node's instance there is u.
   pub record Means (i : ℕ) (u : Ground) : Type 0 where
-    pub spelledAt : isName i ≡ true → SpelledAt ds x (startOf w f g i) (endOf w f g i) u
-    pub node : isName i ≡ false → NodeOn (elementNode i) (elementSide i)
-    pub applied : isName i ≡ false → kindOf t (elementNode i) ≡ applicationKind
-    pub instance : isName i ≡ false → u ≡ substitute (termAt t (elementNode i)) (environmentOn (elementSide i))
+    pub spelledAt : isNameElement i ≡ true → SpelledAt ds x (startOf w f g i) (endOf w f g i) u
+    pub node : isNameElement i ≡ false → NodeOn (elementNode i) (elementSide i)
+    pub applied : isNameElement i ≡ false → kindOf t (elementNode i) ≡ applicationKind
+    pub instance : isNameElement i ≡ false → u ≡ substitute (termAt t (elementNode i)) (environmentOn (elementSide i))
 
   -- An element means one term only.
   pub means-once : (i : ℕ) (u v : Ground) → Means i u → Means i v → u ≡ v
-  means-once i u v h k = go (isName i) refl
+  means-once i u v h k = go (isNameElement i) refl
     where
-      go : (z : Bool) → isName i ≡ z → u ≡ v
+      go : (z : Bool) → isNameElement i ≡ z → u ≡ v
       go true q = spelled-at-once ds names x (startOf w f g i) (endOf w f g i) (endOf w f g i) u v (h .spelledAt q) (k .spelledAt q)
       go false q = h .instance q ∙ sym (k .instance q)
 
@@ -138,11 +138,11 @@ module _ (b t : List ℕ) (symbols : ℕ) (names : Names (declarationsFrom b t s
           }
 
   -- The term of a name is compared.
-  pub same-name : (i j : ℕ) (u v : Ground) → isName i ≡ true → Means i u → Means j v → sameName b t x w f g i j ≡ sameTerm u v
+  pub same-name : (i j : ℕ) (u v : Ground) → isNameElement i ≡ true → Means i u → Means j v → sameName b t x w f g i j ≡ sameTerm u v
   unfolding sameName
-  same-name i j u v n h k = go (isName j) refl
+  same-name i j u v n h k = go (isNameElement j) refl
     where
-      go : (z : Bool) → isName j ≡ z → sameName b t x w f g i j ≡ sameTerm u v
+      go : (z : Bool) → isNameElement j ≡ z → sameName b t x w f g i j ≡ sameTerm u v
       go true q =
           rw q (same-slots ds names x (startOf w f g i) (endOf w f g i) (startOf w f g j) (endOf w f g j) u v (h .spelledAt n)
           (k .spelledAt q))

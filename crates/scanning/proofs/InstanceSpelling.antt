@@ -25,7 +25,7 @@ use Rattle.node_table.specs.WellMade.{IsTerm}
 use Rattle.node_table.proofs.Decoding.{Nodes, term-variable, term-application}
 use Rattle.answer_texts.specs.Spelling.{nameOf, spellTerm, spellArguments, spellMore}
 use Rattle.answer_texts.specs.Spelled.{hasArity, WritableTerm, WritableTerms}
-use Rattle.answer_texts.proofs.Symbols.{arity-has, name-at, name-of}
+use Rattle.answer_texts.proofs.Declared.{arity-has, name-at, name-of}
 use Rattle.scanning.specs.declared.Reach.{Reach}
 use Rattle.scanning.specs.declared.Reach.the-variants.{To, Differs}
 use Rattle.scanning.specs.Scanning.{nameSize}

@@ -20,9 +20,9 @@ use Rattle.node_table.specs.Layout.{childCount, labelOf, childOf, arityOf}
 use Rattle.node_table.specs.Decoding.{childrenBy, termAt, argumentsAt, declarationsFrom}
 use Rattle.node_table.specs.WellMade.{Arguments}
 use Rattle.node_table.proofs.Decoding.{Nodes, term-application}
-use Rattle.answer_texts.specs.Judging.{sameTerm, sameTerms}
-use Rattle.answer_texts.proofs.Infer.{sameTerm-refl}
-use Rattle.scanning.specs.Classes.{isName, elementSide, elementNode, elementChild, sideFrame, nodeElement, rootOf, separate}
+use Rattle.text_judging.specs.Judging.{sameTerm, sameTerms}
+use Rattle.text_judging.proofs.Infer.{sameTerm-refl}
+use Rattle.scanning.specs.Classes.{isNameElement, elementSide, elementNode, elementChild, sideFrame, nodeElement, rootOf, separate}
 use Rattle.scanning.specs.Instances.{Compared, compared, joined, sameName, joinName, sameChildren, sameNodes, sameRoots, sameElements}
 use Rattle.scanning.specs.Instances.{sameAtoms}
 use Rattle.scanning.proofs.InstanceSpelling.{Frame, frame-fewer, formed-child, free-child}
@@ -96,7 +96,7 @@ module _ (b t : List ℕ) (symbols : ℕ) (names : Names (declarationsFrom b t s
     -- applications
 
     -- An application means its symbol with the instances of its arguments.
-    applied : (l : ℕ) (u : Ground) → isName l ≡ false → M l u
+    applied : (l : ℕ) (u : Ground) → isNameElement l ≡ false → M l u
         → u ≡ app (labelOf t (elementNode l)) (substitutes (argumentsAt t (elementNode l)) (E (elementSide l)))
     unfolding substitute
     applied l u p h =
@@ -105,7 +105,7 @@ module _ (b t : List ℕ) (symbols : ℕ) (names : Names (declarationsFrom b t s
         (term-application t nodes table (elementNode l) (h .node p .below) (h .node p .is) (h .applied p))
 
     -- The children of an application mean their instances.
-    child-means : (l : ℕ) (u : Ground) → isName l ≡ false → M l u → (a : ℕ) → a < childCount t (elementNode l)
+    child-means : (l : ℕ) (u : Ground) → isNameElement l ≡ false → M l u → (a : ℕ) → a < childCount t (elementNode l)
         → M (elementChild t l a) (substitute (termAt t (childOf t (elementNode l) a)) (E (elementSide l)))
     unfolding elementChild
     child-means l u p h a o =
@@ -164,7 +164,7 @@ module _ (b t : List ℕ) (symbols : ℕ) (names : Names (declarationsFrom b t s
           (λ a p o. s a (omega arith)) h)
 
       -- Two applications.
-      compares-nodes : (c : List ℕ) (u v : Ground) → isName i ≡ false → isName j ≡ false → M i u → M j v → depth u < suc n → Classes c
+      compares-nodes : (c : List ℕ) (u v : Ground) → isNameElement i ≡ false → isNameElement j ≡ false → M i u → M j v → depth u < suc n → Classes c
           → Compares (sameNodes r t i j c) (sameTerm u v)
       unfolding sameNodes depth sameTerm argumentsAt
       compares-nodes c u v p q hi hj l h =
@@ -205,9 +205,9 @@ module _ (b t : List ℕ) (symbols : ℕ) (names : Names (declarationsFrom b t s
         → depth u < suc n → Classes c
         → Compares (sameRoots r b t x w f g i j c) (sameTerm u v)
     unfolding sameRoots joinName
-    compares-roots r n right c i j u v hi hj l h = go (eqb i j) refl (isName i) refl (isName j) refl
+    compares-roots r n right c i j u v hi hj l h = go (eqb i j) refl (isNameElement i) refl (isNameElement j) refl
       where
-        go : (o : Bool) → eqb i j ≡ o → (y : Bool) → isName i ≡ y → (z : Bool) → isName j ≡ z
+        go : (o : Bool) → eqb i j ≡ o → (y : Bool) → isNameElement i ≡ y → (z : Bool) → isNameElement j ≡ z
             → Compares (sameRoots r b t x w f g i j c) (sameTerm u v)
         go true o y p z q =
             let k = means-once b t symbols names x nodes table few w f g e d j u v (subst (λ (a : ℕ). M a u) (eqb-true i j o) hi) hj in
@@ -303,7 +303,7 @@ module _ (b t : List ℕ) (symbols : ℕ) (names : Names (declarationsFrom b t s
         omega (arith, p .0)
 
     -- Comparing the elements of two atoms, if they differ, compares the atoms.
-    atoms-apart : (i j : ℕ) → (i ≡ j → ⊥) → isName i ≡ false → isName j ≡ false → AtomOn i → AtomOn j
+    atoms-apart : (i j : ℕ) → (i ≡ j → ⊥) → isNameElement i ≡ false → isNameElement j ≡ false → AtomOn i → AtomOn j
         → sameElements (suc (1023 + length x)) b t x w f g separate i j .same ≡ same (elementNode i) (elementNode j) (D (elementSide i))
         (D (elementSide j))
     unfolding sameElements sameRoots sameNodes

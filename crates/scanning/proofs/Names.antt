@@ -14,7 +14,7 @@ use Rattle.sheet_format.specs.Bytes.{isNameByte, sameBytes}
 use Rattle.sheet_format.proofs.Bytes.{Every, name-graphic}
 use Rattle.node_table.specs.Layout.{nameStart, nameLength, isFunctionBit, arityOf}
 use Rattle.node_table.specs.Decoding.{declarationAt, declarationsFrom}
-use Rattle.answer_texts.specs.Reading.{Span, span, Found, findName}
+use Rattle.text_judging.specs.Reading.{Span, span, Found, findName}
 use Rattle.scanning.specs.Ranges.{sameRange}
 use Rattle.scanning.specs.Scanning.{nameFrom, nameEnd, nameSize, isNamed, symbolFrom}
 use Rattle.scanning.proofs.Positions.{byte-is, drop-next, drop-length}

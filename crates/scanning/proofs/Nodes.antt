@@ -24,8 +24,8 @@ use Rattle.node_table.specs.WellMade.{IsTerm}
 use Rattle.node_table.proofs.Decoding.{Nodes, term-variable, term-application}
 use Rattle.answer_texts.specs.Spelling.{spellTerm}
 use Rattle.answer_texts.specs.Spelled.{WritableTerm}
-use Rattle.answer_texts.specs.Judging.{sameTerm}
-use Rattle.answer_texts.proofs.Infer.{sameTerm-true, sameTerm-refl}
+use Rattle.text_judging.specs.Judging.{sameTerm}
+use Rattle.text_judging.proofs.Infer.{sameTerm-true, sameTerm-refl}
 use Rattle.scanning.specs.declared.Reach.{Reach}
 use Rattle.scanning.specs.declared.Reach.the-variants.{To, Differs}
 use Rattle.scanning.specs.Frames.{slotStart, slotEnd}

@@ -13,9 +13,9 @@ use lib.ListN.{length, getD, length-append, List·getD-append}
 use lib.Seq.{getD-append-seam}
 use borrow.Author.Tests.{eqb-true, eqb-false, ne-eqb, ltb-true}
 use Rattle.sequents.specs.Symbols.{Symbol, made, leftover, symbolLevel}
-use Rattle.answer_texts.specs.Judging.{Seen, showNumber, showSymbol, showSymbols}
-use Rattle.answer_texts.proofs.Infer.{nothing, mapped}
-use Rattle.answer_texts.proofs.Showings.{shows-cons, shows-parts, shows-append, unseen}
+use Rattle.text_judging.specs.Judging.{Seen, showNumber, showSymbol, showSymbols}
+use Rattle.text_judging.proofs.Infer.{nothing, mapped}
+use Rattle.text_judging.proofs.Showings.{shows-cons, shows-parts, shows-append, unseen}
 use Rattle.scanning.specs.declared.SymbolCounts.{SymbolCounts}
 use Rattle.scanning.specs.declared.SymbolCounts.the-variants.{Counts, Misnumbered}
 use Rattle.scanning.specs.Numbering.{outsideName, isSymbol, numberAt, levelAt, isShowing, levelFrom, firstLevel, inOrder, countAfter}

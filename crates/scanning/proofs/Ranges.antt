@@ -14,7 +14,7 @@ use Rattle.formulas.proofs.Free.{and-parts}
 use Rattle.sheet_format.specs.Bytes.{isDigit, digitsFrom, atMost, number, sameBytes, lf}
 use Rattle.sheet_format.proofs.Bytes.{Without, digit-bounds, same-equal}
 use Rattle.sheet_format.proofs.Options.{OnSome, some-weaken}
-use Rattle.answer_texts.specs.Reading.{Span, span}
+use Rattle.text_judging.specs.Reading.{Span, span}
 use Rattle.scanning.specs.declared.Number.{Number}
 use Rattle.scanning.specs.declared.Number.the-variants.{Value, Missing}
 use Rattle.scanning.specs.Ranges.{sameRange, findByte, textLineEnd, numberFrom, numberZero, scanNumber}

@@ -14,15 +14,16 @@ use Rattle.sheet_format.specs.Bytes.{isDigit, isNameByte, isName, number}
 use Rattle.sheet_format.specs.Nodes.{Declaration}
 use Rattle.node_table.specs.Layout.{isFunctionBit, arityOf}
 use Rattle.node_table.specs.Decoding.{declarationsFrom}
-use Rattle.answer_texts.specs.Reading.{Span, span, Parsed, parsed, withLevel, readLevel, readSymbol, after, consParsed, readMore}
-use Rattle.answer_texts.specs.Reading.{readArguments, Found, findName, applyTo, readApplication, readTerm}
+use Rattle.text_judging.specs.Reading.{Span, span, Parsed, parsed, withLevel, readLevel, readSymbol, after, consParsed, readMore}
+use Rattle.text_judging.specs.Reading.{readArguments, Found, findName, applyTo, readApplication, readTerm}
 use Rattle.sheet_format.proofs.Bytes.{name-nonempty}
 use Rattle.sheet_format.proofs.Names.{Names}
 use Rattle.sheet_format.proofs.Formed.{Declares}
 use Rattle.sheet_format.proofs.Options.{OnSome}
 use Rattle.answer_texts.specs.Spelling.{nameOf}
-use Rattle.answer_texts.proofs.Spans.{span-split}
-use Rattle.answer_texts.proofs.Symbols.{name-of, findName-some}
+use Rattle.text_judging.proofs.Spans.{span-split}
+use Rattle.answer_texts.proofs.Declared.{name-of}
+use Rattle.text_judging.proofs.Symbols.{findName-some}
 use Rattle.scanning.specs.declared.Number.the-variants.{Value, Missing}
 use Rattle.scanning.specs.declared.Scan.{Scan}
 use Rattle.scanning.specs.declared.Scan.the-variants.{Term as Scanned, Malformed}

@@ -21,9 +21,9 @@ use Rattle.sheet_format.proofs.Names.{Names}
 use Rattle.answer_texts.specs.Numbering.{symbolsIn, symbolsInAll}
 use Rattle.answer_texts.specs.Spelling.{nameOf, spellSymbol, spellTerm, spellArguments, spellMore}
 use Rattle.answer_texts.specs.Spelled.{SmallSymbol, WritableTerm, WritableTerms}
-use Rattle.answer_texts.specs.Reading.{Span, span}
-use Rattle.answer_texts.proofs.Spans.{Stops, stops-digit, span-append}
-use Rattle.answer_texts.proofs.Symbols.{marked, has-arity, name-of}
+use Rattle.text_judging.specs.Reading.{Span, span}
+use Rattle.text_judging.proofs.Spans.{Stops, stops-digit, span-append}
+use Rattle.answer_texts.proofs.Declared.{marked, has-arity, name-of}
 use Rattle.scanning.specs.declared.Number.the-variants.{Value}
 use Rattle.scanning.specs.Ranges.{scanNumber}
 use Rattle.scanning.specs.Numbering.{outsideName, isSymbol, numberAt, levelAt}

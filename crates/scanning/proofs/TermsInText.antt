@@ -20,11 +20,11 @@ use Rattle.sheet_format.proofs.Names.{Names}
 use Rattle.node_table.specs.Decoding.{declarationsFrom}
 use Rattle.answer_texts.specs.Spelling.{spellTerm}
 use Rattle.answer_texts.specs.Spelled.{WritableTerm}
-use Rattle.answer_texts.specs.Reading.{Parsed, parsed, readTerm, termField}
-use Rattle.answer_texts.specs.Judging.{sameTerm}
-use Rattle.answer_texts.proofs.Spans.{Stops}
-use Rattle.answer_texts.proofs.ReadTerms.{read-term, ReadsTerm, readTerm-some, read-field, term-graphic}
-use Rattle.answer_texts.proofs.Infer.{sameTerm-true, sameTerm-refl}
+use Rattle.text_judging.specs.Reading.{Parsed, parsed, readTerm, termField}
+use Rattle.text_judging.specs.Judging.{sameTerm}
+use Rattle.text_judging.proofs.Spans.{Stops}
+use Rattle.text_judging.proofs.ReadTerms.{read-term, ReadsTerm, readTerm-some, read-field, term-graphic}
+use Rattle.text_judging.proofs.Infer.{sameTerm-true, sameTerm-refl}
 use Rattle.scanning.specs.declared.Scan.{Scan}
 use Rattle.scanning.specs.declared.Scan.the-variants.{Term as Scanned, Malformed}
 use Rattle.scanning.specs.Ranges.{sameRange}

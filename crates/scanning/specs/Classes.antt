@@ -36,8 +36,8 @@ unfoldable pub elementOf : List ℕ → ℕ → ℕ → ℕ
 elementOf t s m = cond (eqb (kindOf t m) variableKind) (nameElement s (labelOf t m)) (nodeElement s m)
 
 -- A name, or else an application.
-unfoldable pub isName : ℕ → Bool
-isName i = ltb i firstApplication
+unfoldable pub isNameElement : ℕ → Bool
+isNameElement i = ltb i firstApplication
 
 -- The side of an element is its remainder by 2.
 unfoldable pub elementSide : ℕ → ℕ

@@ -14,7 +14,7 @@ use Rattle.scanning.specs.declared.Reach.the-variants.{To, Differs}
 use Rattle.scanning.specs.Ranges.{sameRange}
 use Rattle.scanning.specs.Scanning.{nameSize}
 use Rattle.scanning.specs.Frames.{slotStart, slotEnd}
-use Rattle.scanning.specs.Classes.{nodeElement, isName, elementSide, elementName, elementNode, elementChild, sideFrame, separate}
+use Rattle.scanning.specs.Classes.{nodeElement, isNameElement, elementSide, elementName, elementNode, elementChild, sideFrame, separate}
 use Rattle.scanning.specs.Classes.{rootOf}
 
 -- Two terms of the text, from s to e and from i to j. Where they start at one position they are one term.
@@ -93,7 +93,7 @@ endOf w f g i = slotEnd w (sideFrame f g (elementSide i)) (elementName i)
 -- The term of name i is that of element j, a name or an application.
 unfoldable pub sameName : List ℕ → List ℕ → List ℕ → List ℕ → ℕ → ℕ → ℕ → ℕ → Bool
 sameName b t x w f g i j =
-    cond (isName j) (sameSlots x (startOf w f g i) (endOf w f g i) (startOf w f g j) (endOf w f g j))
+    cond (isNameElement j) (sameSlots x (startOf w f g i) (endOf w f g i) (startOf w f g j) (endOf w f g j))
     (isInstance b t x w (startOf w f g i) (endOf w f g i) (sideFrame f g (elementSide j)) (elementNode j))
 
 -- A name joins the class of an element with the same term.
@@ -117,7 +117,7 @@ sameNodes r t i j c =
 unfoldable pub sameRoots : (List ℕ → ℕ → ℕ → Compared) → List ℕ → List ℕ → List ℕ → List ℕ → ℕ → ℕ → ℕ → ℕ → List ℕ → Compared
 sameRoots r b t x w f g i j c =
     cond (eqb i j) (compared c true)
-    (cond (isName i) (joinName b t x w f g c i j) (cond (isName j) (joinName b t x w f g c j i) (sameNodes r t i j c)))
+    (cond (isNameElement i) (joinName b t x w f g c i j) (cond (isNameElement j) (joinName b t x w f g c j i) (sameNodes r t i j c)))
 
 -- Two elements, whose terms are nested less deep than the first argument says.
 unfoldable pub sameElements : ℕ → List ℕ → List ℕ → List ℕ → List ℕ → ℕ → ℕ → List ℕ → ℕ → ℕ → Compared

@@ -1,7 +1,8 @@
 -- What acts keep holds after any number of acts, and at the end: the one induction over searches, for every invariant.
-use Prim.Native.Nat.{ℕ, zero, suc, _+_}
-use mathlib.Core.Path.{_≡_, refl, sym, subst}
+use Prim.Native.Nat.{ℕ, zero, suc, _≤_}
+use mathlib.Core.Path.{_≡_, refl, subst}
 use mathlib.Core.List.{List, [], _∷_}
+use mathlib.Core.Option.{some}
 use native.Mathlib.Omega.{arith}
 use Rattle.terms.specs.Lists.{All}
 use Rattle.terms.proofs.Lists.{all-append, all-weaken}
@@ -10,7 +11,7 @@ use Rattle.sequents.specs.Sequents.{Line}
 use Rattle.unification.specs.Store.{Leaf, Store}
 use Rattle.search.specs.Configurations.{Configuration, take, try, match, done}
 use Rattle.search.specs.Steps.{step}
-use Rattle.search.specs.Search.{status, start, advance, after, Verdict, proved, noProof, ComesToFrom, ComesTo, ends, search}
+use Rattle.search.specs.Search.{start, advance, after, Verdict, proved, noProof, verdictOf, ComesTo, ends, search}
 use Rattle.search.proofs.Units.{allUnits}
 
 -- A property of states, with the number of acts done: true at the start and kept by an act, it is true after any number of acts.
@@ -36,42 +37,25 @@ abbrev pub Stands : Verdict → List Configuration → Type 0
 Stands (proved s ls) ds = (alternatives : List Configuration) × (ds ≡ done s ls ∷ alternatives)
 Stands noProof ds = ds ≡ []
 
--- A search that comes to a verdict after no act stands at it.
-stands-now : (u : ℕ) (ds : List Configuration) (v : Verdict) → ComesToFrom zero u (status u ds) v → Stands v ds
-unfolding status ComesToFrom
-stands-now u [] v h = subst (λ (w : Verdict). Stands w []) (sym h) refl
-stands-now u (take s g b ∷ ds) v h = absurd h
-stands-now u (try s a m ms k b ∷ ds) v h = absurd h
-stands-now u (match m b ∷ ds) v h = absurd h
-stands-now u (done s ls ∷ ds) v h = subst (λ (w : Verdict). Stands w (done s ls ∷ ds)) (sym h) (ds, refl)
-
--- A search that comes to a verdict after some acts comes to it from the next state, with one act less.
-stands-later : (n u : ℕ) (ds : List Configuration) (v : Verdict) → ComesToFrom (suc n) u (status u ds) v
-    → ComesToFrom n (suc u) (status (suc u) (advance u ds)) v
-unfolding status ComesToFrom advance
-stands-later n u [] v h = absurd h
-stands-later n u (take s g b ∷ ds) v h = h
-stands-later n u (try s a m ms k b ∷ ds) v h = h
-stands-later n u (match m b ∷ ds) v h = h
-stands-later n u (done s ls ∷ ds) v h = absurd h
-
--- A search that comes to a verdict n acts after the first u stands there after u + n acts.
-stands-from : (cs : List Clause) (g : Goal) (n u : ℕ) (v : Verdict) → ComesToFrom n u (status u (after cs g u)) v
-    → Stands v (after cs g (u + n))
-unfolding after
-stands-from cs g zero u v h =
-    let q : u ≡ u + 0 = omega arith in
-    subst (λ (m : ℕ). Stands v (after cs g m)) q (stands-now u (after cs g u) v h)
-stands-from cs g (suc n) u v h =
-    let q : suc u + n ≡ u + suc n = omega arith in
-    subst (λ (m : ℕ). Stands v (after cs g m)) q (stands-from cs g n (suc u) v (stands-later n u (after cs g u) v h))
+-- A state with a verdict stands at it.
+stands-at : (ds : List Configuration) (v : Verdict) → verdictOf ds ≡ some v → Stands v ds
+unfolding verdictOf
+stands-at [] v h = let q : noProof ≡ v = cc in subst (λ (w : Verdict). Stands w []) q refl
+stands-at (take s g b ∷ ds) v h = absurd (let z : _≡_ {A = ℕ} 0 1 = cc in omega arith)
+stands-at (try s a m ms k b ∷ ds) v h = absurd (let z : _≡_ {A = ℕ} 0 1 = cc in omega arith)
+stands-at (match m b ∷ ds) v h = absurd (let z : _≡_ {A = ℕ} 0 1 = cc in omega arith)
+stands-at (done s ls ∷ ds) v h = let q : proved s ls ≡ v = cc in subst (λ (w : Verdict). Stands w (done s ls ∷ ds)) q (ds, refl)
 
 -- A search that comes to a verdict after n acts stands there after them.
 pub comes-stands : (cs : List Clause) (g : Goal) (n : ℕ) (v : Verdict) → ComesTo cs g n v → Stands v (after cs g n)
-unfolding ComesTo after
-comes-stands cs g n v h =
-    let q : 0 + n ≡ n = omega arith in
-    subst (λ (m : ℕ). Stands v (after cs g m)) q (stands-from cs g n 0 v h)
+unfolding ComesTo
+comes-stands cs g n v h = stands-at (after cs g n) v (h .0)
+
+-- The first act is always due.
+pub comes-least : (cs : List Clause) (g : Goal) (n : ℕ) (v : Verdict) → ComesTo cs g n v → 1 ≤ n
+unfolding ComesTo after start verdictOf
+comes-least cs g zero v h = absurd (let e = h .0 in let z : _≡_ {A = ℕ} 0 1 = cc in omega arith)
+comes-least cs g (suc n) v h = omega arith
 
 -- After its units, a proved search has its final configuration in front.
 pub proved-stands : (cs : List Clause) (g : Goal) (budget n : ℕ) (s : Store) (path : List (Line Leaf))

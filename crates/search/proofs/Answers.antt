@@ -12,7 +12,7 @@ use Rattle.unification.specs.Promises.{Formed}
 use Rattle.unification.proofs.Valuation.{value}
 use Rattle.unification.proofs.General.{general, general-solves}
 use Rattle.search.specs.Search.{startEnvironment}
-use Rattle.search.specs.Answers.{symbolOf, final, finalEnvironment}
+use Rattle.search.specs.Answers.{symbolUnder, final, finalEnvironment}
 use Rattle.search.proofs.Values.{symbols, Valuation, valued, Solution}
 
 -- An unbound variable is a leftover variable of its final level.
@@ -25,10 +25,10 @@ finalValues s = general symbols (s .bindings) (leftovers s)
 
 -- The valuation `finalValues` gives each leaf its final value.
 pub final-valued : (s : Store) → valued (finalValues s) ≡ final s
-unfolding value final general symbols symbolOf leftovers at solution substitute
+unfolding value final general symbols symbolUnder leftovers at solution substitute
 final-valued s = fun-ext go
   where
-    symbol : (a : Leaf) → value symbols (leftovers s) a ≡ symbolOf s a
+    symbol : (a : Leaf) → value symbols (leftovers s) a ≡ symbolUnder (s .level) a
     symbol (var x) = refl
     symbol (con c k) = refl
 

@@ -21,11 +21,10 @@ use Rattle.unification.specs.Store.{Leaf, var, con, Store, fresh, freshVariable
 use Rattle.unification.specs.Matching.{Matching, pairs, check, fail, matchStep}
 use Rattle.search.specs.Configurations.{Branch, Atom, Configuration, take, try, match, done}
 use Rattle.search.specs.Steps.{proceed, settle, tryFrom, tryMember, takeGoal, step}
-use Rattle.search.specs.Search.{startEnvironment, startStore, startGoal, start, advance, after, proved, ends, search, status}
-use Rattle.search.specs.Search.{ComesToFrom, ComesTo}
+use Rattle.search.specs.Search.{startEnvironment, startStore, startGoal, start, advance, after, proved, ends, search}
 use Rattle.search.specs.Answers.{final, finalEnvironment, finalLines}
 use Rattle.search.proofs.Units.{allUnits}
-use Rattle.search.proofs.After.{after-state, proved-stands}
+use Rattle.search.proofs.After.{after-state, comes-least, proved-stands}
 use Rattle.search.proofs.Formed.{Arities, FormedTerm, FormedTerms, SheetName, FormedGoal, FormedClause, FormedBody, FormedMember}
 use Rattle.search.proofs.Formed.{FormedEnvironment, FormedLine, formed-substitute, formed-substitutes, formed-putLine, formed-update}
 use Rattle.search.proofs.Formed.{formed-assign, members-formed}
@@ -294,8 +293,4 @@ proved-bounds ok cs g h k budget n s path e =
 -- The first act is always due, so that a proved search has taken at least one.
 pub proved-least : (cs : List Clause) (g : Goal) (budget n : ℕ) (s : Store) (path : List (Line Leaf))
     → search budget cs g ≡ ends (proved s path) n → 1 ≤ n
-proved-least cs g budget n s path e = go n (allUnits cs g .tells budget n (proved s path) .0 e .0)
-  where
-    go : (m : ℕ) → ComesTo cs g m (proved s path) → 1 ≤ m
-    go zero h = absurd (unfold ComesTo start status ComesToFrom in h)
-    go (suc m) h = omega arith
+proved-least cs g budget n s path e = comes-least cs g n (proved s path) (allUnits cs g .tells budget n (proved s path) .0 e .0)

@@ -4,11 +4,11 @@ use mathlib.Core.Path.{_≡_, refl}
 use mathlib.Core.List.{List, [], _∷_}
 use Rattle.terms.specs.Terms.{Term, leaf, app, Terms, nil, cons}
 use Rattle.formulas.specs.Formulas.{Goal, atom, truth, and, or, implies, exists, forall, Clause, fact, rule, both, each}
-use Rattle.search.specs.Search.{Outcome, ends, spent, proved, noProof}
+use Rattle.search.specs.Search.{SearchOutcome, ends, spent, proved, noProof}
 use Rattle.search.proofs.Computing.{computeSearch}
 
 -- An outcome is told as 1 (proved), 2 (no) or 3 (spent), with the units, which are 0 for spent.
-abbrev told : Outcome → ℕ × ℕ
+abbrev told : SearchOutcome → ℕ × ℕ
 told (ends (proved s ls) u) = (1, u)
 told (ends noProof u) = (2, u)
 told spent = (3, 0)

@@ -270,7 +270,7 @@ step-complete u (try s a m ms k b) o h = go (resolves-cases (h .1 .resolvable .a
         (record { solved = h .1 .solved; program = h .1 .program; members = h .1 .members .1; resolvable = x }))
 step-complete u (match m b) o h =
     settle-complete (matchStep m) b (h .0)
-    (record { keeps = matchStep-complete symbols (h .0) (GoalsBelow (b .goals)) m (o .1) (h .1 .keeps); goals = h .1 .goals })
+    (record { keeps = matchStep-complete symbols (h .0) (GoalsBelow (b .goals)) m o (h .1 .keeps); goals = h .1 .goals })
 step-complete u (done s path) o h = inl tt
 
 -- The state has a configuration that is solvable.

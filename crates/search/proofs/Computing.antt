@@ -10,10 +10,10 @@ use Rattle.sequents.specs.Derivations.{instanceOf, sheetProgram}
 use Rattle.unification.specs.Store.{look, look1, lower, bind, fresh, freshLevels, past, freshVariables}
 use Rattle.unification.specs.Matching.{pushTerms, pushPairs, comparing, afterNode, visit, compareTerms, matchStep}
 use Rattle.search.specs.Steps.{proceed, settle, tryFrom, tryMember, takeGoal, step}
-use Rattle.search.specs.Search.{Outcome, status, start, startGoal, startStore, startEnvironment, search, searchFrom}
+use Rattle.search.specs.Search.{SearchOutcome, advance, verdictOf, start, startGoal, startStore, startEnvironment, search, searchFrom}
 
-unfoldable pub computeSearch : ℕ → List Clause → Goal → Outcome
-unfolding search searchFrom status start startGoal startStore startEnvironment step takeGoal tryMember tryFrom settle proceed
+unfoldable pub computeSearch : ℕ → List Clause → Goal → SearchOutcome
+unfolding search searchFrom verdictOf advance start startGoal startStore startEnvironment step takeGoal tryMember tryFrom settle proceed
     matchStep compareTerms visit afterNode comparing pushPairs pushTerms look look1 lower bind fresh freshLevels past freshVariables
     instanceOf sheetProgram entries assign bodySequent members quantify standsFree freeT freeG freeB elem update substitute
 computeSearch budget cs g = search budget cs g

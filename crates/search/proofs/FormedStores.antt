@@ -14,7 +14,7 @@ use Rattle.unification.specs.Store.{at, onlyAt, solve1, solved, solution}
 use Rattle.unification.specs.Matching.{Pair, Matching, pairs, check, fail, pushTerms, pushPairs, comparing, afterNode, visit, compareTerms}
 use Rattle.unification.specs.Matching.{matchStep}
 use Rattle.unification.proofs.Stores.{lower-le}
-use Rattle.search.specs.Answers.{symbolOf, final}
+use Rattle.search.specs.Answers.{symbolUnder, final}
 use Rattle.search.proofs.Formed.{Arities, FormedTerm, FormedTerms, formed-substitute}
 
 -- The level of a made constant is at most n.
@@ -202,10 +202,10 @@ module _ (ok : Arities) (n : ℕ) where
 
   -- The final value of a leaf is well-formed.
   pub final-formed : (s : Store) (a : Leaf) → StoreUpTo s → UpTo n a → FormedTerm (final s a) ok (SymbolUpTo n)
-  unfolding final solution at symbolOf symbolLevel FormedTerm UpTo
-  final-formed s a h k = formed-substitute (at (solution s) a) (symbolOf s) ok (UpTo n) (SymbolUpTo n) symbol (value a k)
+  unfolding final solution at symbolUnder symbolLevel FormedTerm UpTo
+  final-formed s a h k = formed-substitute (at (solution s) a) (symbolUnder (s .level)) ok (UpTo n) (SymbolUpTo n) symbol (value a k)
     where
-      symbol : (b : Leaf) → UpTo n b → FormedTerm (symbolOf s b) ok (SymbolUpTo n)
+      symbol : (b : Leaf) → UpTo n b → FormedTerm (symbolUnder (s .level) b) ok (SymbolUpTo n)
       symbol (var x) i = h .levels x
       symbol (con c l) i = i
 

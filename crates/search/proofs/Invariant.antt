@@ -16,14 +16,13 @@ use Rattle.sequents.specs.Sequents.{Environment, Program, Entry, entries, Seque
 use Rattle.sequents.specs.Derivations.{instanceOf}
 use Rattle.sequents.proofs.Sequents.{assign-all, entries-all, sheet-all}
 use Rattle.unification.specs.Store.{Leaf, var, con, Store, past, fresh, freshVariables}
-use Rattle.unification.specs.Matching.{Pair, Matching, pairs, check, fail, pushPairs, comparing, matchStep, matchSteps}
+use Rattle.unification.specs.Matching.{Pair, Matching, pairs, check, fail, pushPairs, comparing, matchStep}
 use Rattle.unification.specs.Promises.{Below, Formed}
 use Rattle.unification.proofs.Stores.{below-more, past-le, fresh-formed, empty-formed}
 use Rattle.unification.proofs.Invariant.{Good, Running, comparing-running, matchStep-running}
 use Rattle.search.specs.Configurations.{Branch, Atom, Configuration, take, try, match, done}
 use Rattle.search.specs.Steps.{proceed, settle, tryFrom, tryMember, takeGoal, step}
 use Rattle.search.specs.Search.{startEnvironment, startStore, startGoal, start, after}
-use Rattle.search.specs.Promises.{MatchUnderWay, WellFormed}
 use Rattle.search.proofs.After.{after-all}
 
 -- All variables in an environment are numbered below n.
@@ -53,11 +52,11 @@ pub record TryBelow (a : Atom) (ms : List (Entry Leaf)) (gs : List (Sequent Leaf
   pub members : EntriesBelow n ms
   pub goals : GoalsBelow gs n
 
--- The invariant: a formed store, variables below its next number, and a match that comes from pairs that T3 speaks of.
+-- The invariant: a formed store, and variables below its next number.
 unfoldable pub Invariant : Configuration → Type 0
 Invariant (take s g b) = Good (GoalsBelow (g ∷ b .goals)) s
 Invariant (try s a m ms k b) = Good (TryBelow a (m ∷ ms) (b .goals)) s
-Invariant (match m b) = MatchUnderWay m × Running (GoalsBelow (b .goals)) m
+Invariant (match m b) = Running (GoalsBelow (b .goals)) m
 Invariant (done s ls) = Formed s
 
 -- An environment below n is below any larger number.
@@ -77,7 +76,7 @@ goals-more n m gs l h =
     (λ g k. (environment-more n m (g .environment) l (k .0), program-more n m (g .program) l (k .1))) gs h
 
 -- Terms below n are below any larger number.
-terms-more : (n m : ℕ) (ts : Terms Leaf) → n ≤ m → LeavesAll ts (Below n) → LeavesAll ts (Below m)
+pub terms-more : (n m : ℕ) (ts : Terms Leaf) → n ≤ m → LeavesAll ts (Below n) → LeavesAll ts (Below m)
 unfolding Below
 terms-more n m ts l h = leavesAll-weaken ts (Below n) (Below m) more h
   where
@@ -125,20 +124,12 @@ proceed-keeps s [] ls o = (o .formed, tt)
 proceed-keeps s (g ∷ gs) ls o = (o, tt)
 
 -- What follows an act of matching keeps the invariant.
-settle-keeps : (m : Matching) (b : Branch) → MatchUnderWay m → Running (GoalsBelow (b .goals)) m → All Invariant (settle m b)
+settle-keeps : (m : Matching) (b : Branch) → Running (GoalsBelow (b .goals)) m → All Invariant (settle m b)
 unfolding settle Invariant Running
-settle-keeps (pairs s []) b w r = proceed-keeps s (b .goals) (b .path) (r .0)
-settle-keeps (pairs s (p ∷ ps)) b w r = ((w, r), tt)
-settle-keeps (check s y t n ns ps) b w r = ((w, r), tt)
-settle-keeps fail b w r = tt
-
--- Beginning a match keeps the invariant.
-comparing-keeps : (s : Store) (o : Option (List Pair)) (b : Branch) → Running (GoalsBelow (b .goals)) (comparing s o)
-    → All Invariant (settle (comparing s o) b)
-unfolding comparing settle Running matchSteps
-comparing-keeps s none b r = tt
-comparing-keeps s (some ps) b r =
-    settle-keeps (pairs s ps) b (record { before = s; compared = ps; acts = 0; formed = r .0 .formed; below = r .1; comes = refl }) r
+settle-keeps (pairs s []) b r = proceed-keeps s (b .goals) (b .path) (r .0)
+settle-keeps (pairs s (p ∷ ps)) b r = (r, tt)
+settle-keeps (check s y t n ns ps) b r = (r, tt)
+settle-keeps fail b r = tt
 
 -- Going on to the members left keeps the invariant.
 tryFrom-keeps : (s : Store) (a : Atom) (ms : List (Entry Leaf)) (k : ℕ) (b : Branch) → Good (TryBelow a ms (b .goals)) s
@@ -163,7 +154,7 @@ tryMember-keeps s a m ms k b o =
     all-append (SequentBelow n) (bodySequent (m .member .body) e (a .program) (a .level)) (b .goals)
     (body-below (m .member .body) e (a .program) (a .level) n he (program-more (s .next) n (a .program) l (x .program)))
     (goals-more (s .next) n (b .goals) l (x .goals)) in
-    comparing-keeps (fresh vs (a .level) s) (pushPairs (a .arguments) (substitutes (m .member .arguments) e) []) _
+    settle-keeps (comparing (fresh vs (a .level) s) (pushPairs (a .arguments) (substitutes (m .member .arguments) e) [])) _
     (comparing-running (GoalsBelow gs) (fresh vs (a .level) s) (a .arguments) (substitutes (m .member .arguments) e) []
     (good-fresh (TryBelow a (m ∷ ms) (b .goals)) (GoalsBelow gs) vs (a .level) s o goals)
     (terms-more (s .next) n (a .arguments) l (x .arguments))
@@ -209,7 +200,7 @@ takeGoal-keeps u s (forall v g) e P i b o = (
 
 -- Every act keeps the invariant.
 pub step-keeps : (u : ℕ) (c : Configuration) → Invariant c → All Invariant (step u c)
-unfolding step Invariant matchSteps
+unfolding step Invariant
 step-keeps u (take s g b) o = takeGoal-keeps u s (g .goal) (g .environment) (g .program) (g .level) b o
 step-keeps u (try s a m ms k b) o =
     all-append Invariant (cond (eqb (a .predicate) (m .member .predicate)) (tryMember s a m k b) []) (tryFrom s a ms (suc k) b)
@@ -225,18 +216,7 @@ step-keeps u (try s a m ms k b) o =
     tried : (same : Bool) → All Invariant (cond same (tryMember s a m k b) [])
     tried true = tryMember-keeps s a m ms k b o
     tried false = tt
-step-keeps u (match m b) o =
-    let w = o .0 in
-    settle-keeps (matchStep m) b
-    (record {
-      before = w .before;
-      compared = w .compared;
-      acts = suc (w .acts);
-      formed = w .formed;
-      below = w .below;
-      comes = ap matchStep (w .comes);
-    })
-    (matchStep-running (GoalsBelow (b .goals)) m (o .1))
+step-keeps u (match m b) o = settle-keeps (matchStep m) b (matchStep-running (GoalsBelow (b .goals)) m o)
 step-keeps u (done s ls) o = (o, tt)
 
 -- The variables of the start are 0 to 7.
@@ -262,15 +242,3 @@ start-invariant cs g = (
 -- The invariant holds of every configuration of a search.
 pub after-invariant : (cs : List Clause) (g : Goal) (n : ℕ) → All Invariant (after cs g n)
 after-invariant cs g n = after-all cs g (λ u. Invariant) (start-invariant cs g) step-keeps (λ u c h. h) n
-
--- A configuration that satisfies the invariant has a formed store, or a match that is one of T3's.
-invariant-formed : (c : Configuration) → Invariant c → WellFormed c
-unfolding Invariant WellFormed
-invariant-formed (take s g b) h = h .formed
-invariant-formed (try s a m ms k b) h = h .formed
-invariant-formed (match m b) h = h .0
-invariant-formed (done s ls) h = h
-
--- Every configuration of a search has a formed store, or a match that is one of T3's.
-pub after-formed : (cs : List Clause) (g : Goal) (n : ℕ) → All WellFormed (after cs g n)
-after-formed cs g n = all-weaken Invariant WellFormed invariant-formed (after cs g n) (after-invariant cs g n)

@@ -16,7 +16,6 @@ pub mod PaperNames
 pub mod PaperElab
 pub mod ProcedureFresh
 pub mod ProcedureRenaming
-pub mod ProcedurePairs
 pub mod ProcedurePlaces
 pub mod ProcedureReached
 pub mod ProcedureQuantifiers
@@ -24,4 +23,5 @@ pub mod ProcedureTried
 pub mod ProcedureResolved
 pub mod ProcedureSteps
 pub mod ProcedureSearch
+pub mod Tries
 pub mod Promises

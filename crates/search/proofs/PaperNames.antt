@@ -14,7 +14,7 @@ use Rattle.formulas.specs.Formulas.{freeG, freeC, freeB}
 use Rattle.formulas.proofs.Free.{or-left, or-right, substitutes-free}
 use Rattle.unification.specs.Store.{Leaf}
 use Rattle.search.specs.Paper.{name, Names, G, g-atom, g-and, g-or, g-implies, g-exists, g-forall, d-atom, d-implies, d-and, d-forall}
-use Rattle.search.specs.Paper.{bound, embed, formulaG, formulaD, isName, inT, inTs, inG, inD, inB}
+use Rattle.search.specs.Paper.{bound, embed, formulaG, formulaD, isNameLeaf, inT, inTs, inG, inD, inB}
 use Rattle.search.proofs.PaperReplace.{OwnOrTerm, Tidy}
 
 -- The formula of a body, if there is one.
@@ -29,7 +29,7 @@ Own ρ v = (u : ℕ) → inT (ρ u) v ≡ eqb u v
 
 -- It stays so under a quantifier.
 pub own-bound : (ρ : Names) (v w : ℕ) → Own ρ v → Own (bound ρ w) v
-unfolding update inT isName
+unfolding update inT isNameLeaf
 own-bound ρ v w h u = go (eqb u w) refl
   where
     go : (b : Bool) → eqb u w ≡ b → inT (cond b (leaf (name w)) (ρ u)) v ≡ eqb u v
@@ -38,7 +38,7 @@ own-bound ρ v w h u = go (eqb u w) refl
 
 -- A term of the search has no names.
 mutual
-  unfolding inT isName substitute embed
+  unfolding inT isNameLeaf substitute embed
 
   embed-in : (t : Term Leaf) (v : ℕ) → inT (substitute t embed) v ≡ false
   embed-in (leaf l) v = refl
@@ -50,7 +50,7 @@ mutual
 
 -- So is the name of a quantifier, under it.
 pub own-new : (ρ : Names) (v : ℕ) → Tidy ρ → Own (bound ρ v) v
-unfolding update inT isName
+unfolding update inT isNameLeaf
 own-new ρ v h u = go (eqb u v) refl (h u)
   where
     go : (b : Bool) → eqb u v ≡ b → OwnOrTerm ρ u → inT (cond b (leaf (name v)) (ρ u)) v ≡ eqb u v

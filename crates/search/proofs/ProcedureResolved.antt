@@ -1,5 +1,5 @@
 -- Definition 6 (vi), (vii): the state derived when the head of a member matches an atom.
-use Prim.Native.Nat.{ℕ, _<_}
+use Prim.Native.Nat.{ℕ, suc, _<_}
 use mathlib.Core.Path.{_≡_, refl, sym, _∙_, ap, ap₂, subst}
 use mathlib.Core.List.{List, [], _++_, map}
 use native.Mathlib.Omega.{arith}
@@ -13,9 +13,10 @@ use Rattle.unification.specs.Store.{Leaf, var, Store, past, fresh, freshVariabl
 use Rattle.unification.specs.Matching.{pairs}
 use Rattle.unification.specs.Labelled.{Labelling}
 use Rattle.unification.specs.Promises.{Solved}
-use Rattle.unification.proofs.Stores.{past-le, fresh-formed}
-use Rattle.unification.proofs.Promises.{unification}
+use Rattle.unification.proofs.Stores.{past-le}
 use Rattle.search.specs.Configurations.{Branch, branch, Atom}
+use Rattle.search.specs.Steps.{triedStore, triedEnvironment}
+use Rattle.search.specs.Promises.{triedAtoms, atomSequent}
 use Rattle.search.specs.Paper.{replaceNames, embed, applyG, Elaborated, elabs}
 use Rattle.search.specs.Procedure.{PaperSequent, applySequent, State, relabel, paperBody, By, paperOf}
 use Rattle.search.proofs.PaperApply.{embeds-apply, formulasAt, sequents-composed}
@@ -23,17 +24,16 @@ use Rattle.search.proofs.PaperElab.{formulaM, formulaE, elabs-apply}
 use Rattle.search.proofs.ProcedureFresh.{numbers, numbers-length, numbers-variables, numbers-below, numbers-new, numbers-distinct}
 use Rattle.search.proofs.ProcedureFresh.{fresh-labels, solution-new}
 use Rattle.search.proofs.ProcedureRenaming.{freshEnvironment, freshRenaming, Older, fresh-apply, renaming-head, renaming-body}
-use Rattle.search.proofs.ProcedurePairs.{pushPairs-general}
 use Rattle.search.proofs.ProcedurePlaces.{StandsAt, stands-map}
 use Rattle.search.proofs.ProcedureReached.{Reached, Takes, reached-by}
-use Rattle.search.proofs.ProcedureTried.{atomSequent, triedEnvironment, Resolving}
+use Rattle.search.proofs.ProcedureTried.{Resolving}
 
 -- T3 gives the most general unifier and the labelling of the next state.
 pub resolved : {cs : List Clause} {g : Goal} {u : ℕ} {s′ : Store} {b : Branch}
     → Resolving cs g u (pairs s′ []) b → Reached cs g u s′ (map paperOf (b .goals)) (b .path)
 unfolding By applyG fresh solution formulaM substitute at
 resolved {cs} {g} {u} {s′} {b} r =
-    subst (λ b. Reached cs g u s′ (map paperOf (b .goals)) (b .path)) (sym (r .tried .branch)) (reached-by (r .reached) (record {
+    subst (λ b. Reached cs g u s′ (map paperOf (b .goals)) (b .path)) (sym (r .way .branch)) (reached-by (r .reached) (record {
       state = S₂;
       takes = takes;
       goals = refl;
@@ -44,19 +44,19 @@ resolved {cs} {g} {u} {s′} {b} r =
     }))
   where
     s : Store
-    s = r .tried .store
+    s = r .way .store
 
     a : Atom
-    a = r .tried .atom
+    a = r .way .atom
 
     m : Entry Leaf
-    m = r .tried .entry
+    m = r .way .member
 
     k : ℕ
-    k = r .tried .k
+    k = r .way .k
 
     before : Branch
-    before = r .tried .before
+    before = r .way .before
 
     S : ℕ → Term Leaf
     S = solution s
@@ -72,7 +72,7 @@ resolved {cs} {g} {u} {s′} {b} r =
     ws = numbers vs n
 
     unbound : Older S n
-    unbound = solution-new s (r .tried .formed)
+    unbound = solution-new s (r .way .trying .formed)
 
     -- The state before is S₁, and L is its labelling with the labels of the fresh variables.
     S₁ : State
@@ -81,10 +81,9 @@ resolved {cs} {g} {u} {s′} {b} r =
     L : Labelling
     L = relabel ws (a .level) (S₁ .labels)
 
-    solved : Solved L (fresh vs (a .level) s) (r .tried .pairs) s′
-    solved =
-        unification (fresh vs (a .level) s) (r .tried .pairs) L (fresh-formed vs (a .level) s (r .tried .formed)) (r .tried .below)
-        (fresh-labels vs (a .level) s (S₁ .labels) (r .reached .follows .labels)) .solved (r .acts) s′ (r .comes)
+    solved : Solved L (triedStore s a m) (triedAtoms s a m) s′
+    solved = r .way .trying .matches L (fresh-labels vs (a .level) s (S₁ .labels) (r .reached .follows .labels)) .solved
+        (suc (r .way .acts)) s′ (r .way .comes)
 
     -- The state after is S₂, with the member's body in front of the goals that waited.
     body : List (Sequent Leaf)
@@ -111,7 +110,7 @@ resolved {cs} {g} {u} {s′} {b} r =
     stands : StandsAt 1 (elabs (formulasAt S (a .program))) k member
     stands =
         subst (λ l. StandsAt 1 l k member) (sym (elabs-apply (a .program) S))
-        (stands-map (λ e. formulaE (putEntry (at S) e)) 1 (entries (a .program)) k m (r .tried .placed))
+        (stands-map (λ e. formulaE (putEntry (at S) e)) 1 (entries (a .program)) k m (r .way .trying .within, r .way .trying .stands))
 
     -- The member's head is renamed by the fresh variables.
     arguments : Terms Leaf
@@ -158,8 +157,7 @@ resolved {cs} {g} {u} {s′} {b} r =
       is-left = embeds-apply (a .arguments) S;
       is-right = head;
       σ = solved .mgu;
-      general = pushPairs-general L S (a .predicate) (m .member .predicate) (a .arguments) arguments (r .tried .pairs) (solved .mgu)
-          (r .tried .predicate) (r .tried .compared) (solved .general);
+      general = solved .general;
       goals = sym goals;
       constants = refl;
       variables = refl;

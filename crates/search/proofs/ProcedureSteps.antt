@@ -20,16 +20,16 @@ use Rattle.unification.specs.Matching.{Pair, Matching, pairs, check, fail, push
 use Rattle.unification.specs.Promises.{Formed}
 use Rattle.unification.proofs.Invariant.{Good}
 use Rattle.search.specs.Configurations.{Branch, branch, Atom, Configuration, take, try, match, done}
-use Rattle.search.specs.Steps.{proceed, settle, tryFrom, tryMember, takeGoal, step}
+use Rattle.search.specs.Steps.{proceed, settle, tryFrom, triedStore, triedBranch, takeGoal, step}
 use Rattle.search.specs.Search.{startStore, startGoal, start}
 use Rattle.search.specs.Paper.{g-atom, embed, applyG, formulaG}
 use Rattle.search.specs.Procedure.{paperSequent, identity, By, DerivationSequence, composition, formulasOf, paperOf, initial}
-use Rattle.search.specs.Promises.{FollowsSteps}
+use Rattle.search.specs.Promises.{triedAtoms, MatchUnderWay, WellFormed, atomSequent, FollowsSteps}
 use Rattle.search.proofs.PaperApply.{sequent-identity}
 use Rattle.search.proofs.Invariant.{TryBelow, Invariant}
 use Rattle.search.proofs.ProcedurePlaces.{StandsAt, Placed, placed-all}
 use Rattle.search.proofs.ProcedureReached.{Reached, reached-more, reached-goals}
-use Rattle.search.proofs.ProcedureTried.{atomSequent, triedEnvironment, triedBranch, compared-below, Resolving}
+use Rattle.search.proofs.ProcedureTried.{trying, try-step, Resolving}
 use Rattle.search.proofs.ProcedureResolved.{resolved}
 use Rattle.search.proofs.ProcedureQuantifiers.{exists-reached, forall-reached}
 
@@ -58,7 +58,7 @@ module _ (cs : List Clause) (g₀ : Goal) where
   unfolding Known FollowsSteps
   known-follows u (take s q b) h = h .follows
   known-follows u (try s a m ms k b) h = h .0 .follows
-  known-follows u (match m b) h = tt
+  known-follows u (match m b) h = (h .way, h .reached .follows)
   known-follows u (done s ls) h = h .follows
 
   -- It stays known while the configuration waits.
@@ -66,7 +66,7 @@ module _ (cs : List Clause) (g₀ : Goal) where
   unfolding Known
   known-more u (take s q b) h = reached-more h
   known-more u (try s a m ms k b) h = (reached-more (h .0), h .1)
-  known-more u (match m b) h = record { tried = h .tried; reached = reached-more (h .reached); acts = h .acts; comes = h .comes }
+  known-more u (match m b) h = record { way = h .way; reached = reached-more (h .reached) }
   known-more u (done s ls) h = reached-more h
 
   -- Taking a goal: the cases of definition 6 but (vi) and (vii)
@@ -112,51 +112,63 @@ module _ (cs : List Clause) (g₀ : Goal) where
   settle-known u fail b h = tt
 
   -- A match begins.
-  tryMember-known : (u : ℕ) (s : Store) (a : Atom) (m : Entry Leaf) (ms : List (Entry Leaf)) (k : ℕ) (b : Branch)
+  try-known : (u : ℕ) (s : Store) (a : Atom) (m : Entry Leaf) (ms : List (Entry Leaf)) (k : ℕ) (b : Branch)
       → Good (TryBelow a (m ∷ ms) (b .goals)) s
       → Reached cs g₀ u s (atomSequent a ∷ map paperOf (b .goals)) (b .path) → StandsAt 1 (entries (a .program)) k m
-      → a .predicate ≡ m .member .predicate → All (Known u) (tryMember s a m k b)
-  unfolding tryMember comparing settle matchSteps
-  tryMember-known u s a m ms k b o r p q = go (pushPairs (a .arguments) (substitutes (m .member .arguments) (triedEnvironment s m)) []) refl
-    where
-      go : (x : Option (List Pair)) → pushPairs (a .arguments) (substitutes (m .member .arguments) (triedEnvironment s m)) [] ≡ x
-          → All (Known u) (settle (comparing (fresh (m .member .prefix) (a .level) s) x) (triedBranch s a m k b))
-      go none e = tt
-      go (some qs) e = settle-known u (pairs (fresh (m .member .prefix) (a .level) s) qs) (triedBranch s a m k b) (record {
-        tried = record {
+      → All (Known u) (settle (matchSteps 1 (pairs (triedStore s a m) (triedAtoms s a m))) (triedBranch s a m k b))
+  try-known u s a m ms k b o r p =
+      settle-known u (matchSteps 1 (pairs (triedStore s a m) (triedAtoms s a m))) (triedBranch s a m k b) (record {
+        way = record {
           store = s;
           atom = a;
-          entry = m;
+          member = m;
           k = k;
           before = b;
+          acts = 0;
+          trying = trying s a m ms k (b .goals) o p;
+          comes = refl;
           branch = refl;
-          formed = o .formed;
-          placed = p;
-          predicate = q;
-          pairs = qs;
-          compared = e;
-          below = compared-below s a m qs (o .formed) (o .extra .arguments) (o .extra .members .0) e;
         };
         reached = r;
-        acts = 0;
-        comes = refl;
       })
+
+  -- An act of matching belongs to the same try.
+  way-on : {m : Matching} {b : Branch} → MatchUnderWay m b → MatchUnderWay (matchStep m) b
+  unfolding matchSteps
+  way-on w = record {
+    store = w .store;
+    atom = w .atom;
+    member = w .member;
+    k = w .k;
+    before = w .before;
+    acts = suc (w .acts);
+    trying = w .trying;
+    comes = ap matchStep (w .comes);
+    branch = w .branch;
+  }
 
   -- An act leads on by definition 6.
   pub step-known : (u : ℕ) (c : Configuration) → Invariant c → Known u c → All (Known (suc u)) (step u c)
-  unfolding step Known Invariant matchSteps
-  step-known u (take s q b) o h = takeGoal-known u s (q .goal) (q .environment) (q .program) (q .level) b (o .formed) h
+  unfolding Known Invariant way-on
+  step-known u (take s q b) o h =
+      unfold step in takeGoal-known u s (q .goal) (q .environment) (q .program) (q .level) b (o .formed) h
   step-known u (try s a m ms k b) o h =
-      all-append (Known (suc u)) (cond (eqb (a .predicate) (m .member .predicate)) (tryMember s a m k b) []) (tryFrom s a ms (suc k) b)
-      (go (eqb (a .predicate) (m .member .predicate)) refl) (tryFrom-known (suc u) s a ms (suc k) b (reached-more (h .0)) (h .1 .1))
-    where
-      go : (same : Bool) → eqb (a .predicate) (m .member .predicate) ≡ same → All (Known (suc u)) (cond same (tryMember s a m k b) [])
-      go true e = tryMember-known (suc u) s a m ms k b o (reached-more (h .0)) (h .1 .0) (eqb-true (a .predicate) (m .member .predicate) e)
-      go false e = tt
+      subst (All (Known (suc u))) (sym (try-step u s a m ms k b))
+      (all-append (Known (suc u)) (settle (matchSteps 1 (pairs (triedStore s a m) (triedAtoms s a m))) (triedBranch s a m k b))
+      (tryFrom s a ms (suc k) b)
+      (try-known (suc u) s a m ms k b o (reached-more (h .0)) (h .1 .0))
+      (tryFrom-known (suc u) s a ms (suc k) b (reached-more (h .0)) (h .1 .1)))
   step-known u (match m b) o h =
-      settle-known (suc u) (matchStep m) b
-      (record { tried = h .tried; reached = reached-more (h .reached); acts = suc (h .acts); comes = ap matchStep (h .comes) })
-  step-known u (done s ls) o h = (reached-more h, tt)
+      unfold step in settle-known (suc u) (matchStep m) b (record { way = way-on (h .way); reached = reached-more (h .reached) })
+  step-known u (done s ls) o h = unfold step in (reached-more h, tt)
+
+  -- So every match is one of T3's.
+  pub known-formed : (u : ℕ) (c : Configuration) → Invariant c → Known u c → WellFormed c
+  unfolding Known Invariant WellFormed
+  known-formed u (take s q b) o h = o .formed
+  known-formed u (try s a m ms k b) o h = trying s a m ms k (b .goals) o (h .1 .0)
+  known-formed u (match m b) o h = h .way
+  known-formed u (done s ls) o h = o
 
   -- The start is definition 8's first state.
   pub start-known : All (Known 0) (start cs g₀)

@@ -1,76 +1,91 @@
--- A member of a program that is tried with an atom: what the search compares, and where it stands meanwhile.
-use Prim.Native.Nat.{ℕ}
-use mathlib.Core.Path.{_≡_, subst}
+-- A member of a program that is tried with an atom: its match is one of T3's, and where the search stands meanwhile.
+use Prim.Native.Nat.{ℕ, suc}
+use mathlib.Core.Path.{_≡_, refl, sym, _∙_, ap}
+use mathlib.Core.Bool.{Bool, true, false, cond}
 use mathlib.Core.List.{List, [], _∷_, _++_, map}
-use mathlib.Core.Option.{some}
+use lib.Dec.{eqb}
 use Rattle.terms.specs.Lists.{All}
-use Rattle.terms.specs.Terms.{app, substitutes, Leaves, LeavesAll}
+use Rattle.terms.specs.Terms.{Term, app, Terms, substitutes, Leaves}
 use Rattle.formulas.specs.Formulas.{Goal, Clause}
-use Rattle.sequents.specs.Sequents.{Environment, Entry, entries, bodySequent, Dclause}
-use Rattle.unification.specs.Store.{Leaf, Store, past, fresh, freshVariables}
-use Rattle.unification.specs.Matching.{Pair, Matching, pairs, pushPairs, comparing, matchSteps}
-use Rattle.unification.specs.Promises.{Below, BelowPair, Formed}
-use Rattle.unification.proofs.Stores.{below-more, past-le, fresh-formed}
-use Rattle.unification.proofs.Invariant.{Running, comparing-running}
-use Rattle.search.specs.Configurations.{Branch, branch, Atom}
-use Rattle.search.specs.Paper.{g-atom, embed}
-use Rattle.search.specs.Procedure.{PaperSequent, paperSequent, formulasOf, paperOf}
-use Rattle.search.proofs.Invariant.{EnvironmentBelow, substitutes-below, prefix-below}
-use Rattle.search.proofs.ProcedureRenaming.{freshEnvironment}
+use Rattle.sequents.specs.Sequents.{Entry, entries, Sequent}
+use Rattle.unification.specs.Store.{Leaf, Binding, Store, look1, look, past, fresh, freshVariables}
+use Rattle.unification.specs.Matching.{Pair, Matching, pairs, fail, pushPairs, comparing, compareTerms, matchStep, matchSteps}
+use Rattle.unification.specs.Labelled.{Labelling}
+use Rattle.unification.specs.Promises.{BelowPair, Labels, Matches}
+use Rattle.unification.proofs.Promises.{unification}
+use Rattle.unification.proofs.Stores.{past-le, fresh-formed}
+use Rattle.unification.proofs.Invariant.{Good}
+use Rattle.search.specs.Configurations.{Branch, Atom, Configuration, try}
+use Rattle.search.specs.Steps.{settle, triedStore, triedEnvironment, triedBranch, tryMember, tryFrom, step}
+use Rattle.search.specs.Procedure.{paperOf}
+use Rattle.search.specs.Promises.{triedAtoms, Trying, MatchUnderWay, atomSequent}
+use Rattle.search.proofs.Invariant.{TryBelow, terms-more, substitutes-below, prefix-below}
 use Rattle.search.proofs.ProcedurePlaces.{StandsAt}
 use Rattle.search.proofs.ProcedureReached.{Reached}
 
--- The sequent of an atom that was taken.
-abbrev pub atomSequent : Atom → PaperSequent
-atomSequent a = paperSequent (g-atom (a .predicate) (substitutes (a .arguments) embed)) (formulasOf (a .program)) (a .level)
-
--- The environment of a member that is tried, with fresh variables for its prefix.
-abbrev pub triedEnvironment : Store → Entry Leaf → Environment Leaf
-triedEnvironment s m = freshEnvironment (m .member .prefix) (s .next) (m .environment)
-
--- The pairs qs are those of the arguments of the atom and of the member, which are compared.
-abbrev pub Compared : Store → Atom → Entry Leaf → List Pair → Type 0
-Compared s a m qs = pushPairs (a .arguments) (substitutes (m .member .arguments) (triedEnvironment s m)) [] ≡ some qs
-
--- The branch if they match.
-abbrev pub triedBranch : Store → Atom → Entry Leaf → ℕ → Branch → Branch
-triedBranch s a m k b =
-    branch (bodySequent (m .member .body) (triedEnvironment s m) (a .program) (a .level) ++ b .goals)
-    (Dclause k (freshVariables (m .member .prefix) (s .next)) ∷ b .path)
-
--- The pairs have only variables that have been made.
-pub compared-below : (s : Store) (a : Atom) (m : Entry Leaf) (qs : List Pair) → Formed s
-    → LeavesAll (a .arguments) (Below (s .next)) → EnvironmentBelow (s .next) (m .environment) → Compared s a m qs
-    → All (BelowPair (past (m .member .prefix) (s .next))) qs
-unfolding Leaves comparing Running fresh
-compared-below s a m qs f h k e =
+-- The two atoms have only variables that have been made.
+atoms-below : (s : Store) (a : Atom) (m : Entry Leaf) (ms : List (Entry Leaf)) (gs : List (Sequent Leaf)) → Good (TryBelow a (m ∷ ms) gs) s
+    → All (BelowPair (past (m .member .prefix) (s .next))) (triedAtoms s a m)
+unfolding Leaves
+atoms-below s a m ms gs o =
     let vs = m .member .prefix in
-    let n = past vs (s .next) in
-    let us = substitutes (m .member .arguments) (triedEnvironment s m) in
-    subst (λ o. Running (λ n. Unit {0}) (comparing (fresh vs (a .level) s) o)) e
-    (comparing-running (λ n. Unit {0}) (fresh vs (a .level) s) (a .arguments) us []
-    (record { formed = fresh-formed vs (a .level) s f; extra = tt })
-    (below-more (app 0 (a .arguments)) (s .next) n (past-le vs (s .next)) h)
-    (substitutes-below (m .member .arguments) (triedEnvironment s m) n (prefix-below vs (s .next) (m .environment) k)) tt) .1
+    let n = past vs (s .next) in (
+      (
+        terms-more (s .next) n (a .arguments) (past-le vs (s .next)) (o .extra .arguments),
+        substitutes-below (m .member .arguments) (triedEnvironment s m) n
+            (prefix-below vs (s .next) (m .environment) (o .extra .members .0)),
+      ),
+      tt,
+    )
 
--- The branch b is that of a member tried, which stands at place k among the members at the atom.
-pub record Tried (b : Branch) : Type 0 where
-  pub store : Store
-  pub atom : Atom
-  pub entry : Entry Leaf
-  pub k : ℕ
-  pub before : Branch
-  pub branch : b ≡ triedBranch store atom entry k before
-  pub formed : Formed store
-  pub placed : StandsAt 1 (entries (atom .program)) k entry
-  pub predicate : atom .predicate ≡ entry .member .predicate
-  pub pairs : List Pair
-  pub compared : Compared store atom entry pairs
-  pub below : All (BelowPair (past (entry .member .prefix) (store .next))) pairs
+-- So T3 speaks of them.
+pub trying : (s : Store) (a : Atom) (m : Entry Leaf) (ms : List (Entry Leaf)) (k : ℕ) (gs : List (Sequent Leaf))
+    → Good (TryBelow a (m ∷ ms) gs) s → StandsAt 1 (entries (a .program)) k m → Trying s a m k
+unfolding fresh
+trying s a m ms k gs o p = record {
+  formed = o .formed;
+  within = p .0;
+  stands = p .1;
+  matches = λ L labels. unification (triedStore s a m) (triedAtoms s a m) L (fresh-formed (m .member .prefix) (a .level) s (o .formed))
+      (atoms-below s a m ms gs o) labels;
+}
 
--- The matching of its pairs, the search having reached the atom before.
+-- An application is looked through to itself.
+look-app : (bs : List Binding) (f : ℕ) (ts : Terms Leaf) → look bs (app f ts) ≡ app f ts
+unfolding look look1
+look-app [] f ts = refl
+look-app (b ∷ bs) f ts = ap (λ (t : Term Leaf). look1 t b) (look-app bs f ts)
+
+-- The first step of matching the two atoms: the predicates, then the arguments.
+atoms-step : (s : Store) (a : Atom) (m : Entry Leaf) → matchSteps 1 (pairs (triedStore s a m) (triedAtoms s a m))
+    ≡ cond (eqb (a .predicate) (m .member .predicate))
+    (comparing (triedStore s a m) (pushPairs (a .arguments) (substitutes (m .member .arguments) (triedEnvironment s m)) [])) fail
+unfolding matchSteps matchStep compareTerms
+atoms-step s a m =
+    let st = triedStore s a m in
+    rw (
+      matchSteps,
+      matchStep,
+      look-app (st .bindings) (a .predicate) (a .arguments),
+      look-app (st .bindings) (m .member .predicate) (substitutes (m .member .arguments) (triedEnvironment s m)),
+    )
+
+-- A try does that step, with the members left as the alternative.
+pub try-step : (u : ℕ) (s : Store) (a : Atom) (m : Entry Leaf) (ms : List (Entry Leaf)) (k : ℕ) (b : Branch)
+    → step u (try s a m ms k b)
+    ≡ settle (matchSteps 1 (pairs (triedStore s a m) (triedAtoms s a m))) (triedBranch s a m k b) ++ tryFrom s a ms (suc k) b
+unfolding step tryMember settle
+try-step u s a m ms k b = rw (step, atoms-step s a m) (go (eqb (a .predicate) (m .member .predicate)))
+  where
+    x : Matching
+    x = comparing (triedStore s a m) (pushPairs (a .arguments) (substitutes (m .member .arguments) (triedEnvironment s m)) [])
+
+    go : (same : Bool) → cond same (settle x (triedBranch s a m k b)) [] ++ tryFrom s a ms (suc k) b
+        ≡ settle (cond same x fail) (triedBranch s a m k b) ++ tryFrom s a ms (suc k) b
+    go true = refl
+    go false = refl
+
+-- A match under way, the search having reached its atom before.
 pub record Resolving (cs : List Clause) (g : Goal) (u : ℕ) (m : Matching) (b : Branch) : Type 0 where
-  pub tried : Tried b
-  pub reached : Reached cs g u (tried .store) (atomSequent (tried .atom) ∷ map paperOf (tried .before .goals)) (tried .before .path)
-  pub acts : ℕ
-  pub comes : matchSteps acts (pairs (fresh (tried .entry .member .prefix) (tried .atom .level) (tried .store)) (tried .pairs)) ≡ m
+  pub way : MatchUnderWay m b
+  pub reached : Reached cs g u (way .store) (atomSequent (way .atom) ∷ map paperOf (way .before .goals)) (way .before .path)

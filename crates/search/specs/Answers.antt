@@ -6,16 +6,17 @@ use Rattle.terms.specs.Terms.{Term, leaf, substitute}
 use Rattle.sequents.specs.Symbols.{Symbol, made, leftover}
 use Rattle.sequents.specs.Sequents.{Environment, Line, putLine, putEnvironment}
 use Rattle.unification.specs.Store.{Leaf, var, con, Store, at, solution}
+use Rattle.unification.specs.Labelled.{Labelling}
 use Rattle.search.specs.Search.{startEnvironment}
 
 -- An unbound variable is a leftover variable of its final level; a made constant is itself.
-unfoldable pub symbolOf : Store → Leaf → Term Symbol
-symbolOf s (var x) = leaf (leftover x (s .level x))
-symbolOf s (con c k) = leaf (made c k)
+unfoldable pub symbolUnder : Labelling → Leaf → Term Symbol
+symbolUnder L (var x) = leaf (leftover x (L x))
+symbolUnder L (con c k) = leaf (made c k)
 
 -- The final value of a leaf: the bindings applied, then the symbols.
 unfoldable pub final : Store → Leaf → Term Symbol
-final s l = substitute (at (solution s) l) (symbolOf s)
+final s l = substitute (at (solution s) l) (symbolUnder (s .level))
 
 -- What the names of the goal stand for at the end, and the D lines in the order taken.
 unfoldable pub finalEnvironment : Store → Environment Symbol

@@ -111,13 +111,13 @@ abbrev pub names : Environment Leaf → Names
 names e v = substitute (e v) embed
 
 -- Definition 2, elab, with document 01's rule for prefixes: ∀x goes to the members in which x stands free.
-unfoldable pub isName : PaperLeaf → ℕ → Bool
-isName (name w) v = eqb w v
-isName (free l) v = false
+unfoldable pub isNameLeaf : PaperLeaf → ℕ → Bool
+isNameLeaf (name w) v = eqb w v
+isNameLeaf (free l) v = false
 
 unfoldable mutual
   pub inT : Term PaperLeaf → ℕ → Bool
-  inT (leaf a) v = isName a v
+  inT (leaf a) v = isNameLeaf a v
   inT (app f ts) v = inTs ts v
 
   pub inTs : Terms PaperLeaf → ℕ → Bool

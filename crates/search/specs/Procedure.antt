@@ -8,16 +8,18 @@ use mathlib.Core.Option.{Option, none, some}
 use mathlib.Core.Logic.{_⊎_}
 use lib.ListN.{length}
 use Rattle.terms.specs.Lists.{All, Mem, place, update}
-use Rattle.terms.specs.Terms.{Term, leaf, app, Terms, substitutes}
+use Rattle.terms.specs.Terms.{Term, leaf, app, Terms, substitute, substitutes}
 use Rattle.formulas.specs.Formulas.{Goal, Clause, freeVariables}
+use Rattle.sequents.specs.Symbols.{Symbol}
 use Rattle.sequents.specs.Sequents.{Environment, Hypothesis, Program, Sequent, Word, Dtrue, Dand, Dleft, Dright, Dassume, Line, plain}
 use Rattle.sequents.specs.Sequents.{Dsome, Dall, Dclause}
 use Rattle.sequents.specs.Derivations.{sheetProgram}
-use Rattle.unification.specs.Store.{Leaf, var, con, apply}
+use Rattle.unification.specs.Store.{Leaf, var, con, at, apply}
 use Rattle.unification.specs.Labelled.{Substitution, Labelling, Induced, MostGeneral}
 use Rattle.search.specs.Paper.{PaperLeaf, name, free, Names, replaceNames, embed, G, g-atom, g-true, g-and, g-or, g-implies, g-exists}
 use Rattle.search.specs.Paper.{g-forall, D, putG, replace, applyG, applyD, formulaG, formulaD, names, Elaborated, elabs}
 use Rattle.search.specs.Search.{startEnvironment}
+use Rattle.search.specs.Answers.{symbolUnder}
 
 -- A sequent of the paper is ⟨G, 𝒫, I⟩.
 pub record PaperSequent : Type 0 where
@@ -146,6 +148,10 @@ pub data DerivationSequence (S₀ : State) : List (Line Leaf) → State → Type
 unfoldable pub composition : {S₀ : State} {ls : List (Line Leaf)} {S : State} → DerivationSequence S₀ ls S → ℕ → Term Leaf
 composition {S₀ = S₀} start x = S₀ .substitution .to x
 composition (then {S₂ = S₂} l d h) x = apply (composition d x) (S₂ .substitution .to)
+
+-- Definition 8: the answer substitution, on all leaves and with final labels: an unbound variable is a leftover variable.
+unfoldable pub answerOf : {S₀ : State} {ls : List (Line Leaf)} {S : State} → DerivationSequence S₀ ls S → Leaf → Term Symbol
+answerOf {S = S} d l = substitute (at (composition d) l) (symbolUnder (S .labels))
 
 -- Definition 8: the first state for a goal relative to a program; 𝒱₁ is the goal's free variables.
 unfoldable pub formulasOf : Program Leaf → List D

@@ -1,48 +1,89 @@
 -- Promises T2, T4, T5 and T7 about the search (demands 2 and 3), and that every match in it is one of T3's.
-use Prim.Native.Nat.{ℕ, _≤_, _<_}
+use Prim.Native.Nat.{ℕ, suc, _+_, _≤_, _<_}
 use mathlib.Core.Path.{_≡_}
 use mathlib.Core.Bool.{true}
-use mathlib.Core.List.{List, [], _∷_, map}
-use mathlib.Core.Logic.{_↔_}
-use Rattle.terms.specs.Lists.{All}
-use Rattle.terms.specs.Terms.{Term, leaf, substitutes}
+use mathlib.Core.List.{List, [], _∷_, _++_, map}
+use mathlib.Core.Option.{none}
+use mathlib.Core.Logic.{_⊎_, _↔_}
+use Rattle.terms.specs.Lists.{All, Mem, place}
+use Rattle.terms.specs.Terms.{app, substitutes}
 use Rattle.formulas.specs.Formulas.{Goal, Clause, freeG, variableNames}
 use Rattle.sequents.specs.Symbols.{Symbol, level}
-use Rattle.sequents.specs.Sequents.{Environment, Sequent, Line}
+use Rattle.sequents.specs.Sequents.{Environment, Entry, entries, Line}
 use Rattle.sequents.specs.Derivations.{instanceOf, InstanceDerivation}
 use Rattle.sequents.specs.Lines.{Derives}
 use Rattle.sequents.specs.Promises.{Closed}
 use Rattle.unification.specs.Store.{Leaf, Store, solution}
 use Rattle.unification.specs.Matching.{Pair, Matching, pairs, matchSteps}
-use Rattle.unification.specs.Promises.{BelowPair, Formed, Labels}
-use Rattle.search.specs.Configurations.{Atom, Configuration, take, try, match, done}
-use Rattle.search.specs.Search.{Verdict, proved, noProof, ComesTo, Outcome, ends, spent, search, after}
-use Rattle.search.specs.Answers.{finalEnvironment, finalLines}
+use Rattle.unification.specs.Labelled.{Labelling, Substitution, Unifier}
+use Rattle.unification.specs.Promises.{Formed, readPairs, Labels, Solved, Matches}
+use Rattle.search.specs.Configurations.{Branch, Atom, Configuration, take, try, match, done}
+use Rattle.search.specs.Steps.{proceed, tryFrom, triedStore, triedEnvironment, triedBranch}
+use Rattle.search.specs.Search.{after, Verdict, proved, noProof, verdictOf, ComesTo, ends, spent, search}
+use Rattle.search.specs.Answers.{final, finalEnvironment, finalLines}
 use Rattle.search.specs.Paper.{g-atom, embed}
-use Rattle.search.specs.Procedure.{PaperSequent, paperSequent, applySequent, State, DerivationSequence, composition, formulasOf}
-use Rattle.search.specs.Procedure.{paperOf, initial}
+use Rattle.search.specs.Procedure.{PaperSequent, paperSequent, applySequent, State, DerivationSequence, composition, answerOf}
+use Rattle.search.specs.Procedure.{formulasOf, paperOf, initial}
 
 -- T2, demand 3: "Whoever is told proved or no is told what the walk of document 01 comes to, with its units"; "told spent
--- exactly if the walk needs more units than the budget". What it comes to is one thing.
+-- exactly if the walk needs more units than the budget": an act is due after each number of acts up to it. What it comes to is one thing.
 pub record Units (cs : List Clause) (g : Goal) : Type 0 where
   pub tells : (budget n : ℕ) (v : Verdict) → (search budget cs g ≡ ends v n) ↔ (ComesTo cs g n v × (n ≤ budget))
   pub spends : (budget : ℕ) → (search budget cs g ≡ spent) ↔ ((n : ℕ) (v : Verdict) → ComesTo cs g n v → budget < n)
+  pub due : (budget : ℕ) → (search budget cs g ≡ spent) ↔ ((n : ℕ) → n ≤ budget → verdictOf (after cs g n) ≡ none)
   pub once : (n m : ℕ) (v w : Verdict) → ComesTo cs g n v → ComesTo cs g m w → (n ≡ m) × (v ≡ w)
 
--- Every store of a search is one of T3's, and every match under way comes, act by act, from pairs that T3 speaks of.
-pub record MatchUnderWay (m : Matching) : Type 0 where
-  pub before : Store
-  pub compared : List Pair
-  pub acts : ℕ
-  pub formed : Formed before
-  pub below : All (BelowPair (before .next)) compared
-  pub comes : matchSteps acts (pairs before compared) ≡ m
+-- The two atoms of a try: the one taken, and the member's head with the fresh variables for its prefix.
+abbrev pub triedAtoms : Store → Atom → Entry Leaf → List Pair
+triedAtoms s a m = record {
+  goal = app (a .predicate) (a .arguments);
+  clause = app (m .member .predicate) (substitutes (m .member .arguments) (triedEnvironment s m));
+} ∷ []
 
+-- T3 of a try: the member m stands at place k among the members at the atom a, and its match is one of T3's.
+pub record Trying (s : Store) (a : Atom) (m : Entry Leaf) (k : ℕ) : Type 0 where
+  pub formed : Formed s
+  pub within : Mem m (entries (a .program))
+  pub stands : place 1 within ≡ k
+  pub matches : (L : Labelling) → Labels L (triedStore s a m) → Matches (triedStore s a m) (triedAtoms s a m) L
+
+-- A match under way, the branch being b if it succeeds, is that of a try. Comparing the predicates, its first step, is part of the try.
+pub record MatchUnderWay (m : Matching) (b : Branch) : Type 0 where
+  pub store : Store
+  pub atom : Atom
+  pub member : Entry Leaf
+  pub k : ℕ
+  pub before : Branch
+  pub acts : ℕ
+  pub trying : Trying store atom member k
+  pub comes : matchSteps (suc acts) (pairs (triedStore store atom member) (triedAtoms store atom member)) ≡ m
+  pub branch : b ≡ triedBranch store atom member k before
+
+-- Every store of a search is one of T3's, every try's match is one of T3's, and a match under way belongs to its try.
 unfoldable pub WellFormed : Configuration → Type 0
 WellFormed (take s g b) = Formed s
-WellFormed (try s a m ms k b) = Formed s
-WellFormed (match m b) = MatchUnderWay m
+WellFormed (try s a m ms k b) = Trying s a m k
+WellFormed (match m b) = MatchUnderWay m b
 WellFormed (done s ls) = Formed s
+
+-- Demand 2: "A match that is not cut off by the budget succeeds exactly if a unifier that respects the levels exists, and the most general
+-- one is bound." Of the search itself: a try that is due after n acts, the alternatives being ds, ends after some acts more. Either
+-- its branch is gone on with, a most general unifier of the two atoms being bound; or there is no unifier, and the members left are next.
+abbrev pub Matched : Store → Atom → Entry Leaf → ℕ → Branch → Labelling → List Configuration → List Configuration → Type 0
+Matched s a m k b L rest ds =
+    (s′ : Store) × (ds ≡ proceed s′ (triedBranch s a m k b .goals) (triedBranch s a m k b .path) ++ rest)
+    × Solved L (triedStore s a m) (triedAtoms s a m) s′
+
+abbrev pub NotMatched : Store → Atom → Entry Leaf → Labelling → List Configuration → List Configuration → Type 0
+NotMatched s a m L rest ds =
+    (ds ≡ rest) × ((φ : Substitution) → Unifier L (readPairs (triedStore s a m) (triedAtoms s a m)) φ → ⊥)
+
+abbrev pub AllTries : Type 0
+AllTries = (cs : List Clause) (g : Goal) (n : ℕ) (s : Store) (a : Atom) (m : Entry Leaf) (ms : List (Entry Leaf)) (k : ℕ) (b : Branch)
+    (ds : List Configuration) → after cs g n ≡ try s a m ms k b ∷ ds
+    → (L : Labelling) → Labels L (triedStore s a m)
+    → (acts : ℕ) × (Matched s a m k b L (tryFrom s a ms (suc k) b ++ ds) (after cs g (suc n + acts))
+    ⊎ NotMatched s a m L (tryFrom s a ms (suc k) b ++ ds) (after cs g (suc n + acts)))
 
 -- T4, demand 2: "Every run follows the derivation steps of Nadathur's CS-1992-17, in the order of document 01". Goals gs with a
 -- store and the lines so far: there is a derivation sequence of definition 7 from the first state, with the case of
@@ -55,12 +96,16 @@ pub record Follows (cs : List Clause) (g : Goal) (s : Store) (gs : List PaperSeq
   pub labels : Labels (state .labels) s
   pub answer : (x : ℕ) → composition sequence x ≡ solution s x
 
+-- The sequent of an atom that was taken.
+abbrev pub atomSequent : Atom → PaperSequent
+atomSequent a = paperSequent (g-atom (a .predicate) (substitutes (a .arguments) embed)) (formulasOf (a .program)) (a .level)
+
+-- A match under way has not yet led on: its atom is still to be derived, the goals that wait and the lines being those before the try.
 unfoldable pub FollowsSteps : List Clause → Goal → Configuration → Type 0
 FollowsSteps cs g (take s q b) = Follows cs g s (map paperOf (q ∷ b .goals)) (b .path)
-FollowsSteps cs g (try s a m ms k b) =
-    Follows cs g s (paperSequent (g-atom (a .predicate) (substitutes (a .arguments) embed)) (formulasOf (a .program))
-    (a .level) ∷ map paperOf (b .goals)) (b .path)
-FollowsSteps cs g (match m b) = Unit {0}
+FollowsSteps cs g (try s a m ms k b) = Follows cs g s (atomSequent a ∷ map paperOf (b .goals)) (b .path)
+FollowsSteps cs g (match m b) = (w : MatchUnderWay m b) × Follows cs g (w .store) (atomSequent (w .atom) ∷ map paperOf (w .before .goals))
+    (w .before .path)
 FollowsSteps cs g (done s ls) = Follows cs g s [] ls
 
 pub record DerivationSteps (cs : List Clause) (g : Goal) : Type 0 where
@@ -68,7 +113,7 @@ pub record DerivationSteps (cs : List Clause) (g : Goal) : Type 0 where
   pub follows : (n : ℕ) → All (FollowsSteps cs g) (after cs g n)
   -- Definition 8: a proved search is a derivation of the goal; its answer substitution is what the final store gives.
   pub derivation : (budget n : ℕ) (s : Store) (path : List (Line Leaf)) → search budget cs g ≡ ends (proved s path) n
-      → Follows cs g s [] path
+      → (f : Follows cs g s [] path) × ((l : Leaf) → answerOf (f .sequence) l ≡ final s l)
 
 -- T5: the lines of a proved search, with final bindings and levels, derive that instance of the goal.
 pub record Sound (cs : List Clause) (g : Goal) (s : Store) (path : List (Line Leaf)) : Type 0 where

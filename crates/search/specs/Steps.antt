@@ -32,13 +32,23 @@ unfoldable pub tryFrom : Store → Atom → List (Entry Leaf) → ℕ → Branch
 tryFrom s a [] k b = []
 tryFrom s a (m ∷ ms) k b = try s a m ms k b ∷ []
 
--- "The prefix gets fresh variables of level I. If the heads match, the body, if any, is the new goal."
+-- "The prefix gets fresh variables of level I."
+abbrev pub triedStore : Store → Atom → Entry Leaf → Store
+triedStore s a m = fresh (m .member .prefix) (a .level) s
+
+abbrev pub triedEnvironment : Store → Entry Leaf → Environment Leaf
+triedEnvironment s m = assign (m .member .prefix) (freshVariables (m .member .prefix) (s .next)) (m .environment)
+
+-- "If the heads match, the body, if any, is the new goal": the branch in that case, the member standing at place k.
+abbrev pub triedBranch : Store → Atom → Entry Leaf → ℕ → Branch → Branch
+triedBranch s a m k b =
+    branch (bodySequent (m .member .body) (triedEnvironment s m) (a .program) (a .level) ++ b .goals)
+    (Dclause k (freshVariables (m .member .prefix) (s .next)) ∷ b .path)
+
 unfoldable pub tryMember : Store → Atom → Entry Leaf → ℕ → Branch → List Configuration
 tryMember s a m k b =
-    let xs = freshVariables (m .member .prefix) (s .next) in
-    let e = assign (m .member .prefix) xs (m .environment) in
-    settle (comparing (fresh (m .member .prefix) (a .level) s) (pushPairs (a .arguments) (substitutes (m .member .arguments) e) []))
-    (branch (bodySequent (m .member .body) e (a .program) (a .level) ++ b .goals) (Dclause k xs ∷ b .path))
+    settle (comparing (triedStore s a m) (pushPairs (a .arguments) (substitutes (m .member .arguments) (triedEnvironment s m)) []))
+    (triedBranch s a m k b)
 
 -- Taking a goal. A made constant gets the number u of acts done before: no two acts make the same one.
 unfoldable pub takeGoal : ℕ → Store → Goal → Environment Leaf → Program Leaf → ℕ → Branch → List Configuration

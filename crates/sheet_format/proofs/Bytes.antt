@@ -11,7 +11,7 @@ use Rattle.terms.specs.Lists.{All}
 use Rattle.terms.proofs.Lists.{all-weaken}
 use Rattle.formulas.proofs.Free.{and-parts, or-left}
 use Rattle.sheet_format.specs.Limits.{maxName}
-use Rattle.sheet_format.specs.Bytes.{isDigit, isLetter, isNameByte, nameBytes, isName, sameBytes, lf, Lines, extendLine, linesOf}
+use Rattle.sheet_format.specs.Bytes.{isDigit, isLetter, isNameByte, nameBytes, isName, sameBytes, lf, SplitLines, extendLine, linesOf}
 
 -- sameBytes
 
@@ -137,7 +137,7 @@ pub name-is-graphic : (b : List ℕ) → isName b ≡ true → Graphic b
 name-is-graphic b h = all-weaken (λ d. isNameByte d ≡ true) (λ d. 32 < d) name-graphic b (name-kinds b h)
 
 -- Whole lines and a rest.
-abbrev pub lines : List (List ℕ) → List ℕ → Lines
+abbrev pub lines : List (List ℕ) → List ℕ → SplitLines
 lines ls r = record { whole = ls; rest = r }
 
 -- A byte other than LF goes in front of the first line, or of the rest.

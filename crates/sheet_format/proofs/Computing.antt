@@ -8,7 +8,7 @@ use Rattle.sheet_format.specs.Bytes.{ascii, extendLine, linesOf, extendF
 use Rattle.sheet_format.specs.Bytes.{atMost, number, digits, decimal, nameBytes, isName, sameBytes}
 use Rattle.sheet_format.specs.SheetLines.{consNumber, numbers, declared, declaration, noNumber, oneNumber, twoNumbers, withVariable}
 use Rattle.sheet_format.specs.SheetLines.{application, lineOf, ofFields, parseLine}
-use Rattle.sheet_format.specs.Nodes.{neither, memberCount, consTerm, termsOf, sized, termNode, applied, applyNode, goals2}
+use Rattle.sheet_format.specs.Nodes.{neither, memberCount, consTerm, termNodes, sized, termNode, applied, applyNode, goals2}
 use Rattle.sheet_format.specs.Nodes.{bothClauses, supposed, ruled, with1, with2, consNode, nodesAt, withSymbol, nodeOf, isSome}
 use Rattle.sheet_format.specs.Nodes.{isSomething}
 use Rattle.sheet_format.specs.Sheets.{Read, isDeclared, takeDeclaration, addNode, takeNode, anyFree, addClause, clauseAt, takeClause}
@@ -18,7 +18,7 @@ unfoldable pub computeSheet : List ℕ → Read
 unfolding ascii extendLine linesOf extendField fields isDigit isLetter isNameByte digitsFrom atMost number nameBytes isName sameBytes
     consNumber numbers
     declared declaration noNumber oneNumber twoNumbers withVariable application lineOf ofFields parseLine neither memberCount consTerm
-    termsOf sized
+    termNodes sized
     termNode applied applyNode goals2 bothClauses supposed ruled with1 with2 consNode nodesAt withSymbol nodeOf isSome isSomething
     isDeclared
     takeDeclaration addNode takeNode anyFree addClause clauseAt takeClause lastGoal goalAt takeLine atEnd afterGoal readFrom readSheet

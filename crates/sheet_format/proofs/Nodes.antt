@@ -13,7 +13,7 @@ use Rattle.formulas.specs.Formulas.{Goal, atom, truth, and, or, implies, exists
 use Rattle.sheet_format.specs.Limits.{maxTermSize, maxMembers}
 use Rattle.sheet_format.specs.SheetLines.{NodeLine, variableLine, applyLine, trueLine, andLine, orLine, impliesLine, someLine}
 use Rattle.sheet_format.specs.SheetLines.{everyLine}
-use Rattle.sheet_format.specs.Nodes.{Declaration, Node, neither, memberCount, consTerm, termsOf, sized, termNode, applied, applyNode}
+use Rattle.sheet_format.specs.Nodes.{Declaration, Node, neither, memberCount, consTerm, termNodes, sized, termNode, applied, applyNode}
 use Rattle.sheet_format.specs.Nodes.{goals2, bothClauses, supposed, ruled, with1, with2, consNode, nodesAt, withSymbol, nodeOf}
 use Rattle.sheet_format.proofs.Options.{OnSome, cond-some, map-some, some-weaken}
 use Rattle.sheet_format.proofs.Indexing.{at-some}
@@ -56,10 +56,10 @@ consTerm-some ds n (some t) none h k = tt
 consTerm-some ds n (some t) (some ts) h k = (ap suc (k .0), (h, k .1))
 
 -- Well-formed nodes, as terms, are a well-formed list of as many terms.
-termsOf-some : (ds : List Declaration) (ns : List Node) → All (FormedNode ds) ns → OnSome (FormedList ds (length ns)) (termsOf ns)
-unfolding termsOf count FormedTerm
-termsOf-some ds [] h = (refl, tt)
-termsOf-some ds (n ∷ ns) h = consTerm-some ds (length ns) (n .term) (termsOf ns) (h .0 .term) (termsOf-some ds ns (h .1))
+termNodes-some : (ds : List Declaration) (ns : List Node) → All (FormedNode ds) ns → OnSome (FormedList ds (length ns)) (termNodes ns)
+unfolding termNodes count FormedTerm
+termNodes-some ds [] h = (refl, tt)
+termNodes-some ds (n ∷ ns) h = consTerm-some ds (length ns) (n .term) (termNodes ns) (h .0 .term) (termNodes-some ds ns (h .1))
 
 -- A well-formed term that passes `sized` is well-formed.
 sized-some : (ds : List Declaration) (t : Term ℕ) → FormedTerm t ds → OnSome (λ u. FormedTerm u ds) (sized t)
@@ -84,10 +84,10 @@ applyNode-formed : (ds : List Declaration) (d : Declaration) (f : ℕ) (ns : Lis
 unfolding applyNode
 applyNode-formed ds d f ns h k = go (eqb (length ns) (d .arity)) refl
   where
-    go : (b : Bool) → eqb (length ns) (d .arity) ≡ b → FormedNode ds (cond b (applied (d .function) f (termsOf ns)) neither)
+    go : (b : Bool) → eqb (length ns) (d .arity) ≡ b → FormedNode ds (cond b (applied (d .function) f (termNodes ns)) neither)
     go true e =
-        applied-formed ds (d .function) f (length ns) (termsOf ns)
-        (record { declaration = d; at = h; kind = refl; arity = sym (eqb-true (length ns) (d .arity) e) }) (termsOf-some ds ns k)
+        applied-formed ds (d .function) f (length ns) (termNodes ns)
+        (record { declaration = d; at = h; kind = refl; arity = sym (eqb-true (length ns) (d .arity) e) }) (termNodes-some ds ns k)
     go false e = neither-formed ds
 
 -- One more well-formed node keeps a list of nodes well-formed.

@@ -21,15 +21,15 @@ abbrev pub lf : ℕ
 lf = code "\n"
 
 -- The whole lines, each without its LF, and the bytes after the last LF.
-pub record Lines : Type 0 where
+pub record SplitLines : Type 0 where
   pub whole : List (List ℕ)
   pub rest : List ℕ
 
-unfoldable pub extendLine : ℕ → List (List ℕ) → List ℕ → Lines
+unfoldable pub extendLine : ℕ → List (List ℕ) → List ℕ → SplitLines
 extendLine c [] r = record { whole = []; rest = c ∷ r }
 extendLine c (l ∷ ls) r = record { whole = (c ∷ l) ∷ ls; rest = r }
 
-unfoldable pub linesOf : List ℕ → Lines
+unfoldable pub linesOf : List ℕ → SplitLines
 linesOf [] = record { whole = []; rest = [] }
 linesOf (c ∷ cs) =
     let r = linesOf cs in

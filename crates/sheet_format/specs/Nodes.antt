@@ -40,9 +40,9 @@ consTerm none ts = none
 consTerm (some t) none = none
 consTerm (some t) (some ts) = some (cons t ts)
 
-unfoldable pub termsOf : List Node → Option (Terms ℕ)
-termsOf [] = some nil
-termsOf (n ∷ ns) = consTerm (n .term) (termsOf ns)
+unfoldable pub termNodes : List Node → Option (Terms ℕ)
+termNodes [] = some nil
+termNodes (n ∷ ns) = consTerm (n .term) (termNodes ns)
 
 -- "at most 1,024 variables and symbols, counted as often as they stand"
 unfoldable pub sized : Term ℕ → Option (Term ℕ)
@@ -60,7 +60,7 @@ applied false p (some ts) = record { term = none; goal = some (atom p ts); claus
 
 -- "symbol applied to its arity of terms"
 unfoldable pub applyNode : Declaration → ℕ → List Node → Node
-applyNode d f ns = cond (eqb (length ns) (d .arity)) (applied (d .function) f (termsOf ns)) neither
+applyNode d f ns = cond (eqb (length ns) (d .arity)) (applied (d .function) f (termNodes ns)) neither
 
 -- Both goals; both clauses, "with at most 64 members in all"
 unfoldable pub goals2 : (Goal → Goal → Goal) → Option Goal → Option Goal → Option Goal

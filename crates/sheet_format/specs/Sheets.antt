@@ -26,6 +26,11 @@ pub record Refusal : Type 0 where
 abbrev pub refusal : ℕ → ℕ → Refusal
 refusal n l = record { number = n; line = l }
 
+-- Refusals 1 to 5: turned back with this number and line 0, if the test says so, and otherwise r. A refusal becomes a result by f.
+unfoldable pub turnBackIf : {A : Type 0} → (Refusal → A) → Bool → ℕ → A → A
+turnBackIf f true n r = f (refusal n 0)
+turnBackIf f false n r = r
+
 pub data Read : Type 0 where
   sheet : Sheet → Read
   refused : Refusal → Read

@@ -14,7 +14,7 @@ use Rattle.terms.proofs.Lists.{all-weaken, length-map}
 use Rattle.terms.proofs.Tests.{eqb-comm}
 use Rattle.formulas.specs.Formulas.{Goal, atom, Clause, fact, freeT, freeTs, freeG, freeC}
 use Rattle.formulas.specs.Members.{members}
-use Rattle.sheet_format.specs.Nodes.{Declaration, Node, neither, termsOf, sized, termNode, applied, applyNode, isSome, isSomething}
+use Rattle.sheet_format.specs.Nodes.{Declaration, Node, neither, termNodes, sized, termNode, applied, applyNode, isSome, isSomething}
 use Rattle.sheet_format.specs.Sheets.{addNode as sheetAddNode}
 use Rattle.node_table.specs.Layout.{childCount, labelOf, childOf, maskOf, bitOf, packInfo, isFunctionBit, arityOf}
 use Rattle.node_table.specs.Decoding.{childrenBy, termBy, termAt, argumentsAt, goalAt, clauseAtNode, declarationAt}
@@ -263,7 +263,7 @@ module _ (bytes t : List ℕ) (k : Counts) (st : Decodes bytes t k) (h : k .node
           → Follows bytes t k
           (addNode t k (nodeRecord (appliedKind t f + 16 * count) f a b c d (cond x (cond (allTerms t args) (appliedInfo t f args) 0) 0)))
           (sheetAddNode (tableOf bytes t k)
-          (some (cond x (applied (eqb (isFunctionBit t f) 1) f (termsOf (map (nodeRead t) args))) neither)))
+          (some (cond x (applied (eqb (isFunctionBit t f) 1) f (termNodes (map (nodeRead t) args))) neither)))
       go true p =
           let e = eqb-true (arityOf t f) (length args) p in
           let q = first-length count count a b c d few refl in

@@ -12,7 +12,7 @@ use borrow.Author.Tests.{ltb-true, ltb-false, eqb-true, eqb-false, le-leb, lt-le
 use Rattle.terms.specs.Lists.{All}
 use Rattle.terms.specs.Terms.{Term, Terms, nil, cons, size, sizes}
 use Rattle.formulas.specs.Formulas.{freeT, freeTs}
-use Rattle.sheet_format.specs.Nodes.{Node, consTerm, termsOf, consNode, nodesAt}
+use Rattle.sheet_format.specs.Nodes.{Node, consTerm, termNodes, consNode, nodesAt}
 use Rattle.node_table.specs.Layout.{childOf, maskOf, bitOf, sizeOf}
 use Rattle.node_table.specs.Decoding.{childrenBy, termAt}
 use Rattle.node_table.specs.WellMade.{IsTerm}
@@ -107,8 +107,8 @@ module _ (bytes t : List ℕ) (k : Counts) (st : Decodes bytes t k) where
       go true e ih = rw (node-there a (ltb-true a (k .nodes) e), ih) (join (allThere (k .nodes) l))
       go false e ih = rw (node-missing a (ltb-false a (k .nodes) e))
 
-  pub terms-read : (l : List ℕ) → termsOf (map (nodeRead t) l) ≡ cond (allTerms t l) (some (termsBy (termAt t) l)) none
-  unfolding termsOf allTerms termsBy nodeRead consTerm
+  pub terms-read : (l : List ℕ) → termNodes (map (nodeRead t) l) ≡ cond (allTerms t l) (some (termsBy (termAt t) l)) none
+  unfolding termNodes allTerms termsBy nodeRead consTerm
   terms-read [] = refl
   terms-read (a ∷ l) = go (eqb (sizeOf t a) 0) refl (terms-read l)
     where
@@ -117,8 +117,8 @@ module _ (bytes t : List ℕ) (k : Counts) (st : Decodes bytes t k) where
       join true = refl
       join false = refl
 
-      go : (b : Bool) → eqb (sizeOf t a) 0 ≡ b → termsOf (map (nodeRead t) l) ≡ cond (allTerms t l) (some (termsBy (termAt t) l)) none
-          → consTerm (cond (leb 1 (sizeOf t a)) (some (termAt t a)) none) (termsOf (map (nodeRead t) l))
+      go : (b : Bool) → eqb (sizeOf t a) 0 ≡ b → termNodes (map (nodeRead t) l) ≡ cond (allTerms t l) (some (termsBy (termAt t) l)) none
+          → consTerm (cond (leb 1 (sizeOf t a)) (some (termAt t a)) none) (termNodes (map (nodeRead t) l))
           ≡ cond (cond b false (allTerms t l)) (some (cons (termAt t a) (termsBy (termAt t) l))) none
       go true e ih = let z = eqb-true (sizeOf t a) 0 e in rw (lt-leb 1 (sizeOf t a) (omega arith))
       go false e ih = let z = eqb-false (sizeOf t a) 0 e in rw (le-leb 1 (sizeOf t a) (omega arith), ih) (join (allTerms t l))

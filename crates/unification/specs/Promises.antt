@@ -32,7 +32,7 @@ WellBound (b ∷ bs) =
     × WellBound bs
 
 -- A store as a search has it: its bindings are a substitution without circles, proper for its levels, and no variable in the
--- value of x has a higher level than x. Every store that a search reaches is one (`search`, promise `Stores`).
+-- value of x has a higher level than x. Every store that a search reaches is one (search, `DerivationSteps`, field `formed`).
 pub record Formed (s : Store) : Type 0 where
   pub bound : WellBound (s .bindings)
   pub below : All (BelowBinding (s .next)) (s .bindings)

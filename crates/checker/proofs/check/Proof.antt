@@ -1,10 +1,11 @@
 use mathlib.Core.Path.{sym, _∙_}
 use lib.ListN.{length}
 use lib.Seq.{length-take-le}
-use Rattle.checker_spec.proofs.LineFeeds.{countLf-most}
+use Rattle.checker.proofs.LineFeeds.{countLf-most}
 use Rattle.memory.proofs.Parts.{part-fits}
-use Rattle.checker_spec.proofs.Parts.{part-demanded}
-use Rattle.checker_spec.proofs.SizeChecks.{Passed, early-passed, check-refused, check-short, check-passed}
+use Rattle.checker.proofs.Parts.{part-demanded}
+use Rattle.checker_spec.proofs.Passed.{Passed}
+use Rattle.checker.proofs.SizeChecks.{early-passed, check-refused, check-short, check-passed}
 use borrow.Author.Needs.{needs}
 use Rattle.checker.proofs.check.Statement.{statement}
 use Rattle.checker.proofs.check.Tie as tie

@@ -1,5 +1,5 @@
 use borrow.Author.Tests.{lt-ltb, le-ltb}
-use Rattle.checker_spec.specs.Checking.{checkRefusal}
+use Rattle.checker.specs.Checking.{checkRefusal}
 use Rattle.checker.proofs.check_refusal.Statement.{statement}
 use Rattle.checker.proofs.check_refusal.Tie as tie
 

@@ -2,7 +2,7 @@ use Prim.Native.Nat.{_-_}
 use mathlib.Core.Logic.{⊎-elim}
 use lib.ListN.{length}
 use borrow.Author.Needs.{needs}
-use Rattle.checker_spec.proofs.LineFeeds.{Counted, count-start, count-here, count-other, count-end}
+use Rattle.checker.proofs.LineFeeds.{Counted, count-start, count-here, count-other, count-end}
 use Rattle.checker.proofs.count_lf.Statement.{statement}
 use Rattle.checker.proofs.count_lf.Tie as tie
 

@@ -1,5 +1,5 @@
 use borrow.Author.Needs.{needs}
-use Rattle.checker_spec.proofs.Judged.{text-judged, sheet-refused}
+use Rattle.checker.proofs.Judged.{text-judged, sheet-refused}
 use Rattle.checker.proofs.judge_sheet.Statement.{statement}
 use Rattle.checker.proofs.judge_sheet.Tie as tie
 

@@ -1,5 +1,5 @@
 use borrow.Author.Tests.{eq-eqb, ne-eqb}
-use Rattle.checker_spec.specs.Checking.{verdictAt}
+use Rattle.checker.specs.Checking.{verdictAt}
 use Rattle.checker.proofs.verdict_at.Statement.{statement}
 use Rattle.checker.proofs.verdict_at.Tie as tie
 

@@ -1,4 +1,4 @@
-use Rattle.engine_spec.proofs.Answering.{sheet-answers, refusal-answers}
+use Rattle.engine.proofs.Answering.{sheet-answers, refusal-answers}
 use borrow.Author.Needs.{needs}
 use Rattle.engine.proofs.answer_sheet.Statement.{statement}
 use Rattle.engine.proofs.answer_sheet.Tie as tie

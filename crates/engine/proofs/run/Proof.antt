@@ -8,7 +8,7 @@ use Rattle.sheet_format.specs.Limits.{numbersPerUnit}
 use Rattle.engine_spec.proofs.Answered.{Passed}
 use Rattle.memory.proofs.Parts.{part-fits}
 use Rattle.engine.proofs.Laws.{part-demanded}
-use Rattle.engine_spec.proofs.SizeChecks.{early-passed, run-refused, run-passed}
+use Rattle.engine.proofs.SizeChecks.{early-passed, run-refused, run-passed}
 use borrow.Author.Needs.{needs}
 use Rattle.engine.proofs.run.Statement.{statement}
 use Rattle.engine.proofs.run.Tie as tie

@@ -9,7 +9,7 @@ use lib.ListN.{getD, set}
 use borrow.Author.Tests.{eq-eqb, ne-eqb, lt-ltb, le-ltb}
 use Rattle.node_table.specs.Layout.{kindOf, labelOf, childOf}
 use Rattle.scanning.specs.Frames.{slotStart, slotEnd}
-use Rattle.scanning.specs.Classes.{nameElement, nodeElement, elementOf, isName, elementSide, elementNode, elementName, elementChild}
+use Rattle.scanning.specs.Classes.{nameElement, nodeElement, elementOf, isNameElement, elementSide, elementNode, elementName, elementChild}
 use Rattle.scanning.specs.Classes.{sideFrame, rooted, rootFrom}
 use Rattle.scanning.specs.Instances.{sameSlots, isInstance, compared, joined, startOf, endOf, sameName, joinName}
 
@@ -64,13 +64,13 @@ module _ (c : List ℕ) (i j p : ℕ) (at : j ≡ i) (parent : p ≡ getD c j 0)
 pub name-slots : (b t x w : List ℕ) (f g i j s e u v : ℕ) (z : Bool) → s ≡ startOf w f g i → e ≡ endOf w f g i → j < 2048
     → u ≡ startOf w f g j → v ≡ endOf w f g j
     → z ≡ sameSlots x s e u v → z ≡ sameName b t x w f g i j
-unfolding sameName isName
+unfolding sameName isNameElement
 name-slots b t x w f g i j s e u v z p q l y o h = rw (lt-ltb j 2048 l, ← p, ← q, ← y, ← o) h
 
 pub name-instance : (b t x w : List ℕ) (f g i j s e h : ℕ) (z : Bool) → s ≡ startOf w f g i → e ≡ endOf w f g i → 2048 ≤ j
     → h ≡ sideFrame f g (j % 2)
     → z ≡ isInstance b t x w s e h (j / 2 % 1024) → z ≡ sameName b t x w f g i j
-unfolding sameName isName elementSide elementNode
+unfolding sameName isNameElement elementSide elementNode
 name-instance b t x w f g i j s e h z p q l y k = rw (le-ltb j 2048 l, ← p, ← q, ← y) k
 
 pub join-same : (b t x w : List ℕ) (f g : ℕ) (c : List ℕ) (i j k : ℕ) (d : List ℕ) (z : Bool) → z ≡ sameName b t x w f g i j → z ≡ true

@@ -12,7 +12,7 @@ use Rattle.sheet_format.specs.Limits.{maxNumber}
 use Rattle.sheet_format.specs.Bytes.{isDigit, isNameByte, number, decimal}
 use Rattle.sheet_format.proofs.Options.{OnSome}
 use Rattle.sheet_format.proofs.Numbers.{number-some}
-use Rattle.answer_texts.specs.Reading.{span}
+use Rattle.text_judging.specs.Reading.{span}
 use Rattle.scanning.specs.declared.Number.{Number}
 use Rattle.scanning.specs.declared.Number.the-variants.{Value, Missing}
 use Rattle.scanning.specs.Ranges.{findByte, scanNumber}

@@ -9,7 +9,7 @@ use lib.Dec.{eqb}
 use lib.ListN.{length, take, drop, getD, length-drop, drop-of-length-le}
 use lib.Seq.{drop-cons, drop-drop}
 use borrow.Author.Tests.{eq-eqb, ne-eqb}
-use Rattle.sheet_format.specs.Bytes.{lf, Lines, extendLine, linesOf}
+use Rattle.sheet_format.specs.Bytes.{lf, SplitLines, extendLine, linesOf}
 use Rattle.sheet_format.proofs.Bytes.{lines, linesOf-other}
 use Rattle.sheet_reader.specs.Reader.{lineLength, lineEnd}
 
@@ -80,7 +80,7 @@ first-line (c ∷ cs) h = go (eqb c lf) refl (first-line cs)
     go true e more = rw (length-lf c cs e) (linesOf-lf c cs e)
     go false e more =
         let l = length-other c cs e in
-        rw l (linesOf-other c cs e ∙ ap (λ (x : Lines). extendLine c (x .whole) (x .rest)) (more (omega arith)))
+        rw l (linesOf-other c cs e ∙ ap (λ (x : SplitLines). extendLine c (x .whole) (x .rest)) (more (omega arith)))
 
 -- Without LF there is no line.
 no-line : (s : List ℕ) → lineLength s ≡ length s → linesOf s ≡ lines [] s
@@ -92,7 +92,7 @@ no-line (c ∷ cs) h = go (eqb c lf) refl (no-line cs)
     go true e more = let l = length-lf c cs e in absurd (omega arith)
     go false e more =
         let l = length-other c cs e in
-        linesOf-other c cs e ∙ ap (λ (x : Lines). extendLine c (x .whole) (x .rest)) (more (omega arith))
+        linesOf-other c cs e ∙ ap (λ (x : SplitLines). extendLine c (x .whole) (x .rest)) (more (omega arith))
 
 -- lines from a position on
 

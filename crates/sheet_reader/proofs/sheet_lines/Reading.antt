@@ -11,7 +11,7 @@ use lib.ListN.{length, drop, length-drop, drop-of-length-le}
 use borrow.Author.Tests.{ltb-true, ltb-false}
 use Rattle.sheet_format.proofs.Bytes.{linesOf-other}
 use Rattle.sheet_format.specs.Limits.{tableNumbers}
-use Rattle.sheet_format.specs.Bytes.{lf, Lines, extendLine, linesOf}
+use Rattle.sheet_format.specs.Bytes.{lf, SplitLines, extendLine, linesOf}
 use Rattle.sheet_format.specs.SheetLines.{parseLine}
 use Rattle.sheet_format.specs.Sheets.{Sheet, refusal, sheet, refused, Table, next, stop, last, atEnd, afterGoal, readFrom, readSheet}
 use Rattle.sheet_format.specs.Sheets.{Read as SheetRead, Taken as SheetTaken, takeLine as sheetLine}
@@ -49,7 +49,7 @@ module _ (s : List ℕ) (at line : ℕ) (table : Table) where
       → readOn (drop at s) line table ≡ afterLine (sheetLine table (parseLine (between s at end))) (drop (end + 1) s) line table
   unfolding readOn readFrom afterLine
   on-line end h e n =
-      ap (λ (l : Lines). readFrom (l .whole) (l .rest) line table) (line-at s at end h e n)
+      ap (λ (l : SplitLines). readFrom (l .whole) (l .rest) line table) (line-at s at end h e n)
       ∙ go (sheetLine table (parseLine (between s at end))) refl
     where
       go : (x : SheetTaken) → sheetLine table (parseLine (between s at end)) ≡ x
@@ -63,7 +63,7 @@ module _ (s : List ℕ) (at line : ℕ) (table : Table) where
   on-open : (end : ℕ) → at < length s → end ≡ lineEnd s at → end ≡ length s → readOn (drop at s) line table ≡ refused (refusal 6 line)
   unfolding readOn readFrom atEnd
   on-open end h e n =
-      ap (λ (l : Lines). readFrom (l .whole) (l .rest) line table) (open-at s at end (omega arith) e n)
+      ap (λ (l : SplitLines). readFrom (l .whole) (l .rest) line table) (open-at s at end (omega arith) e n)
       ∙ some-left (drop at s) (omega (arith, length-drop at s))
     where
       some-left : (b : List ℕ) → 0 < length b → atEnd b line ≡ refused (refusal 6 line)
@@ -83,7 +83,7 @@ after-some : (c : ℕ) (cs : List ℕ) (line : ℕ) (x : Sheet)
 unfolding afterGoal extendLine
 after-some c cs line x = go (eqb c lf) refl
   where
-    after : Lines → SheetRead
+    after : SplitLines → SheetRead
     after l = afterGoal (l .whole) (l .rest) line x
 
     on : (ls : List (List ℕ)) (r : List ℕ) → after (extendLine c ls r) ≡ refused (refusal 11 line)
@@ -178,12 +178,12 @@ module _ (bytes t₀ t t′ : List ℕ) (k : Counts) (at line end : ℕ) (x : Ta
   nodes-line : nodeCount (linesOf (drop at bytes) .whole) ≡ nodesIn (parseLine (between bytes at end)) + nodeCount
       (linesOf (drop (end + 1) bytes) .whole)
   unfolding nodeCount
-  nodes-line = ap (λ (l : Lines). nodeCount (l .whole)) (line-at bytes at end (h .within) e n)
+  nodes-line = ap (λ (l : SplitLines). nodeCount (l .whole)) (line-at bytes at end (h .within) e n)
 
   goal-line : goalNamed (linesOf (drop at bytes) .whole) ≡ goalOr (parseLine (between bytes at end))
       (goalNamed (linesOf (drop (end + 1) bytes) .whole))
   unfolding goalNamed
-  goal-line = ap (λ (l : Lines). goalNamed (l .whole)) (line-at bytes at end (h .within) e n)
+  goal-line = ap (λ (l : SplitLines). goalNamed (l .whole)) (line-at bytes at end (h .within) e n)
 
   -- If the line is taken, `Reading` holds before the next line.
   pub reading-on : (j : Counts) → x ≡ Next j → Reading bytes t₀ t′ j (end + 1) (line + 1)

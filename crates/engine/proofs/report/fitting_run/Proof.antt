@@ -1,5 +1,5 @@
 use borrow.Author.Tests.{lt-ltb, le-ltb}
-use Rattle.engine_spec.specs.Answering.{reported}
+use Rattle.engine.specs.Answering.{reported}
 use borrow.Author.Needs.{needs}
 use Rattle.engine.proofs.report.fitting_run.Statement.{statement}
 use Rattle.engine.proofs.report.fitting_run.Tie as tie

@@ -1,6 +1,6 @@
 use borrow.Author.Tests.{lt-ltb, le-ltb, eq-eqb, ne-eqb}
 use Rattle.sheet_format.specs.Buffers.{demanded}
-use Rattle.engine_spec.specs.Answering.{runRefusal}
+use Rattle.engine.specs.Answering.{runRefusal}
 use borrow.Author.Needs.{needs}
 use Rattle.engine.proofs.size_checks.run_refusal.Statement.{statement}
 use Rattle.engine.proofs.size_checks.run_refusal.Tie as tie

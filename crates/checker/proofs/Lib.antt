@@ -1,0 +1,4 @@
+pub mod LineFeeds
+pub mod Parts
+pub mod Judged
+pub mod SizeChecks

@@ -1,0 +1,2 @@
+-- What the functions of `check` compute on numbers.
+pub mod Checking

@@ -1,0 +1,2 @@
+-- What the functions of `run` compute on lists.
+pub mod Answering

@@ -1,0 +1,231 @@
+-- The open goals and what the act that is due works on are read back from memory and registers: proofs of `specs/ReadingStates.antt`.
+use Prim.Native.Nat.{ℕ, zero, suc, _+_, _-_, _*_, _/_, _%_, _≤_, _<_}
+use native.Mathlib.Omega.{arith}
+use mathlib.Core.Bool.{Bool, true, false, cond}
+use mathlib.Core.Path.{_≡_, refl, sym, ap, ap₂, _∙_}
+use mathlib.Core.List.{List, [], _∷_, _++_, map}
+use lib.Dec.{ltb}
+use lib.ListN.{length, drop}
+use borrow.Author.Tests.{ltb-true, ne-eqb}
+use Rattle.terms.specs.Terms.{Term}
+use Rattle.formulas.specs.Members.{Member, members}
+use Rattle.sequents.specs.Sequents.{Program, Entry, entry, entries, Sequent}
+use Rattle.sequents.specs.Derivations.{sheetProgram}
+use Rattle.unification.specs.Store.{Leaf}
+use Rattle.unification.specs.Matching.{Pair}
+use Rattle.search.specs.Configurations.{Atom}
+use Rattle.sheet_format.specs.Limits.{maxBudget}
+use Rattle.node_table.specs.Layout.{childCount}
+use Rattle.node_table.specs.Decoding.{clauseAtNode, clausesFrom}
+use Rattle.machine.specs.declared.Registers.{Registers}
+use Rattle.machine.specs.Fields as fields
+use Rattle.machine.specs.Records.{made}
+use Rattle.machine.specs.Words.{environmentAt}
+use Rattle.machine.specs.Matching.{positionWord, pairsFrom, nodesFrom, nodesAfter}
+use Rattle.machine.specs.Backchaining.{clauseOf, clauseFrame}
+use Rattle.machine.specs.ReadingStates.{programFrom, sequentAt, goalsFrom, atomDue, membersDue, waitingPairs, pairsLeft}
+use Rattle.machine.specs.ReadingStates.{waitingNodes, nodesLeft, nodeDue}
+use Rattle.machine.proofs.Words.{position-small, position-record, position-argument}
+use Rattle.machine.proofs.Tables.{Table, few-arguments}
+use Rattle.machine.proofs.Terms.{WordAt, word-term}
+use Rattle.machine.proofs.WaitingArguments.{pairs-from, nodes-from, PairsAt, NodesAt, pairs-before, nodes-before, position-word}
+use Rattle.machine.proofs.Branches.{first-environment, sheetFrom, ProgramAt, program-sheet, program-more, program-le, SequentAt}
+use Rattle.machine.proofs.Branches.{GoalsAt}
+use Rattle.machine.proofs.Configurations.{AtomAt, RestAt, PositionAt, DueAt}
+use Rattle.machine.proofs.MatchActs.{due-word}
+use Rattle.memory.specs.Records.{field}
+
+-- Dropping fewer entries than the first clause has.
+drop-entries : (f : Member → Entry Leaf) (k : ℕ) (ms : List Member) (es : List (Entry Leaf)) → k ≤ length ms
+    → drop k (map f ms ++ es) ≡ map f (drop k ms) ++ es
+drop-entries f zero ms es l = refl
+drop-entries f (suc k) [] es l = absurd (omega arith)
+drop-entries f (suc k) (m ∷ ms) es l = drop-entries f k ms es (omega arith)
+
+-- After an argument there are fewer to read: those of its record, and those of earlier ones.
+fewer-left : (f r i k after : ℕ) → r ≤ maxBudget → i < 4 → (suc i < k → suc i < 4) → after < 4 * suc r → 4 * suc r ≤ suc f + i
+    → 4 * (cond (ltb (suc i) k) (positionWord (suc r) (suc i)) after / 4) ≤ f
+    + cond (ltb (suc i) k) (positionWord (suc r) (suc i)) after % 4
+fewer-left f r i k after small l few b h = go (ltb (suc i) k) refl
+  where
+    go : (c : Bool) → ltb (suc i) k ≡ c
+        → 4 * (cond c (positionWord (suc r) (suc i)) after / 4) ≤ f + cond c (positionWord (suc r) (suc i)) after % 4
+    go true q =
+        let l = few (ltb-true (suc i) k q) in
+        rw (position-small (suc r) (suc i) (omega arith) l, position-record (suc r) (suc i) l, position-argument (suc r) (suc i) l)
+        (omega arith)
+    go false q = omega arith
+
+-- The record and the number of the argument after the one at a position.
+argument-after : (a r i : ℕ) → a ≡ 4 * suc r + i → i < 4 → (a / 4 ≡ suc r) × (a % 4 + 1 ≡ suc i)
+argument-after a r i e k = (omega arith, omega arith)
+
+-- The node after the one at a position.
+nodes-after : (t w : List ℕ) (a r i : ℕ) → a ≡ 4 * suc r + i → i < 4 → nodesAfter t w a ≡ nodesFrom t w (suc r) (suc i)
+unfolding nodesAfter
+nodes-after t w a r i e k = let z = argument-after a r i e k in rw (ne-eqb a 0 (λ q. omega arith), z .0, z .1)
+
+module _ (T : Table) where
+  -- The table.
+  abbrev t : List ℕ
+  t = T .numbers
+
+  -- A program is read back.
+  program-read : (f n : ℕ) (w : List ℕ) {h : ℕ} {P : Program Leaf} → h ≤ f → ProgramAt T n w h P
+      → programFrom f (T .numbers) (T .clauses) w h 0 ≡ P
+  unfolding programFrom
+  program-read zero n w l program-sheet =
+      let e : T .clauses - 0 ≡ T .clauses = omega arith in ap (λ (c : ℕ). sheetFrom T c 0) e
+  program-read zero n w l (program-more r k a g i j p b) = absurd (omega arith)
+  program-read (suc f) n w l program-sheet =
+      let e : T .clauses - 0 ≡ T .clauses = omega arith in ap (λ (c : ℕ). sheetFrom T c 0) e
+  program-read (suc f) n w l (program-more r k a g i j p b) =
+      let e : suc r - 1 ≡ r = omega arith in
+      rw (programFrom, ne-eqb (suc r) 0 (λ q. omega arith), e, i, j) (ap₂ _∷_ refl (program-read f n w (omega arith) p))
+
+  -- An open goal is read back.
+  pub sequent-read : (w : List ℕ) (r : Registers) (a f h i : ℕ) (g : Sequent Leaf) → SequentAt T (r .acts) w a f h i g
+      → sequentAt (T .numbers) (T .clauses) (made w r) a f h i ≡ g
+  unfolding sequentAt
+  sequent-read w r a f h i g c =
+      rw (c .goal, c .environment, program-read (r .acts) (r .acts) w (program-le T (r .acts) w (c .program)) (c .program), c .level)
+
+  -- The goals that wait are read back.
+  pub goals-read : (f : ℕ) (gs : List (Sequent Leaf)) (w : List ℕ) (r : Registers) (p : ℕ) → p ≤ f → GoalsAt T (r .acts) gs w p
+      → goalsFrom f (T .numbers) (T .clauses) (made w r) p ≡ gs
+  unfolding GoalsAt goalsFrom
+  goals-read zero [] w r zero l c = refl
+  goals-read zero [] w r (suc q) l c = absurd c
+  goals-read zero (g ∷ gs) w r zero l c = absurd c
+  goals-read zero (g ∷ gs) w r (suc q) l c = absurd (omega arith)
+  goals-read (suc f) [] w r zero l c = refl
+  goals-read (suc f) [] w r (suc q) l c = absurd c
+  goals-read (suc f) (g ∷ gs) w r zero l c = absurd c
+  goals-read (suc f) (g ∷ gs) w r (suc q) l c =
+      let e : suc q - 1 ≡ q = omega arith in
+      let b = c .3 in
+      rw (goalsFrom, ne-eqb (suc q) 0 (λ z. omega arith), e)
+      (ap₂ _∷_ (sequent-read w r (field w q fields.goalNode) (field w q fields.goalFrame) (field w q fields.goalProgram)
+      (field w q fields.goalLevel) g (c .1)) (goals-read f gs w r (field w q fields.goalNext) (omega arith) (c .2)))
+
+  -- The atom whose members are tried is read back.
+  pub atom-read : (x : ℕ) (w : List ℕ) (r : Registers) (a : Atom) → AtomAt T (r .acts) x w (r .node) (r .frame) (r .program) (r .level) a
+      → atomDue (T .numbers) (T .clauses) (made w r) ≡ a
+  unfolding atomDue
+  atom-read x w r a c =
+      rw (
+        c .predicate,
+        c .arguments,
+        program-read (r .acts) (r .acts) w (program-le T (r .acts) w (c .program)) (c .program),
+        c .level,
+      )
+
+  -- Where no assumption is left, the program is that of the sheet's clauses.
+  sheet-read : (n i : ℕ) (w : List ℕ) → programFrom n (T .numbers) (T .clauses) w 0 i ≡ sheetFrom T (T .clauses - i) i
+  unfolding programFrom
+  sheet-read zero i w = refl
+  sheet-read (suc n) i w = refl
+
+  -- The members of the clause that the registers name are read back, then those after it.
+  clauses-read : (n h : ℕ) (w : List ℕ) (r : Registers) (rest : List (Entry Leaf)) → r .hypothesis ≡ h → RestAt T n w h (r .clause) rest
+      → entries (programFrom n (T .numbers) (T .clauses) w h (r .clause)) ≡ map (entry (environmentAt w (clauseFrame w r)))
+      (members (clauseAtNode (T .numbers) (clauseOf (T .numbers) w r))) ++ rest
+  unfolding RestAt programFrom clauseFrame clauseOf entries sheetProgram clausesFrom
+  clauses-read n zero w r rest e o =
+      let l = o .0 in
+      let z : T .clauses - r .clause ≡ suc (T .clauses - suc (r .clause)) = omega arith in
+      rw (sheet-read n (r .clause) w, z, e, o .1, first-environment w)
+  clauses-read zero (suc q) w r rest e o = absurd (let l = o .0 in omega arith)
+  clauses-read (suc n) (suc q) w r rest e o =
+      let z : suc q - 1 ≡ q = omega arith in
+      let l = o .0 in
+      let b = o .4 in
+      rw (programFrom, e, ne-eqb (suc q) 0 (λ x. omega arith), z, o .3)
+      (ap (λ (P : Program Leaf). map (entry (environmentAt w (field w q fields.assumptionFrame)))
+      (members (clauseAtNode t (field w q fields.assumptionNode))) ++ entries P) (program-read n (suc n) w (omega arith) (o .2)))
+
+  -- The members left to try are read back.
+  pub position-read : (w : List ℕ) (r : Registers) (es : List (Entry Leaf)) → PositionAt T (r .acts) w r es
+      → membersDue (T .numbers) (T .clauses) (made w r) ≡ es
+  unfolding membersDue
+  position-read w r es c =
+      let l = c .member in
+      ap (drop (r .member)) (clauses-read (r .acts) (r .hypothesis) w r (c .rest) refl (c .others))
+      ∙ drop-entries (entry (environmentAt w (clauseFrame w r))) (r .member) (members (clauseAtNode t (clauseOf t w r))) (c .rest)
+      (omega arith)
+      ∙ sym (c .are)
+
+  -- The pairs that wait are read back.
+  waiting-pairs : (f n x : ℕ) (ps : List Pair) (w : List ℕ) (a : ℕ) → n ≤ maxBudget → 4 * (a / 4) ≤ f + a % 4 → PairsAt T n x ps w a
+      → waitingPairs f (T .numbers) w a ≡ ps
+  unfolding PairsAt waitingPairs
+  waiting-pairs zero n x [] w a small h c = refl
+  waiting-pairs zero n x (q ∷ ps) w a small h c =
+      let e = c .2 in
+      let k = few-arguments T (field w (c .0) fields.goalSideNode) (c .1) (c .4 .node) (c .4 .more) in
+      absurd (omega arith)
+  waiting-pairs (suc f) n x [] w a small h c = rw (waitingPairs, c)
+  waiting-pairs (suc f) n x (q ∷ ps) w a small h c =
+      let r = c .0 in
+      let i = c .1 in
+      let e = c .2 in
+      let l = c .3 in
+      let k = few-arguments T (field w r fields.goalSideNode) i (c .4 .node) (c .4 .more) in
+      let z = argument-after a r i e k in
+      rw (
+        waitingPairs,
+        ne-eqb a 0 (λ z. omega arith),
+        word-term T n x w (position-word T n x w a r i fields.goalSideNode (q .goal) small e (c .4)),
+        word-term T n x w (position-word T n x w a r i fields.clauseSideNode (q .clause) small e (c .5)),
+        z .0,
+        z .1,
+      )
+      (ap₂ _∷_ refl (waiting-pairs f n x ps w (pairsFrom t w (suc r) (suc i)) small
+      (rw (pairs-from t w r (suc i)) (fewer-left f r i (childCount t (field w r fields.goalSideNode)) (field w r fields.pairsAfter)
+      (omega arith) k (few-arguments T (field w r fields.goalSideNode) (suc i) (c .4 .node)) (c .7) (omega arith))) (c .6)))
+
+  -- The pairs left to compare are read back.
+  pub pairs-read : (x : ℕ) (ps : List Pair) (w : List ℕ) (r : Registers) → r .acts ≤ maxBudget → PairsAt T (r .acts) x ps w (r .pairs)
+      → pairsLeft (T .numbers) (made w r) ≡ ps
+  unfolding pairsLeft
+  pairs-read x ps w r small c =
+      waiting-pairs (4 * r .acts) (r .acts) x ps w (r .pairs) small
+      (let b = pairs-before T (r .acts) x ps w (r .pairs) c in omega arith) c
+
+  -- The nodes that wait are read back.
+  waiting-nodes : (f n x : ℕ) (ss : List (Term Leaf)) (w : List ℕ) (a : ℕ) → n ≤ maxBudget → 4 * (a / 4) ≤ f + a % 4
+      → NodesAt T n x ss w a → waitingNodes f (T .numbers) w a ≡ ss
+  unfolding NodesAt waitingNodes
+  waiting-nodes zero n x [] w a small h c = refl
+  waiting-nodes zero n x (s ∷ ss) w a small h c =
+      let e = c .2 in
+      let k = few-arguments T (field w (c .0) fields.waitingNode) (c .1) (c .4 .node) (c .4 .more) in
+      absurd (omega arith)
+  waiting-nodes (suc f) n x [] w a small h c = rw (waitingNodes, c)
+  waiting-nodes (suc f) n x (s ∷ ss) w a small h c =
+      let r = c .0 in
+      let i = c .1 in
+      let e = c .2 in
+      let l = c .3 in
+      let k = few-arguments T (field w r fields.waitingNode) i (c .4 .node) (c .4 .more) in
+      rw (
+        waitingNodes,
+        ne-eqb a 0 (λ z. omega arith),
+        word-term T n x w (position-word T n x w a r i fields.waitingNode s small e (c .4)),
+        nodes-after t w a r i e k,
+      )
+      (ap₂ _∷_ refl (waiting-nodes f n x ss w (nodesFrom t w (suc r) (suc i)) small
+      (rw (nodes-from t w r (suc i)) (fewer-left f r i (childCount t (field w r fields.waitingNode)) (field w r fields.waitingAfter)
+      (omega arith) k (few-arguments T (field w r fields.waitingNode) (suc i) (c .4 .node)) (c .6) (omega arith))) (c .5)))
+
+  -- The node that is due and the nodes left are read back.
+  pub due-read : (x : ℕ) (v n : Term Leaf) (ns : List (Term Leaf)) (w : List ℕ) (r : Registers) → r .acts ≤ maxBudget
+      → WordAt T (r .acts) x w (r .value) v → DueAt T (r .acts) x w (r .nodes) v n ns
+      → (nodeDue (T .numbers) (made w r) ≡ n) × (nodesLeft (T .numbers) (made w r) ≡ ns)
+  unfolding nodeDue nodesLeft
+  due-read x v n ns w r small a d =
+      let z = due-word T w r small x v n ns a d in
+      let b = nodes-before T (r .acts) x ns w (nodesAfter t w (r .nodes)) (z .1) in (
+        word-term T (r .acts) x w (z .0),
+        waiting-nodes (4 * r .acts) (r .acts) x ns w (nodesAfter t w (r .nodes)) small (omega arith) (z .1),
+      )

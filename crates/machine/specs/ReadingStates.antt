@@ -1,0 +1,108 @@
+-- This file reads the registers and the work buffer back as a configuration of the search: the open goals, and what the act that is
+-- due works on (Reading has the store and the path). t is the table, c the number of the sheet's clauses. Where a chain of records is
+-- followed, the first number bounds its length: an act makes at most one record.
+use Prim.Native.Nat.{ℕ, zero, suc, _+_, _-_, _*_, _/_, _%_}
+use mathlib.Core.Bool.{true, false}
+use mathlib.Core.List.{List, [], _∷_}
+use lib.Dec.{eqb}
+use lib.ListN.{drop}
+use Rattle.terms.specs.Terms.{Term, substitutes}
+use Rattle.sequents.specs.Sequents.{Program, hypothesis, Entry, entries, Sequent, sequent}
+use Rattle.sequents.specs.Derivations.{sheetProgram}
+use Rattle.unification.specs.Store.{Leaf}
+use Rattle.unification.specs.Matching.{Pair}
+use Rattle.search.specs.Configurations.{Atom}
+use Rattle.search.specs.Search.{startEnvironment}
+use Rattle.sheet_format.specs.Limits.{maxArity}
+use Rattle.node_table.specs.Layout.{labelOf}
+use Rattle.node_table.specs.Decoding.{argumentsAt, goalAt, clauseAtNode, clausesFrom}
+use Rattle.machine.specs.Fields as fields
+use Rattle.machine.specs.Records.{Made}
+use Rattle.machine.specs.Words.{environmentAt, termOf}
+use Rattle.machine.specs.Matching.{argumentWord, pairsFrom, dueWord, nodesAfter}
+use Rattle.memory.specs.Records.{field}
+
+-- The program from assumption h on, at most n assumptions, then the sheet's clauses from the i-th on.
+unfoldable pub programFrom : ℕ → List ℕ → ℕ → List ℕ → ℕ → ℕ → Program Leaf
+programFrom zero t c w h i = sheetProgram (clausesFrom t (c - i) i) startEnvironment
+programFrom (suc n) t c w h i =
+    elim (eqb h 0) [
+      | true ↦ sheetProgram (clausesFrom t (c - i) i) startEnvironment
+      | false ↦
+          hypothesis (clauseAtNode t (field w (h - 1) fields.assumptionNode)) (environmentAt w (field w (h - 1) fields.assumptionFrame))
+          ∷ programFrom n t c w (field w (h - 1) fields.assumptionNext) 0
+    ]
+
+-- The goal of node a in frame f, with the assumptions from h on and the whole sheet, at level i.
+unfoldable pub sequentAt : List ℕ → ℕ → Made → ℕ → ℕ → ℕ → ℕ → Sequent Leaf
+sequentAt t c m a f h i = sequent (goalAt t a) (environmentAt (m .memory) f) (programFrom (m .registers .acts) t c (m .memory) h 0) i
+
+-- The goals that wait, from pointer p on, at most n.
+unfoldable pub goalsFrom : ℕ → List ℕ → ℕ → Made → ℕ → List (Sequent Leaf)
+goalsFrom zero t c m p = []
+goalsFrom (suc n) t c m p =
+    elim (eqb p 0) [
+      | true ↦ []
+      | false ↦
+          sequentAt t c m (field (m .memory) (p - 1) fields.goalNode) (field (m .memory) (p - 1) fields.goalFrame)
+          (field (m .memory) (p - 1) fields.goalProgram) (field (m .memory) (p - 1) fields.goalLevel)
+          ∷ goalsFrom n t c m (field (m .memory) (p - 1) fields.goalNext)
+    ]
+
+-- The open goals after the one acted upon.
+unfoldable pub openGoals : List ℕ → ℕ → Made → List (Sequent Leaf)
+openGoals t c m = goalsFrom (m .registers .acts) t c m (m .registers .goals)
+
+-- The goal to take.
+unfoldable pub goalDue : List ℕ → ℕ → Made → Sequent Leaf
+goalDue t c m = sequentAt t c m (m .registers .node) (m .registers .frame) (m .registers .program) (m .registers .level)
+
+-- The atom whose members are tried.
+unfoldable pub atomDue : List ℕ → ℕ → Made → Atom
+atomDue t c m = record {
+  predicate = labelOf t (m .registers .node);
+  arguments = substitutes (argumentsAt t (m .registers .node)) (environmentAt (m .memory) (m .registers .frame));
+  program = programFrom (m .registers .acts) t c (m .memory) (m .registers .program) 0;
+  level = m .registers .level;
+}
+
+-- The members left to try: those of the program from the clause that the registers name, without the first ones of that clause.
+unfoldable pub membersDue : List ℕ → ℕ → Made → List (Entry Leaf)
+membersDue t c m =
+    drop (m .registers .member)
+    (entries (programFrom (m .registers .acts) t c (m .memory) (m .registers .hypothesis) (m .registers .clause)))
+
+-- The pairs that wait, from position a on, at most n.
+unfoldable pub waitingPairs : ℕ → List ℕ → List ℕ → ℕ → List Pair
+waitingPairs zero t w a = []
+waitingPairs (suc n) t w a =
+    elim (eqb a 0) [
+      | true ↦ []
+      | false ↦
+          record {
+            goal = termOf t w (argumentWord t w a fields.goalSideNode);
+            clause = termOf t w (argumentWord t w a fields.clauseSideNode);
+          }
+          ∷ waitingPairs n t w (pairsFrom t w (a / maxArity) (a % maxArity + 1))
+    ]
+
+-- The pairs left to compare. A record has at most four.
+unfoldable pub pairsLeft : List ℕ → Made → List Pair
+pairsLeft t m = waitingPairs (maxArity * m .registers .acts) t (m .memory) (m .registers .pairs)
+
+-- The nodes of a range check that wait, from position a on, at most n.
+unfoldable pub waitingNodes : ℕ → List ℕ → List ℕ → ℕ → List (Term Leaf)
+waitingNodes zero t w a = []
+waitingNodes (suc n) t w a =
+    elim (eqb a 0) [
+      | true ↦ []
+      | false ↦ termOf t w (argumentWord t w a fields.waitingNode) ∷ waitingNodes n t w (nodesAfter t w a)
+    ]
+
+-- The nodes left to look at after the one that is due.
+unfoldable pub nodesLeft : List ℕ → Made → List (Term Leaf)
+nodesLeft t m = waitingNodes (maxArity * m .registers .acts) t (m .memory) (nodesAfter t (m .memory) (m .registers .nodes))
+
+-- The node that is due in a range check.
+unfoldable pub nodeDue : List ℕ → Made → Term Leaf
+nodeDue t m = termOf t (m .memory) (dueWord t (m .memory) (m .registers))

@@ -1,0 +1,147 @@
+-- Numbering, spelling and judging on small texts, computed.
+use Prim.Native.Nat.{ℕ}
+use Prim.Native.String.{String}
+use mathlib.Core.Path.{_≡_, refl}
+use mathlib.Core.Bool.{true, false}
+use mathlib.Core.List.{List, [], _∷_}
+use Rattle.terms.specs.Terms.{leaf, app, nil, cons}
+use Rattle.formulas.specs.Formulas.{atom, exists, forall, fact, rule, each}
+use Rattle.sequents.specs.Symbols.{made, leftover}
+use Rattle.sequents.specs.Sequents.{Dsome, Dall}
+use Rattle.sheet_format.specs.Bytes.{ascii}
+use Rattle.sheet_format.specs.Nodes.{Declaration}
+use Rattle.sheet_format.specs.Sheets.{Sheet}
+use Rattle.answer_texts.specs.TextLines.{TextLine, bindingLine, derivationLine}
+use Rattle.answer_texts.specs.Judgements.{Judgement, valid, invalid}
+use Rattle.answer_texts.proofs.Computing.{computeText}
+use Rattle.text_judging.proofs.Computing.{computeJudgement}
+
+-- The symbols are p/2, f/2 and a/0.
+abbrev symbols : List Declaration
+symbols =
+    record { function = false; name = ascii "p"; arity = 2 } ∷
+    record { function = true; name = ascii "f"; arity = 2 } ∷
+    record { function = true; name = ascii "a"; arity = 0 } ∷ []
+
+unfoldable text : List TextLine → List ℕ
+unfolding computeText
+text xs = computeText symbols xs
+
+-- Each kind has one count over all levels; a symbol keeps its number, and that number at another level is another symbol.
+numbers : text (derivationLine (Dsome (leaf (leftover 5 0))) ∷ derivationLine (Dall (leaf (made 3 1))) ∷ derivationLine
+    (Dsome (leaf (leftover 5 1)))
+    ∷ derivationLine (Dsome (leaf (leftover 5 0))) ∷ []) ≡ ascii "D\tsome\t_0@0\nD\tall\t!0@1\nD\tsome\t_1@1\nD\tsome\t_0@0\n"
+unfolding text ascii
+numbers = refl
+
+-- A term is spelled with names, brackets and commas, and a constant as the bare name.
+spelling : text (bindingLine 3 (app 1 (cons (app 2 nil) (cons (app 1 (cons (leaf (leftover 0 0)) (cons (app 2 nil) nil))) nil))) ∷ [])
+    ≡ ascii "B\t3\tf(a,f(_0@0,a))\n"
+unfolding text ascii
+spelling = refl
+
+-- The sheet has the clause every z p(z,z) and the goal every b some a p(a,b).
+abbrev sheet : Sheet
+sheet = record {
+  symbols = symbols;
+  clauses = each 7 (fact 0 (cons (leaf 7) (cons (leaf 7) nil))) ∷ [];
+  goal = forall 1 (exists 0 (atom 0 (cons (leaf 0) (cons (leaf 1) nil))));
+}
+
+unfoldable says : String → Judgement
+unfolding computeJudgement ascii
+says t = computeJudgement sheet (ascii t)
+
+-- The engine's text is valid, and so is a text of that derivation with other units.
+right : says "R\tproved\t8\nD\tall\t!0@1\nD\tsome\t!0@1\nD\tclause\t1\t!0@1\n" ≡ valid
+unfolding says
+right = refl
+
+other-units : says "R\tproved\t50000\nD\tall\t!0@1\nD\tsome\t!0@1\nD\tclause\t1\t!0@1\n" ≡ valid
+unfolding says
+other-units = refl
+
+-- A wrong witness in range breaks where the atom is not the head; a witness above the level breaks its own line.
+witness : says "R\tproved\t8\nD\tall\t!0@1\nD\tsome\t!1@1\nD\tclause\t1\t!0@1\n" ≡ invalid 4
+unfolding says
+witness = refl
+
+high : says "R\tproved\t8\nD\tall\t!0@1\nD\tsome\t!1@2\n" ≡ invalid 3
+unfolding says
+high = refl
+
+-- A constant of a wrong level, number or kind breaks its line.
+constant-level : says "R\tproved\t8\nD\tall\t!0@2\n" ≡ invalid 2
+unfolding says
+constant-level = refl
+
+constant-number : says "R\tproved\t8\nD\tall\t!1@1\n" ≡ invalid 2
+unfolding says
+constant-number = refl
+
+constant-kind : says "R\tproved\t8\nD\tall\t_0@1\n" ≡ invalid 2
+unfolding says
+constant-kind = refl
+
+-- A wrong place or a wrong number of prefix terms breaks its line.
+place : says "R\tproved\t8\nD\tall\t!0@1\nD\tsome\t!0@1\nD\tclause\t2\t!0@1\n" ≡ invalid 4
+unfolding says
+place = refl
+
+few : says "R\tproved\t8\nD\tall\t!0@1\nD\tsome\t!0@1\nD\tclause\t1\n" ≡ invalid 4
+unfolding says
+few = refl
+
+-- A text with missing or surplus lines, no LF at the end, no byte, another outcome or wrong units is not valid.
+missing : says "R\tproved\t8\nD\tall\t!0@1\n" ≡ invalid 3
+unfolding says
+missing = refl
+
+surplus : says "R\tproved\t8\nD\tall\t!0@1\nD\tsome\t!0@1\nD\tclause\t1\t!0@1\n\n" ≡ invalid 5
+unfolding says
+surplus = refl
+
+no-lf : says "R\tproved\t8\nD\tall\t!0@1\nD\tsome\t!0@1\nD\tclause\t1\t!0@1" ≡ invalid 4
+unfolding says
+no-lf = refl
+
+unfinished : says "R\tproved\t8\nD\tall\t!0@1\nD\tsome\t!0@1\nD\tclause\t1\t!0@1\nx" ≡ invalid 5
+unfolding says
+unfinished = refl
+
+empty : says "" ≡ invalid 1
+unfolding says
+empty = refl
+
+outcome-no : says "R\tno\t8\n" ≡ invalid 1
+unfolding says
+outcome-no = refl
+
+units-0 : says "R\tproved\t0\n" ≡ invalid 1
+unfolding says
+units-0 = refl
+
+units-50001 : says "R\tproved\t50001\n" ≡ invalid 1
+unfolding says
+units-50001 = refl
+
+-- The clauses are every z (q(z) implies p) and q(a); a prefix term that only the body uses is needed too.
+abbrev inBody : Sheet
+inBody = record {
+  symbols = record { function = false; name = ascii "p"; arity = 0 } ∷ record { function = false; name = ascii "q"; arity = 1 }
+      ∷ record { function = true; name = ascii "a"; arity = 0 } ∷ [];
+  clauses = each 7 (rule (atom 1 (cons (leaf 7) nil)) 0 nil) ∷ fact 1 (cons (app 2 nil) nil) ∷ [];
+  goal = atom 0 nil;
+}
+
+unfoldable judges : String → Judgement
+unfolding computeJudgement ascii
+judges t = computeJudgement inBody (ascii t)
+
+body-term : judges "R\tproved\t6\nD\tclause\t1\ta\nD\tclause\t2\n" ≡ valid
+unfolding judges
+body-term = refl
+
+no-body-term : judges "R\tproved\t6\nD\tclause\t1\n" ≡ invalid 2
+unfolding judges
+no-body-term = refl

@@ -1,0 +1,13 @@
+pub mod Computing
+pub mod Cases
+pub mod Spans
+pub mod Symbols
+pub mod ReadTerms
+pub mod Reading
+pub mod Infer
+pub mod Showings
+pub mod Numbering
+pub mod Stages
+pub mod Judge
+pub mod Exact
+pub mod Promises

@@ -1,0 +1,20 @@
+-- Promise T6 at the level of bytes (demand 2): the checker "accepts a text exactly if it spells, as document 01 writes them, a
+-- derivation of an instance of that goal".
+use Prim.Native.Nat.{ℕ, suc}
+use mathlib.Core.Path.{_≡_}
+use mathlib.Core.List.{List}
+use mathlib.Core.Logic.{_↔_}
+use Rattle.sheet_format.specs.Sheets.{Sheet, sheet, readSheet}
+use Rattle.answer_texts.specs.Spelled.{SpellsDerivation, BreaksAfter}
+use Rattle.answer_texts.specs.Judgements.{valid, invalid}
+use Rattle.text_judging.specs.Judging.{judge}
+
+-- T6: valid exactly if the text spells a derivation of an instance, and otherwise the first line that breaks.
+pub record Exact (s : Sheet) (text : List ℕ) : Type 0 where
+  pub accepts : (judge s text ≡ valid) ↔ SpellsDerivation s text
+  pub breaks : (n : ℕ) → (judge s text ≡ invalid (suc n)) ↔ (BreaksAfter s text n × (SpellsDerivation s text → ⊥))
+  -- A text that spells none has such a line.
+  pub broken : (SpellsDerivation s text → ⊥) → (n : ℕ) × BreaksAfter s text n × (judge s text ≡ invalid (suc n))
+
+abbrev pub CheckerExact : Type 0
+CheckerExact = (bytes : List ℕ) (s : Sheet) → readSheet bytes ≡ sheet s → (text : List ℕ) → Exact s text
