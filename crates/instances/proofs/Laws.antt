@@ -7,9 +7,9 @@ use mathlib.Core.Bool.{Bool, true, false}
 use mathlib.Core.List.{List}
 use lib.ListN.{length, set, replicate}
 use borrow.Author.Tests.{eq-eqb, ne-eqb, lt-ltb, le-ltb}
-use Rattle.node_table.specs.Layout.{childCount, labelOf}
+use Rattle.node_table.specs.Layout.{labelOf}
 use Rattle.scanning.specs.Classes.{nodeElement, isNameElement, elementNode, elementChild, rooted, rootOf, separate}
-use Rattle.scanning.specs.Instances.{Compared, compared, joined, joinName, sameChildren, sameNodes, sameRoots, sameElements, sameAtoms}
+use Rattle.scanning.specs.Instances.{argumentCount, Compared, compared, joined, joinName, sameChildren, sameNodes, sameRoots, sameElements, sameAtoms}
 
 -- children
 
@@ -75,7 +75,7 @@ module _ (b t x w : List ℕ) (f g : ℕ) where
         unfolding sameRoots sameNodes isNameElement elementNode
         elements-other h = rw (roots n z, ne-eqb a k apart, le-ltb a 2048 high, le-ltb k 2048 also, ← one, ← two, ne-eqb p q h)
 
-        pub elements-same : (m : ℕ) → p ≡ q → m ≡ childCount t (a / 2 % 1024)
+        pub elements-same : (m : ℕ) → p ≡ q → m ≡ argumentCount t (a / 2 % 1024)
             → sameElements n b t x w f g c i j ≡ rest (inner n) t a k m 0 e
         unfolding sameRoots sameNodes isNameElement elementNode
         elements-same m h l = rw (roots n z, ne-eqb a k apart, le-ltb a 2048 high, le-ltb k 2048 also, ← one, ← two, eq-eqb p q h, ← l)
@@ -83,7 +83,7 @@ module _ (b t x w : List ℕ) (f g : ℕ) where
 -- atoms
 
 pub atoms-compared : (b t x w : List ℕ) (f g k m : ℕ) (c : List ℕ) (z : Bool)
-    → compared c z ≡ sameElements (1024 + length x) b t x w f g (replicate 4096 0) (2 * (k % 1024) + 2048) (2 * (m % 1024) + 2049)
+    → compared c z ≡ sameElements 2050 b t x w f g (replicate 4096 0) (2 * (k % 1024) + 2048) (2 * (m % 1024) + 2049)
     → z ≡ sameAtoms b t x w f g k m
 unfolding sameAtoms separate nodeElement
 atoms-compared b t x w f g k m c z h = ap (λ (o : Compared). o .same) h

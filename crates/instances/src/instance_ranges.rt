@@ -4,6 +4,8 @@ use super::Instance;
 use super::frames::slot_end;
 use super::frames::slot_start;
 use memory::byte;
+use memory::get;
+use memory::put;
 use memory::widen;
 use node_table::child;
 use node_table::child_count;
@@ -18,10 +20,14 @@ use term_scanner::ranges::same_range;
 use term_scanner::symbol_names::name_size;
 ghost use mathlib.Core.Path.{_≡_};
 ghost use Prim.Native.Nat.{_+_, _-_, _<_};
-ghost use mathlib.Core.Bool.{cond};
-ghost use lib.Dec.{eqb};
-ghost use lib.ListN.{getD};
-ghost use Rattle.scanning.specs.Instances.{sameSlots, matchRange, matchName, matchSlot, matchInstance, isInstance};
+ghost use Rattle.scanning.specs.Instances.{sameSlots, matchRange, matchName, matchSlot, argumentCount, argumentOf, matchInstance};
+ghost use Rattle.scanning.specs.Instances.{isInstance};
+ghost use Rattle.instances.specs.OpenNodes.{opensOf, matchHead, markBefore, matchChildren};
+
+// The most nodes that are open at a time, and a number above every number of children (specs/Instances.antt).
+const NODES: usize = limits::MAX_NODES as usize;
+
+pub const CHILD_LIMIT: u32 = 8;
 
 // A range of the text.
 pub struct Range {
@@ -73,19 +79,34 @@ fn match_slot(text: &[u8], w: &[u32], g: u32, v: u32, i: usize) -> Reach
     match_range(monus(e, s), text, s, text, i)
 }
 
-// The bracket after the last child.
-fn match_close(text: &[u8], i: usize) -> Reach
-    ensures { λ r. ⌜ r ≡ cond (eqb (getD (now (text .entry)) i 0) 41) (Reach.To (i + 1)) Reach.Differs ⌝ }
+// How many children node m has, and the j-th of them.
+pub fn argument_count(t: &[u32], m: u32) -> u32
+    ensures { λ r. ⌜ (r ≡ argumentCount (now (t .entry)) m) × (r < 8) ⌝ }
 {
-    if byte(text, i) == b')' {
-        return Reach::To(i + 1);
-    }
-    Reach::Differs
+    child_count(t, m) % CHILD_LIMIT
 }
 
-// Whether the instance stands at position i, and where it ends. The rank is above the node's number.
-fn match_instance(
-    rank: u32,
+fn argument_of(t: &[u32], m: u32, j: u32) -> u32
+    ensures { λ r. ⌜ (r ≡ argumentOf (now (t .entry)) m j) × (r < 1024) ⌝ }
+{
+    child(t, m, j) % limits::MAX_NODES
+}
+
+// 1 if node m has children, which are to be matched after its symbol.
+fn opens(t: &[u32], m: u32) -> usize
+    ensures { λ r. ⌜ (r ≡ opensOf (now (t .entry)) m) × (r < 2) ⌝ }
+{
+    if kind(t, m) == kinds::VARIABLE {
+        return 0;
+    }
+    if argument_count(t, m) == 0 {
+        return 0;
+    }
+    1
+}
+
+// Whether the instance's symbol, or a name's term, stands at position i, and where it ends.
+fn match_head(
     sheet: &[u8],
     t: &[u32],
     text: &[u8],
@@ -93,45 +114,100 @@ fn match_instance(
     instance: Instance,
     i: usize,
 ) -> Reach
-    ensures { λ r. ⌜ r ≡ matchInstance rank (now (sheet .entry)) (now (t .entry)) (now (text .entry)) (now (w .entry)) (instance .frame)
+    ensures { λ r. ⌜ r ≡ matchHead (now (sheet .entry)) (now (t .entry)) (now (text .entry)) (now (w .entry)) (instance .frame)
         (instance .node) i ⌝ }
 {
-    if rank == 0 {
-        return Reach::Differs;
-    }
     let m = instance.node;
     let name = label(t, m);
     if kind(t, m) == kinds::VARIABLE {
         return match_slot(text, w, instance.frame, name, i);
     }
-    let Reach::To(e) = match_name(sheet, t, name, text, i) else {
-        return Reach::Differs;
-    };
-    let mut left = child_count(t, m);
-    if left == 0 {
-        return Reach::To(e);
+    match_name(sheet, t, name, text, i)
+}
+
+// The byte before the j-th of n children, or after the last one.
+fn mark_before(j: u32, n: u32) -> u8
+    ensures { λ r. ⌜ (r ≡ markBefore j n) × (0 < r) ⌝ }
+{
+    if j < n {
+        if j == 0 {
+            return b'(';
+        }
+        return b',';
     }
-    let mut at = e;
-    let mut j: u32 = 0;
-    let mut mark = b'(';
-    while 0 < left {
-        if byte(text, at) == mark {
-            let part = Instance {
-                node: child(t, m, j),
-                frame: instance.frame,
-            };
-            let Reach::To(p) = match_instance(rank - 1, sheet, t, text, w, part, at + 1) else {
-                return Reach::Differs;
-            };
-            at = p;
-            mark = b',';
-            j += 1;
-            left -= 1;
+    b')'
+}
+
+// Whether the children of the instance's node stand at position i, in brackets, and where they end. For each node that is open, whose
+// children are being matched, the stack has 8 * node + the next child.
+fn match_children(
+    sheet: &[u8],
+    t: &[u32],
+    text: &[u8],
+    w: &[u32],
+    instance: Instance,
+    i: usize,
+) -> Reach
+    requires { ⌜ instance .node < 1024 ⌝ }
+    ensures { λ r. ⌜ r ≡ matchChildren 1023 (now (sheet .entry)) (now (t .entry)) (now (text .entry)) (now (w .entry))
+        (instance .frame) (instance .node) i ⌝ }
+{
+    let mut stack = [0u32; NODES];
+    put(&mut stack, 0, CHILD_LIMIT * instance.node);
+    let mut n: usize = 1;
+    let mut at = i;
+    while 0 < n {
+        let level = get(&stack, n - 1);
+        let m = level / CHILD_LIMIT;
+        let j = level % CHILD_LIMIT;
+        let count = argument_count(t, m);
+        if byte(text, at) == mark_before(j, count) {
+            at += 1;
+            if j < count {
+                if n == NODES {
+                    return Reach::Differs;
+                }
+                let part = Instance {
+                    node: argument_of(t, m, j),
+                    frame: instance.frame,
+                };
+                let Reach::To(e) = match_head(sheet, t, text, w, part, at) else {
+                    return Reach::Differs;
+                };
+                put(&mut stack, n - 1, level + 1);
+                put(&mut stack, n, CHILD_LIMIT * part.node);
+                at = e;
+                n += opens(t, part.node);
+            } else {
+                n -= 1;
+            }
         } else {
             return Reach::Differs;
         }
     }
-    match_close(text, at)
+    Reach::To(at)
+}
+
+// Whether the instance stands at position i, and where it ends.
+fn match_instance(
+    sheet: &[u8],
+    t: &[u32],
+    text: &[u8],
+    w: &[u32],
+    instance: Instance,
+    i: usize,
+) -> Reach
+    requires { ⌜ instance .node < 1024 ⌝ }
+    ensures { λ r. ⌜ r ≡ matchInstance 1024 (now (sheet .entry)) (now (t .entry)) (now (text .entry)) (now (w .entry))
+        (instance .frame) (instance .node) i ⌝ }
+{
+    let Reach::To(e) = match_head(sheet, t, text, w, instance, i) else {
+        return Reach::Differs;
+    };
+    if opens(t, instance.node) == 0 {
+        return Reach::To(e);
+    }
+    match_children(sheet, t, text, w, instance, e)
 }
 
 // Whether the term in the range of the text is the instance.
@@ -143,11 +219,11 @@ pub fn is_instance(
     range: Range,
     instance: Instance,
 ) -> bool
+    requires { ⌜ instance .node < 1024 ⌝ }
     ensures { λ r. ⌜ r ≡ isInstance (now (sheet .entry)) (now (t .entry)) (now (text .entry)) (now (w .entry)) (range .start) (range .end)
         (instance .frame) (instance .node) ⌝ }
 {
-    let Reach::To(i) = match_instance(limits::MAX_NODES, sheet, t, text, w, instance, range.start)
-    else {
+    let Reach::To(i) = match_instance(sheet, t, text, w, instance, range.start) else {
         return false;
     };
     i == range.end

@@ -3,12 +3,12 @@ pub mod frames;
 mod instance_ranges;
 mod name_classes;
 
+use instance_ranges::argument_count;
 use memory::put;
 use memory::widen;
 use name_classes::child_of;
 use name_classes::join_name;
 use name_classes::root_of;
-use node_table::child_count;
 use node_table::label;
 use scanning::class_elements;
 use sheet_format::limits;
@@ -16,8 +16,8 @@ ghost use mathlib.Core.Path.{_≡_};
 ghost use Prim.Native.Nat.{_+_, _-_, _<_};
 ghost use Rattle.scanning.specs.Instances.{compared, sameElements, sameAtoms};
 
-// The most steps down a term of the sheet, and the first application of the second side.
-const NODES: usize = limits::MAX_NODES as usize;
+// The most comparisons that are open at a time (specs/Instances.antt), and the first application of the second side.
+const COMPARISON_DEPTH: usize = 2050;
 
 const OTHER_SIDE: u32 = class_elements::FIRST_APPLICATION + 1;
 
@@ -79,7 +79,7 @@ fn same_elements(
     }
     let m = a / 2 % limits::MAX_NODES;
     if label(t, m) == label(t, b / 2 % limits::MAX_NODES) {
-        let mut children = child_count(t, m);
+        let mut children = argument_count(t, m);
         let mut k: u32 = 0;
         while 0 < children {
             let parts = Pair {
@@ -120,5 +120,5 @@ pub fn same_atoms(
         first: 2 * (left.node % limits::MAX_NODES) + class_elements::FIRST_APPLICATION,
         second: 2 * (right.node % limits::MAX_NODES) + OTHER_SIDE,
     };
-    same_elements(NODES + text.len(), sheet, t, text, w, &mut c, atoms)
+    same_elements(COMPARISON_DEPTH, sheet, t, text, w, &mut c, atoms)
 }

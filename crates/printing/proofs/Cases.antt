@@ -26,7 +26,8 @@ use Rattle.node_table.specs.Layout.{nameStart, nameLength, isFunctionBit, arity
 use Rattle.printing.specs.Output.{emit, writeBytes, copyBytes, writeDigits, writeNumber, writeSymbol}
 use Rattle.printing.specs.Numbering.{withPosition, withVariables, withConstants, wrote, numberVariable, numberConstant, writeVariable}
 use Rattle.printing.specs.Numbering.{writeConstant}
-use Rattle.printing.specs.WriteTerms.{emitTo, writeName, separator, argumentsBy, applicationBy, wordBy, writeTerm, termTo}
+use Rattle.printing.specs.WriteTerms.{emitTo, writeName, separator, argumentsBy, bracketedBy, applicationBy, wordBy, writeTerm}
+use Rattle.printing.specs.WriteTerms.{termTo}
 use Rattle.printing.specs.WriteLines.{bytesTo, numberTo, resultTo, plainBytes, termLine, bindingsTo, prefixTo, clauseTo, lineTo}
 use Rattle.printing.specs.WriteLines.{linesTo}
 use Rattle.printing.specs.PathLinks.{linkWord, linkPath, clearConstants, clearVariables}
@@ -49,9 +50,9 @@ unfolding field putField cellOf levelOf putCell putLevel putEntry putGoal putAss
     tryNext dueAct act runActs startMemory startRegisters runMachine kindOf childCount labelOf childOf infoOf packInfo maskOf goalBit
     membersOf sizeOf bitOf nameStart nameLength isFunctionBit arityOf clauseNode emit writeBytes copyBytes writeDigits writeNumber
     writeSymbol withPosition withVariables withConstants wrote numberVariable numberConstant writeVariable writeConstant emitTo writeName
-    separator argumentsBy applicationBy wordBy writeTerm termTo bytesTo numberTo resultTo plainBytes termLine bindingsTo prefixTo clauseTo
-    lineTo linesTo linkWord linkPath clearConstants clearVariables textLimit proofPass prepare firstLink writePass writeProof shortPass
-    writeShort writeNo writeSpent ascii
+    separator argumentsBy bracketedBy applicationBy wordBy writeTerm termTo bytesTo numberTo resultTo plainBytes termLine bindingsTo
+    prefixTo clauseTo lineTo linesTo linkWord linkPath clearConstants clearVariables textLimit proofPass prepare firstLink writePass
+    writeProof shortPass writeShort writeNo writeSpent ascii
 computeAnswer sheet t clauses goal budget w out = writeProof sheet t goal (runMachine budget t clauses goal w) budget out
 
 -- "Goal every b some a p(a,b)", with the clause every z p(z,z), has the nodes V 0, V 1, p(0,0), U, p(0,1), E, U.

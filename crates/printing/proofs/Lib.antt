@@ -4,6 +4,7 @@ pub mod PrinterStates
 pub mod Tokens
 pub mod LeftAlone
 pub mod Steps
+pub mod Reaching
 pub mod Words
 pub mod Finals
 pub mod Values

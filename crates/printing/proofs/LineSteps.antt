@@ -32,10 +32,11 @@ use Rattle.printing.specs.WriteLines.{bytesTo, numberTo, resultTo, plain
 use Rattle.printing.specs.Written.{variable, constant, TermWord, ofLeaf, LineMade}
 use Rattle.machine.proofs.Words.{increment-small}
 use Rattle.printing.proofs.PrinterStates.{emitted, number-then}
-use Rattle.printing.proofs.Tokens.{Token, byte, steps, steps-append, steps-bytes, termTokens, prefixTokens, lineTokens, textTokens}
+use Rattle.printing.proofs.Tokens.{Token, byte, steps, steps-bytes, termTokens, prefixTokens, lineTokens, textTokens}
 use Rattle.printing.proofs.Tokens.{tokens, signs, signs-append, none-signs}
-use Rattle.printing.proofs.LeftAlone.{Alike, alike-trans, alike-fewer}
-use Rattle.printing.proofs.Steps.{Right, steps-alike}
+use Rattle.printing.proofs.LeftAlone.{Alike}
+use Rattle.printing.proofs.Steps.{Right}
+use Rattle.printing.proofs.Reaching.{Reaches, reaches-kept, reaches-then, reaches-steps}
 use Rattle.printing.proofs.Words.{variable-tag, variable-name, constant-tag, constant-name}
 use Rattle.printing.proofs.Values.{value, variable-term, constant-term}
 use Rattle.printing.proofs.TermSteps.{Basis, word-right, term-steps}
@@ -48,29 +49,31 @@ module _ (sheet t : List ℕ) (symbols nodes : ℕ) (w : List ℕ) (acts : ℕ) 
 
   -- A printer that comes from another by some tokens, whose symbols are as the memory has them.
   pub record Reached (ks : List Token) (g g′ : Printer) : Type 0 where
-    pub is : g′ ≡ steps limit ks g
+    pub reaches : Reaches w limit ks g g′
     pub right : All (Right w (s .next) acts) (signs ks)
 
   -- The memory stays alike from one printer to the other.
   pub reach-alike : (ks : List Token) (g g′ : Printer) → Reached ks g g′ → Alike 62 w (g .memory) → Alike 63 (g .memory) (g′ .memory)
-  reach-alike ks g g′ r a =
-      subst (λ (h : Printer). Alike 63 (g .memory) (h .memory)) (sym (r .is))
-      (steps-alike w (s .next) acts (b .room) (b .variables) limit ks g (r .right) a)
+  reach-alike ks g g′ r a = r .reaches .alike a
 
   -- The memory of the printer stays alike to w.
   pub reach-kept : (ks : List Token) (g g′ : Printer) → Reached ks g g′ → Alike 62 w (g .memory) → Alike 62 w (g′ .memory)
-  reach-kept ks g g′ r a =
-      alike-trans 62 w (g .memory) (g′ .memory) a (alike-fewer 63 62 (g .memory) (g′ .memory) (omega arith) (reach-alike ks g g′ r a))
+  reach-kept ks g g′ r a = reaches-kept w limit ks g g′ (r .reaches) a
+
+  -- What makes the steps of its tokens comes by them.
+  reach-steps : (ks : List Token) (g g′ : Printer) → g′ ≡ steps limit ks g → All (Right w (s .next) acts) (signs ks) → Reached ks g g′
+  reach-steps ks g g′ e right =
+      record { reaches = reaches-steps w (s .next) acts (b .room) (b .variables) limit ks g g′ right e; right = right }
 
   -- A printer comes from itself by no tokens.
   pub reach-none : (g : Printer) → Reached [] g g
   unfolding steps signs
-  reach-none g = record { is = refl; right = tt }
+  reach-none g = reach-steps [] g g refl tt
 
   -- One piece and then another come by the tokens of both.
   pub reach-then : (x y : List Token) (f g h : Printer) → Reached x f g → Reached y g h → Reached (x ++ y) f h
   reach-then x y f g h p q = record {
-    is = q .is ∙ ap (steps limit y) (p .is) ∙ sym (steps-append limit x y f);
+    reaches = reaches-then w limit x y f g h low (p .reaches) (q .reaches);
     right =
         subst (All (Right w (s .next) acts)) (sym (signs-append x y))
         (all-append (Right w (s .next) acts) (signs x) (signs y) (p .right) (q .right));
@@ -82,7 +85,9 @@ module _ (sheet t : List ℕ) (symbols nodes : ℕ) (w : List ℕ) (acts : ℕ) 
 
   -- Writing bytes goes through these bytes as tokens.
   pub reach-bytes : (bs : List ℕ) (g : Printer) → Reached (map byte bs) g (bytesTo limit g bs)
-  reach-bytes bs g = record { is = sym (steps-bytes limit bs g); right = subst (All (Right w (s .next) acts)) (sym (none-signs bs)) tt }
+  reach-bytes bs g =
+      reach-steps (map byte bs) g (bytesTo limit g bs) (sym (steps-bytes limit bs g))
+      (subst (All (Right w (s .next) acts)) (sym (none-signs bs)) tt)
 
   -- Writing one byte goes through it as a token.
   pub reach-byte : (c : ℕ) (g : Printer) → Reached (byte c ∷ []) g (emitTo limit g c)
@@ -101,10 +106,11 @@ module _ (sheet t : List ℕ) (symbols nodes : ℕ) (w : List ℕ) (acts : ℕ) 
       let i : Leaves (termOf t w a) (Below (s .next)) = subst (λ (v : Term Leaf). Leaves v (Below (s .next))) (sym e) l in
       reach-as (termTokens (value s (termOf t w a)) ds) (termTokens (value s u) ds) g _
       (ap (λ (v : Term Leaf). termTokens (value s v) ds) e) (record {
-        is =
-            ap (λ (rank : ℕ). writeTerm rank sheet t acts limit g a) (increment-small limit (omega arith))
-            ∙ term-steps sheet t symbols nodes w acts s b limit low (suc limit) g a (h, i) k (omega arith);
-        right = word-right sheet t symbols nodes w acts s b limit low a (h, i);
+        reaches =
+            subst (λ (rank : ℕ). Reaches w limit (termTokens (value s (termOf t w a)) ds) g (writeTerm rank sheet t acts limit g a))
+            (sym (increment-small limit (omega arith)))
+            (term-steps sheet t symbols nodes w acts s b (suc limit) limit low g a (h, i) k (omega arith));
+        right = word-right sheet t symbols nodes w acts s b a (h, i);
       })
 
   -- Writing the word of a variable goes through the tokens of its final value.

@@ -36,9 +36,10 @@ use Rattle.printing.specs.Writer.{writeProof, shortPass, writeShort, wri
 use Rattle.printing.specs.Written.{Orderly, reportedLength, WritesProof, WritesNo, WritesSpent}
 use Rattle.printing.specs.PathLinks.{nextLineField}
 use Rattle.printing.proofs.Bytes.{bytes-end, bytes-fit, bytes-append, number-bytes}
-use Rattle.printing.proofs.Tokens.{byte, textTokens, tokens, tokens-append, signs, tokens-signs, spelled, tokens-spelled}
+use Rattle.printing.proofs.Tokens.{byte, steps, textTokens, tokens, tokens-append, signs, tokens-signs, spelled, tokens-spelled}
 use Rattle.printing.proofs.LeftAlone.{Alike, alike-trans, alike-fewer}
 use Rattle.printing.proofs.Steps.{Right}
+use Rattle.printing.proofs.Reaching.{reaches-within, reaches-past}
 use Rattle.printing.proofs.TermSteps.{Basis}
 use Rattle.printing.proofs.LineSteps.{Reached, reach-alike, reach-kept, reach-as, reach-then, reach-result, reach-bindings}
 use Rattle.printing.proofs.PathSteps.{PathLine, pathLines, lineOf, lines-read, lines-few, reverse-map, Prepared, prepared, lineShown}
@@ -262,19 +263,22 @@ module _ (sheet t : List ℕ) (symbols nodes clauses goal : ℕ) (table : WellMa
         fewConstants = omega arith;
       }
 
-  -- What a pass writes.
+  -- What the tokens of the text write.
   pass-wrote : (limit base : ℕ) (low : limit ≤ 65535) (h : List Symbol) (g : Printer) → base ≤ 65536 → Alike 62 w (g .memory)
       → ((u : ℕ) → field (g .memory) u nextLineField ≡ field (prepare m) u nextLineField)
       → Due renaming h (signs (tokens ds lines)) → Numbered w (s .next) acts renaming base h (g .memory) (g .cursor)
-      → Wrote w (s .next) acts renaming base limit (tokens ds lines) h g (proofPass sheet t acts limit goal units (firstLink m) g)
+      → Wrote w (s .next) acts renaming base limit (tokens ds lines) h g (steps limit (tokens ds lines) g)
   pass-wrote limit base low h g small k f due n =
-      let r = reach-pass limit low g k f in
-      subst (Wrote w (s .next) acts renaming base limit (tokens ds lines) h g) (sym (r .is))
-      (steps-numbered w (s .next) acts renaming base (o .room) (o .variables) limit low small (tokens ds lines) h g (r .right) due (λ l. n))
+      steps-numbered w (s .next) acts renaming base (o .room) (o .variables) limit low small (tokens ds lines) h g
+      (reach-pass limit low g k f .right) due (λ l. n)
 
   -- The first pass, into no buffer.
   abbrev counting : List ℕ → Printer
   counting out = proofPass sheet t acts (textLimit out) goal units (firstLink m) (printer (prepare m) [] startCursor)
+
+  -- The tokens of the text, into no buffer.
+  abbrev counted : List ℕ → Printer
+  counted out = steps (textLimit out) (tokens ds lines) (printer (prepare m) [] startCursor)
 
   -- The first pass goes through the tokens.
   counting-reached : (out : List ℕ) → Reached sheet t symbols nodes w acts s basis (textLimit out) (limit-low out) (tokens ds lines)
@@ -287,30 +291,66 @@ module _ (sheet t : List ℕ) (symbols nodes clauses goal : ℕ) (table : WellMa
       reach-alike sheet t symbols nodes w acts s basis (textLimit out) (limit-low out) (tokens ds lines)
       (printer (prepare m) [] startCursor) (counting out) (counting-reached out) (ready .alike)
 
-  -- The first pass counts the text, and numbers its symbols.
-  counting-wrote : (out : List ℕ) → Wrote w (s .next) acts renaming 0 (textLimit out) (tokens ds lines) []
-      (printer (prepare m) [] startCursor) (counting out)
-  counting-wrote out =
+  -- The tokens count the text, and number its symbols.
+  counted-wrote : (out : List ℕ) → Wrote w (s .next) acts renaming 0 (textLimit out) (tokens ds lines) []
+      (printer (prepare m) [] startCursor) (counted out)
+  counted-wrote out =
       pass-wrote (textLimit out) 0 (limit-low out) [] (printer (prepare m) [] startCursor) (omega arith) (ready .alike) (λ u. refl)
       (due-first [] (signs (tokens ds lines))) first-numbered
 
-  -- The second pass, into the lent buffer.
+  -- The count of the tokens is that of the text.
+  count : (out : List ℕ) → counted out .cursor .at ≡ writeBytes text [] (textLimit out) 0 .at
+  count out = ap (λ (x : Written). x .at) (counted-wrote out .bytes)
+
+  -- A first pass that ends past the limit tells that the text does not fit.
+  counting-long : (out : List ℕ) → textLimit out < counting out .cursor .at → textLimit out < length text
+  counting-long out h =
+      counted-long out text (counted out .cursor .at) (count out)
+      (reaches-past w (textLimit out) (tokens ds lines) (printer (prepare m) [] startCursor) (counting out)
+      (counting-reached out .reaches) h)
+
+  -- One that ends within the limit has counted and numbered the whole text.
+  counting-whole : (out : List ℕ) → counting out .cursor .at ≤ textLimit out → counting out ≡ counted out
+  counting-whole out h =
+      reaches-within w (textLimit out) (tokens ds lines) (printer (prepare m) [] startCursor) (counting out)
+      (counting-reached out .reaches) h
+
+  -- The second pass, into the lent buffer, begins with the numbers of the first.
+  abbrev numberedPrinter : List ℕ → Printer
+  numberedPrinter out = printer (counting out .memory) out (withPosition (counting out .cursor) 0)
+
+  -- The second pass.
   abbrev writing : List ℕ → Printer
-  writing out =
-      proofPass sheet t acts (textLimit out) goal units (firstLink m)
-      (printer (counting out .memory) out (withPosition (counting out .cursor) 0))
+  writing out = proofPass sheet t acts (textLimit out) goal units (firstLink m) (numberedPrinter out)
+
+  -- A text that was counted within the limit fits.
+  counting-fits : (out : List ℕ) → counting out .cursor .at ≤ textLimit out → length text ≤ textLimit out
+  counting-fits out h =
+      counted-fits out text (counted out .cursor .at) (count out)
+      (subst (λ (p : Printer). p .cursor .at ≤ textLimit out) (counting-whole out h) h)
 
   -- The second pass writes the text.
   writing-bytes : (out : List ℕ) → counting out .cursor .at ≤ textLimit out
       → written (writing out .buffer) (writing out .cursor .at) ≡ writeBytes text out (textLimit out) 0
   unfolding withPosition
   writing-bytes out h =
+      let limit = textLimit out in
       let low = limit-low out in
-      let n = counting-wrote out .numbered h in
-      pass-wrote (textLimit out) 65536 low (signs (tokens ds lines))
-      (printer (counting out .memory) out (withPosition (counting out .cursor) 0)) (omega arith) (n .alike)
-      (λ u. counting-alike out .fields u 62 (omega arith) (omega arith)) (due-again renaming (signs (tokens ds lines)))
-      (second-numbered (signs (tokens ds lines)) (counting out .memory) (counting out .cursor) (omega arith) n) .bytes
+      let ks = tokens ds lines in
+      let g = numberedPrinter out in
+      let e = counting-whole out h in
+      let n : Numbered w (s .next) acts renaming 0 (signs ks) (counting out .memory) (counting out .cursor) =
+      subst (λ (p : Printer). Numbered w (s .next) acts renaming 0 (signs ks) (p .memory) (p .cursor)) (sym e)
+      (counted-wrote out .numbered (subst (λ (p : Printer). p .cursor .at ≤ limit) e h)) in
+      let same : (u : ℕ) → field (g .memory) u nextLineField ≡ field (prepare m) u nextLineField =
+      λ u. counting-alike out .fields u 62 (omega arith) (omega arith) in
+      let wrote = pass-wrote limit 65536 low (signs ks) g (omega arith) (n .alike) same (due-again renaming (signs ks))
+      (second-numbered (signs ks) (counting out .memory) (counting out .cursor) (omega arith) n) .bytes in
+      let end = bytes-end text out limit 0 low (omega arith) in
+      let fits = counting-fits out h in
+      let at = ap (λ (x : Written). x .at) wrote in
+      ap (λ (p : Printer). written (p .buffer) (p .cursor .at)) (reach-pass limit low g (n .alike) same .reaches .fits (omega arith))
+      ∙ wrote
 
   -- What the writer leaves in the answer buffer.
   proof-reported : (out : List ℕ)
@@ -318,9 +358,6 @@ module _ (sheet t : List ℕ) (symbols nodes clauses goal : ℕ) (table : WellMa
   unfolding writeProof writePass
   proof-reported out = go (ltb (textLimit out) (counting out .cursor .at)) refl
     where
-      count : counting out .cursor .at ≡ writeBytes text [] (textLimit out) 0 .at
-      count = ap (λ (x : Written). x .at) (counting-wrote out .bytes)
-
       result : Bool → Answered
       result b = elim b [
         | true ↦ answered (counting out .memory) out noRoom
@@ -329,12 +366,10 @@ module _ (sheet t : List ℕ) (symbols nodes clauses goal : ℕ) (table : WellMa
 
       go : (b : Bool) → ltb (textLimit out) (counting out .cursor .at) ≡ b
           → written (result b .buffer) (result b .length) ≡ reportedLength text out
-      go true e =
-          sym (reported-long text out (counted-long out text (counting out .cursor .at) count
-          (ltb-true (textLimit out) (counting out .cursor .at) e)))
+      go true e = sym (reported-long text out (counting-long out (ltb-true (textLimit out) (counting out .cursor .at) e)))
       go false e =
           let h = ltb-false (textLimit out) (counting out .cursor .at) e in
-          writing-bytes out h ∙ written-fits out text (counted-fits out text (counting out .cursor .at) count h)
+          writing-bytes out h ∙ written-fits out text (counting-fits out h)
 
   -- What it leaves of the memory.
   pub proof-alike : (out : List ℕ) → Alike 62 w (writeProof sheet t goal m units out .memory)
@@ -353,7 +388,7 @@ module _ (sheet t : List ℕ) (symbols nodes clauses goal : ℕ) (table : WellMa
       go : (b : Bool) → Alike 62 w (result b .memory)
       go true = counted
       go false =
-          let g = printer (counting out .memory) out (withPosition (counting out .cursor) 0) in
+          let g = numberedPrinter out in
           reach-kept sheet t symbols nodes w acts s basis (textLimit out) (limit-low out) (tokens ds lines) g (writing out)
           (reach-pass (textLimit out) (limit-low out) g counted (λ u. counting-alike out .fields u 62 (omega arith) (omega arith))) counted
 

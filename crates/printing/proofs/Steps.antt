@@ -60,7 +60,7 @@ write-grow limit g (leftover x k) l = symbol-grow (g .buffer) limit (g .cursor .
 write-grow limit g (made c k) l = symbol-grow (g .buffer) limit (g .cursor .at) _ _ _ _ l (number-constant-at (g .memory) (g .cursor) c)
 
 -- The position never falls at a token.
-step-grow : (limit : ℕ) (g : Printer) (k : Token) → limit ≤ 65535 → g .cursor .at ≤ step limit g k .cursor .at
+pub step-grow : (limit : ℕ) (g : Printer) (k : Token) → limit ≤ 65535 → g .cursor .at ≤ step limit g k .cursor .at
 unfolding step
 step-grow limit g (byte b) l = rw (emitted limit g b) (printer-grow limit g (b ∷ []) l)
 step-grow limit g (sign s) l = go (ltb limit (g .cursor .at))

@@ -1,17 +1,17 @@
--- The writer of a term goes through the tokens of the final value: by induction on the rank, which is met only past the limit.
-use Prim.Native.Nat.{ℕ, zero, suc, _+_, _*_, _≤_, _<_}
+-- The writer of a term reaches what the tokens of the final value do: by induction on the rank, which is met only past the limit.
+use Prim.Native.Nat.{ℕ, zero, suc, _+_, _-_, _*_, _≤_, _<_}
 use Prim.Native.Char.{code}
 use native.Mathlib.Omega.{arith}
 use mathlib.Core.Path.{_≡_, refl, sym, ap, _∙_, subst}
 use mathlib.Core.Bool.{Bool, true, false}
-use mathlib.Core.List.{List, _++_, map}
+use mathlib.Core.List.{List, [], _∷_, _++_, map, append-assoc}
 use mathlib.Core.Logic.{_⊎_}
 use mathlib.Core.Option.{some}
 use lib.Dec.{eqb, ltb}
 use lib.ListN.{length, take, drop, getElem?}
 use borrow.Author.Tests.{ne-eqb, ltb-true, ltb-false, le-ltb}
 use Rattle.terms.specs.Lists.{All}
-use Rattle.terms.specs.Terms.{Term, leaf, app, Terms, substitute, substitutes, Leaves}
+use Rattle.terms.specs.Terms.{Term, leaf, app, Terms, nil, cons, substitute, substitutes, Leaves}
 use Rattle.sequents.specs.Symbols.{Symbol, Ground}
 use Rattle.unification.specs.Store.{Leaf, Store, look, boundTo}
 use Rattle.unification.specs.Promises.{Below, Unbound, Formed}
@@ -28,15 +28,16 @@ use Rattle.machine.specs.Words.{nodeOf, frameOf, wordOf, environmentAt, termOf,
 use Rattle.machine.specs.Reading.{variableOf}
 use Rattle.printing.specs.Output.{emit}
 use Rattle.printing.specs.Numbering.{withPosition, Printer, wrote}
-use Rattle.printing.specs.WriteTerms.{emitTo, writeName, separator, argumentsBy, applicationBy, wordBy, writeTerm}
+use Rattle.printing.specs.WriteTerms.{emitTo, writeName, separator, argumentsBy, bracketedBy, applicationBy, wordBy, writeTerm}
 use Rattle.printing.specs.WriteLines.{bytesTo}
 use Rattle.printing.specs.Written.{variable, constant, Closure, TermWord, ofLeaf, ofClosure}
 use Rattle.printing.proofs.Bytes.{emit-over, emit-within}
 use Rattle.printing.proofs.PrinterStates.{name-then}
-use Rattle.printing.proofs.Tokens.{byte, showSymbol, step, steps, steps-append, steps-over, steps-bytes, termTokens, argumentTokens}
-use Rattle.printing.proofs.Tokens.{moreTokens, signs, term-signs}
-use Rattle.printing.proofs.LeftAlone.{Alike, alike-trans, alike-fewer, word-alike, deref-alike}
-use Rattle.printing.proofs.Steps.{Right, steps-grow, steps-alike}
+use Rattle.printing.proofs.Tokens.{Token, byte, showSymbol, step, steps, steps-over, steps-bytes, termTokens, argumentTokens}
+use Rattle.printing.proofs.Tokens.{moreTokens, signs, none-signs, term-signs}
+use Rattle.printing.proofs.LeftAlone.{Alike, word-alike, deref-alike}
+use Rattle.printing.proofs.Steps.{Right}
+use Rattle.printing.proofs.Reaching.{Reaches, reaches-kept, reaches-rank, reaches-then, reaches-closed, reaches-steps}
 use Rattle.printing.proofs.Values.{leaves-show, value, argument-word, sought, variable-value, constant-value, closure-value}
 use Rattle.printing.proofs.Values.{value-right}
 
@@ -82,8 +83,20 @@ emit-rank limit rank g b l h = go (ltb limit (g .cursor .at)) refl
     go true e = let q = ltb-true limit (g .cursor .at) e in rw (emit-over (g .buffer) limit (g .cursor .at) b q) (omega arith)
     go false e = let q = ltb-false limit (g .cursor .at) e in rw (emit-within (g .buffer) limit (g .cursor .at) b l q) (omega arith)
 
-module _ (sheet t : List ℕ) (symbols nodes : ℕ) (w : List ℕ) (acts : ℕ) (s : Store) (b : Basis t symbols nodes w acts s) (limit : ℕ)
-    (low : limit ≤ 65535) where
+-- The tokens of the arguments after the first, without the closing bracket.
+unfoldable separatedTokens : Terms Symbol → List Declaration → List Token
+separatedTokens nil ds = []
+separatedTokens (cons t ts) ds = byte (code ",") ∷ (termTokens t ds ++ separatedTokens ts ds)
+
+-- The closing bracket comes after them.
+more-closed : (ts : Terms Symbol) (ds : List Declaration) → separatedTokens ts ds ++ (byte (code ")") ∷ []) ≡ moreTokens ts ds
+unfolding separatedTokens moreTokens
+more-closed nil ds = refl
+more-closed (cons t ts) ds =
+    ap (byte (code ",") ∷_)
+    (append-assoc (termTokens t ds) (separatedTokens ts ds) (byte (code ")") ∷ []) ∙ ap (termTokens t ds ++_) (more-closed ts ds))
+
+module _ (sheet t : List ℕ) (symbols nodes : ℕ) (w : List ℕ) (acts : ℕ) (s : Store) (b : Basis t symbols nodes w acts s) where
   -- A word that reads as a term of variables that were made.
   abbrev Word : ℕ → Type 0
   Word a = TermWord t w nodes acts a × Leaves (termOf t w a) (Below (s .next))
@@ -101,8 +114,13 @@ module _ (sheet t : List ℕ) (symbols nodes : ℕ) (w : List ℕ) (acts : ℕ) 
 
   -- What is to be shown of the writer at a rank.
   abbrev Writes : ℕ → Type 0
-  Writes rank = (g : Printer) (a : ℕ) → Word a → Alike 62 w (g .memory) → limit < g .cursor .at + rank
-      → writeTerm rank sheet t acts limit g a ≡ steps limit (termTokens (value s (termOf t w a)) declarations) g
+  Writes rank = (limit : ℕ) → limit ≤ 65535 → (g : Printer) (a : ℕ) → Word a → Alike 62 w (g .memory) → limit < g .cursor .at + rank
+      → Reaches w limit (termTokens (value s (termOf t w a)) declarations) g (writeTerm rank sheet t acts limit g a)
+
+  -- What makes the steps of its tokens reaches what they do.
+  exactly : (limit : ℕ) (ks : List Token) (g g′ : Printer) → All (Right w (s .next) acts) (signs ks) → g′ ≡ steps limit ks g
+      → Reaches w limit ks g g′
+  exactly limit ks g g′ right e = reaches-steps w (s .next) acts (b .room) (b .variables) limit ks g g′ right e
 
   module _ (rank : ℕ) (ih : Writes rank) (x : ℕ) (c : Closure t w nodes acts x) (below : Leaves (termOf t w x) (Below (s .next))) where
     -- `environment` has what the names of a closure stand for.
@@ -117,141 +135,152 @@ module _ (sheet t : List ℕ) (symbols nodes : ℕ) (w : List ℕ) (acts : ℕ) 
     abbrev children : ℕ → ℕ → Terms Symbol
     children n j = substitutes (substitutes (childrenBy (termAt t) t (nodeOf x) n j) environment) (final s)
 
-    -- One argument.
-    argument-steps : (j : ℕ) → j < childCount t (nodeOf x) → (g : Printer) (d : ℕ) → Alike 62 w (g .memory)
+    -- The printer after argument j, which is written after d.
+    abbrev item : ℕ → ℕ → Printer → ℕ → Printer
+    item limit j g d =
+        writeTerm rank sheet t acts limit (emitTo limit g d) (wordOf t (emitTo limit g d .memory) (childOf t (nodeOf x) j) (frameOf x))
+
+    -- One argument, with what stands before it.
+    item-steps : (limit : ℕ) → limit ≤ 65535 → (j : ℕ) → j < childCount t (nodeOf x) → (g : Printer) (d : ℕ) → Alike 62 w (g .memory)
         → limit < g .cursor .at + suc rank
-        → writeTerm rank sheet t acts limit (emitTo limit g d) (wordOf t (emitTo limit g d .memory) (childOf t (nodeOf x) j) (frameOf x))
-        ≡ steps limit (termTokens (child j) declarations) (emitTo limit g d)
-    unfolding emitTo wrote
-    argument-steps j h g d a r =
+        → Reaches w limit (byte d ∷ termTokens (child j) declarations) g (item limit j g d)
+    unfolding emitTo wrote steps step signs
+    item-steps limit low j h g d a r =
         let q = b .table .term (nodeOf x) (c .there) (c .term) .application (c .application) .terms j h in
         let k = q .0 in
         let l = c .there in
+        let f = emitTo limit g d in
         let e = word-alike 62 t w (g .memory) (childOf t (nodeOf x) j) (frameOf x) (omega arith)
         (λ z. b .table .term (childOf t (nodeOf x) j) (omega arith) (q .1) .variable z) a in
         let p = argument-word t nodes (b .table) (b .size) w acts (b .few) s x c below j h in
-        ap (writeTerm rank sheet t acts limit (emitTo limit g d)) e
-        ∙ ih (emitTo limit g d) (wordOf t w (childOf t (nodeOf x) j) (frameOf x)) (p .0) a (emit-rank limit rank g d low r)
-        ∙ ap (λ (u : Term Leaf). steps limit (termTokens (value s u) declarations) (emitTo limit g d)) (p .1)
-
-    -- The symbols of an argument's value are as the memory has them.
-    argument-right : (j : ℕ) → j < childCount t (nodeOf x) → All (Right w (s .next) acts) (signs (termTokens (child j) declarations))
-    argument-right j h =
-        let p = argument-word t nodes (b .table) (b .size) w acts (b .few) s x c below j h in
-        subst (λ (u : Term Leaf). All (Right w (s .next) acts) (signs (termTokens (value s u) declarations))) (p .1)
-        (word-right (wordOf t w (childOf t (nodeOf x) j) (frameOf x)) (p .0))
-
-    -- An argument, with what stands before it, and then the others.
-    next-steps : (n j : ℕ) → j < childCount t (nodeOf x) → (g : Printer) (d : ℕ) → Alike 62 w (g .memory) → limit < g .cursor .at + suc rank
-        → ((g : Printer) → Alike 62 w (g .memory) → limit < g .cursor .at + suc rank
-        → argumentsBy (writeTerm rank sheet t acts limit) t limit n (nodeOf x) (frameOf x) (suc j) g ≡ steps limit
-        (moreTokens (children n (suc j)) declarations) g)
-        → argumentsBy (writeTerm rank sheet t acts limit) t limit n (nodeOf x) (frameOf x) (suc j)
-        (writeTerm rank sheet t acts limit (emitTo limit g d) (wordOf t (emitTo limit g d .memory) (childOf t (nodeOf x) j) (frameOf x)))
-        ≡ steps limit (termTokens (child j) declarations ++ moreTokens (children n (suc j)) declarations) (emitTo limit g d)
-    unfolding emitTo wrote
-    next-steps n j h g d a r others =
-        let p = emitTo limit g d in
-        let q = steps limit (termTokens (child j) declarations) p in
-        let e = emit-rank limit rank g d low r in
-        let k = steps-grow limit (termTokens (child j) declarations) p low in
-        ap (argumentsBy (writeTerm rank sheet t acts limit) t limit n (nodeOf x) (frameOf x) (suc j)) (argument-steps j h g d a r)
-        ∙ others q (alike-trans 62 w (g .memory) (q .memory) a
-        (alike-fewer 63 62 (g .memory) (q .memory) (omega arith)
-        (steps-alike w (s .next) acts (b .room) (b .variables) limit (termTokens (child j) declarations) p (argument-right j h) a)))
-        (omega arith)
-        ∙ sym (steps-append limit (termTokens (child j) declarations) (moreTokens (children n (suc j)) declarations) p)
+        let y = wordOf t w (childOf t (nodeOf x) j) (frameOf x) in
+        let written = ih limit low f y (p .0) a (emit-rank limit rank g d low r) in
+        reaches-then w limit (byte d ∷ []) (termTokens (child j) declarations) g f _ low (exactly limit (byte d ∷ []) g f tt refl)
+        (subst (λ (v : ℕ). Reaches w limit (termTokens (child j) declarations) f (writeTerm rank sheet t acts limit f v)) (sym e)
+        (subst (λ (u : Term Leaf). Reaches w limit (termTokens (value s u) declarations) f (writeTerm rank sheet t acts limit f y)) (p .1)
+        written))
 
     -- The arguments after the first.
-    more-steps : (n j : ℕ) → 1 ≤ j → j + n ≡ childCount t (nodeOf x) → (g : Printer) → Alike 62 w (g .memory)
-        → limit < g .cursor .at + suc rank
-        → argumentsBy (writeTerm rank sheet t acts limit) t limit n (nodeOf x) (frameOf x) j g ≡ steps limit
-        (moreTokens (children n j) declarations) g
-    unfolding argumentsBy childrenBy moreTokens substitute steps step separator
-    more-steps zero j h e g a r = refl
-    more-steps (suc n) j h e g a r =
+    more-steps : (limit : ℕ) → limit ≤ 65535 → (n j : ℕ) → 1 ≤ j → j + n ≡ childCount t (nodeOf x) → (g : Printer)
+        → Alike 62 w (g .memory) → limit < g .cursor .at + suc rank
+        → Reaches w limit (separatedTokens (children n j) declarations) g
+        (argumentsBy (writeTerm rank sheet t acts limit) t limit n (nodeOf x) (frameOf x) j g)
+    unfolding argumentsBy childrenBy separatedTokens substitute steps separator signs
+    more-steps limit low zero j h e g a r = exactly limit [] g g tt refl
+    more-steps limit low (suc n) j h e g a r =
+        let f = item limit j g (code ",") in
+        let ks = byte (code ",") ∷ termTokens (child j) declarations in
+        let p = item-steps limit low j (omega arith) g (code ",") a r in
         rw (ne-eqb j 0 (λ q. omega arith))
-        (next-steps n j (omega arith) g (code ",") a r (λ g a r. more-steps n (suc j) (omega arith) (omega arith) g a r))
+        (reaches-then w limit ks (separatedTokens (children n (suc j)) declarations) g f _ low p
+        (more-steps limit low n (suc j) (omega arith) (omega arith) f (reaches-kept w limit ks g f p a)
+        (reaches-rank w limit ks g f (suc rank) low p r)))
 
-    -- All of them, if there are any.
-    all-steps : (n : ℕ) → n ≡ childCount t (nodeOf x) → (g : Printer) → Alike 62 w (g .memory) → limit < g .cursor .at + suc rank
-        → _≡_ {A = Printer}
-        (elim (eqb n 0) [ true ↦ g | false ↦ argumentsBy (writeTerm rank sheet t acts limit) t limit n (nodeOf x) (frameOf x) 0 g ])
-        (steps limit (argumentTokens (children n 0) declarations) g)
-    unfolding argumentsBy childrenBy argumentTokens substitute steps step separator
-    all-steps zero e g a r = refl
-    all-steps (suc n) e g a r =
+    -- All of them, without the closing bracket.
+    arguments-steps : (limit : ℕ) → limit ≤ 65535 → (n : ℕ) → suc n ≡ childCount t (nodeOf x) → (g : Printer) → Alike 62 w (g .memory)
+        → limit < g .cursor .at + suc rank
+        → Reaches w limit
+        ((byte (code "(") ∷ termTokens (child 0) declarations) ++ separatedTokens (children n 1) declarations) g
+        (argumentsBy (writeTerm rank sheet t acts limit) t limit (suc n) (nodeOf x) (frameOf x) 0 g)
+    unfolding argumentsBy separator
+    arguments-steps limit low n e g a r =
+        let f = item limit 0 g (code "(") in
+        let ks = byte (code "(") ∷ termTokens (child 0) declarations in
+        let p = item-steps limit low 0 (omega arith) g (code "(") a r in
+        reaches-then w limit ks (separatedTokens (children n 1) declarations) g f _ low p
+        (more-steps limit low n 1 (omega arith) (omega arith) f (reaches-kept w limit ks g f p a)
+        (reaches-rank w limit ks g f (suc rank) low p r))
+
+    -- All of them, in brackets, if there are any.
+    all-steps : (limit : ℕ) → limit ≤ 65535 → (n : ℕ) → n ≡ childCount t (nodeOf x) → (g : Printer) → Alike 62 w (g .memory)
+        → limit < g .cursor .at + suc rank
+        → Reaches w limit (argumentTokens (children n 0) declarations) g
+        (elim (eqb n 0) [ true ↦ g | false ↦ bracketedBy (writeTerm rank sheet t acts) t limit n (nodeOf x) (frameOf x) g ])
+    unfolding bracketedBy childrenBy argumentTokens substitute steps signs
+    all-steps limit low zero e g a r = exactly limit [] g g tt refl
+    all-steps limit low (suc n) e g a r =
+        let v = termTokens (child 0) declarations in
+        let u = separatedTokens (children n 1) declarations in
+        let p = arguments-steps (limit - 1) (omega arith) n e g a (omega arith) in
         rw (ne-eqb (suc n) 0 (λ q. omega arith))
-        (next-steps n 0 (omega arith) g (code "(") a r (λ g a r. more-steps n 1 (omega arith) (omega arith) g a r))
+        (subst (λ (ks : List Token).
+        Reaches w limit ks g (bracketedBy (writeTerm rank sheet t acts) t limit (suc n) (nodeOf x) (frameOf x) g))
+        (ap (byte (code "(") ∷_) (append-assoc v u (byte (code ")") ∷ []) ∙ ap (v ++_) (more-closed (children n 1) declarations)))
+        (reaches-closed w limit ((byte (code "(") ∷ v) ++ u) (code ")") g _ low p))
 
     -- The name, then the arguments.
-    application-steps : (g : Printer) → Alike 62 w (g .memory) → limit < g .cursor .at + suc rank
-        → applicationBy (writeTerm rank sheet t acts limit) sheet t limit g (nodeOf x) (frameOf x)
-        ≡ steps limit
+    application-steps : (limit : ℕ) → limit ≤ 65535 → (g : Printer) → Alike 62 w (g .memory) → limit < g .cursor .at + suc rank
+        → Reaches w limit
         (termTokens (app (labelOf t (nodeOf x)) (substitutes (substitutes (argumentsAt t (nodeOf x)) environment) (final s)))
-        declarations) g
+        declarations) g (applicationBy (writeTerm rank sheet t acts) sheet t limit g (nodeOf x) (frameOf x))
     unfolding applicationBy termTokens argumentsAt writeName wrote
-    application-steps g a r =
+    application-steps limit low g a r =
         let f = labelOf t (nodeOf x) in
         let name = nameOf declarations f in
-        let e : writeName sheet t limit g f ≡ steps limit (map byte name) g =
+        let h = writeName sheet t limit g f in
+        let e : h ≡ steps limit (map byte name) g =
         name-then sheet t limit g f
         ∙ ap (bytesTo limit g) (sym (name-declared sheet t symbols f (b .named (nodeOf x) (c .there) (c .term) (c .application))))
         ∙ sym (steps-bytes limit name g)
         in
-        let k = steps-grow limit (map byte name) g low in
-        let l : limit < writeName sheet t limit g f .cursor .at + suc rank =
-        subst (λ (p : Printer). limit < p .cursor .at + suc rank) (sym e) (omega arith) in
-        all-steps (childCount t (nodeOf x)) refl (writeName sheet t limit g f) a l
-        ∙ ap (steps limit (argumentTokens (children (childCount t (nodeOf x)) 0) declarations)) e
-        ∙ sym (steps-append limit (map byte name) (argumentTokens (children (childCount t (nodeOf x)) 0) declarations) g)
+        let p = exactly limit (map byte name) g h (subst (All (Right w (s .next) acts)) (sym (none-signs name)) tt) e in
+        reaches-then w limit (map byte name) (argumentTokens (children (childCount t (nodeOf x)) 0) declarations) g h _ low p
+        (all-steps limit low (childCount t (nodeOf x)) refl h a (reaches-rank w limit (map byte name) g h (suc rank) low p r))
 
   -- Within the limit, showing a symbol goes through the token of it.
-  symbol-steps : (g : Printer) (y : Symbol) (v : Ground) → v ≡ leaf y → g .cursor .at ≤ limit
+  symbol-steps : (limit : ℕ) (g : Printer) (y : Symbol) (v : Ground) → v ≡ leaf y → g .cursor .at ≤ limit
       → showSymbol limit g y ≡ steps limit (termTokens v declarations) g
   unfolding termTokens steps step
-  symbol-steps g y v e l = rw (e, le-ltb limit (g .cursor .at) l)
+  symbol-steps limit g y v e l = rw (e, le-ltb limit (g .cursor .at) l)
 
   -- The word looked through.
-  word-steps : (rank : ℕ) → Writes rank → (g : Printer) (a : ℕ) → Word a → Alike 62 w (g .memory) → g .cursor .at ≤ limit
-      → limit < g .cursor .at + suc rank
-      → wordBy (writeTerm rank sheet t acts limit) sheet t limit g (deref acts w a) ≡ steps limit
-      (termTokens (value s (termOf t w a)) declarations) g
+  word-steps : (rank : ℕ) → Writes rank → (limit : ℕ) → limit ≤ 65535 → (g : Printer) (a : ℕ) → Word a → Alike 62 w (g .memory)
+      → g .cursor .at ≤ limit → limit < g .cursor .at + suc rank
+      → Reaches w limit (termTokens (value s (termOf t w a)) declarations) g
+      (wordBy (writeTerm rank sheet t acts) sheet t limit g (deref acts w a))
   unfolding wordBy showSymbol
-  word-steps rank ih g a h k l r = go (found .0 .0)
+  word-steps rank ih limit low g a h k l r = go (found .0 .0)
     where
       found : Word (deref acts w a) × (termOf t w (deref acts w a) ≡ look (s .bindings) (termOf t w a))
       found = sought t nodes (b .table) (b .size) w acts (b .few) s (b .formed) (b .fits) (b .holds) (b .levels) (b .free) (b .words) a h
 
+      ks : List Token
+      ks = termTokens (value s (termOf t w a)) declarations
+
       go : TermWord t w nodes acts (deref acts w a)
-          → wordBy (writeTerm rank sheet t acts limit) sheet t limit g (deref acts w a) ≡ steps limit
-          (termTokens (value s (termOf t w a)) declarations) g
+          → Reaches w limit ks g (wordBy (writeTerm rank sheet t acts) sheet t limit g (deref acts w a))
       go (ofLeaf (variable e)) =
           rw (wordBy, e)
-          (symbol-steps g _ _ (variable-value t nodes (b .table) (b .size) w acts (b .few) s (b .formed) (b .fits) (b .holds) (b .levels)
-          (b .free) (b .words) a h e) l)
+          (exactly limit ks g _ (word-right a h) (symbol-steps limit g _ _ (variable-value t nodes (b .table) (b .size) w acts (b .few) s
+          (b .formed) (b .fits) (b .holds) (b .levels) (b .free) (b .words) a h e) l))
       go (ofLeaf (constant e i)) =
           rw (wordBy, e, e)
-          (symbol-steps g _ _ (constant-value t nodes (b .table) (b .size) w acts (b .few) s (b .formed) (b .fits) (b .holds) (b .levels)
-          (b .free) (b .words) a h e) l)
+          (exactly limit ks g _ (word-right a h) (symbol-steps limit g _ _ (constant-value t nodes (b .table) (b .size) w acts (b .few) s
+          (b .formed) (b .fits) (b .holds) (b .levels) (b .free) (b .words) a h e) l))
       go (ofClosure c) =
           rw (wordBy, c .tag, c .tag)
-          (application-steps rank ih (deref acts w a) c (found .0 .1) g k r
-          ∙ ap (λ (v : Ground). steps limit (termTokens v declarations) g)
+          (subst (λ (v : Ground). Reaches w limit (termTokens v declarations) g
+          (applicationBy (writeTerm rank sheet t acts) sheet t limit g (nodeOf (deref acts w a)) (frameOf (deref acts w a))))
           (sym (closure-value t nodes (b .table) (b .size) w acts (b .few) s (b .formed) (b .fits) (b .holds) (b .levels) (b .free)
-          (b .words) a h c)))
+          (b .words) a h c))
+          (application-steps rank ih (deref acts w a) c (found .0 .1) limit low g k r))
 
   -- The writer of terms.
   pub term-steps : (rank : ℕ) → Writes rank
   unfolding writeTerm
-  term-steps zero g a h k r = sym (steps-over limit (termTokens (value s (termOf t w a)) declarations) g (omega arith))
-  term-steps (suc rank) g a h k r = go (ltb limit (g .cursor .at)) refl (term-steps rank)
+  term-steps zero limit low g a h k r =
+      let ks = termTokens (value s (termOf t w a)) declarations in
+      exactly limit ks g g (word-right a h) (sym (steps-over limit ks g (omega arith)))
+  term-steps (suc rank) limit low g a h k r = go (ltb limit (g .cursor .at)) refl (term-steps rank)
     where
+      ks : List Token
+      ks = termTokens (value s (termOf t w a)) declarations
+
       go : (c : Bool) → ltb limit (g .cursor .at) ≡ c → Writes rank
-          → _≡_ {A = Printer}
-          (elim c [ true ↦ g | false ↦ wordBy (writeTerm rank sheet t acts limit) sheet t limit g (deref acts (g .memory) a) ])
-          (steps limit (termTokens (value s (termOf t w a)) declarations) g)
-      go true e ih = sym (steps-over limit (termTokens (value s (termOf t w a)) declarations) g (ltb-true limit (g .cursor .at) e))
+          → Reaches w limit ks g
+          (elim c as (λ c. Printer) [ true ↦ g | false ↦ wordBy (writeTerm rank sheet t acts) sheet t limit g (deref acts (g .memory) a) ])
+      go true e ih = exactly limit ks g g (word-right a h) (sym (steps-over limit ks g (ltb-true limit (g .cursor .at) e)))
       go false e ih =
-          ap (wordBy (writeTerm rank sheet t acts limit) sheet t limit g) (deref-alike 62 acts w (g .memory) a k)
-          ∙ word-steps rank ih g a h k (ltb-false limit (g .cursor .at) e) r
+          subst (λ (v : ℕ). Reaches w limit ks g (wordBy (writeTerm rank sheet t acts) sheet t limit g v))
+          (sym (deref-alike 62 acts w (g .memory) a k))
+          (word-steps rank ih limit low g a h k (ltb-false limit (g .cursor .at) e) r)

@@ -1,7 +1,8 @@
 -- Document 01: "A term is written as its name and, in round brackets, its arguments parted by commas, a constant as the bare name".
--- The writer of a term calls itself on its arguments; it stops as soon as the position has passed the limit, and at rank 0, which
--- is met only then: before each call of itself it writes a bracket or a comma.
-use Prim.Native.Nat.{ℕ, zero, suc}
+-- The writer of a term calls itself on its arguments, each time with a limit lower by the bracket still to be closed; it stops as
+-- soon as the position has passed the limit, and at rank 0, which is met only then: before each call of itself it writes a bracket
+-- or a comma. Where the arguments do not fit, the closing brackets bring the position past each of the limits above.
+use Prim.Native.Nat.{ℕ, zero, suc, _-_}
 use Prim.Native.Char.{code}
 use mathlib.Core.Bool.{true, false, cond}
 use mathlib.Core.List.{List}
@@ -23,21 +24,25 @@ writeName sheet t limit g f = wrote g (copyBytes (nameLength t f) sheet (nameSta
 unfoldable pub separator : ℕ → ℕ
 separator j = cond (eqb j 0) (code "(") (code ",")
 
--- The arguments from the j-th on, c of them, of node n in frame f, each by `write`; then the closing bracket.
+-- The arguments from the j-th on, c of them, of node n in frame f, each by `write`, with what stands before it.
 unfoldable pub argumentsBy : (Printer → ℕ → Printer) → List ℕ → ℕ → ℕ → ℕ → ℕ → ℕ → Printer → Printer
-argumentsBy write t limit zero n f j g = emitTo limit g (code ")")
+argumentsBy write t limit zero n f j g = g
 argumentsBy write t limit (suc c) n f j g =
     let s = emitTo limit g (separator j) in
     argumentsBy write t limit c n f (suc j) (write s (wordOf t (s .memory) (childOf t n j) f))
 
+-- The arguments, c of them, and the closing bracket, of which the byte is kept free: `write` takes the limit.
+unfoldable pub bracketedBy : (ℕ → Printer → ℕ → Printer) → List ℕ → ℕ → ℕ → ℕ → ℕ → Printer → Printer
+bracketedBy write t limit c n f g = emitTo limit (argumentsBy (write (limit - 1)) t (limit - 1) c n f 0 g) (code ")")
+
 -- An application: its name, then its arguments, if there are any.
-unfoldable pub applicationBy : (Printer → ℕ → Printer) → List ℕ → List ℕ → ℕ → Printer → ℕ → ℕ → Printer
+unfoldable pub applicationBy : (ℕ → Printer → ℕ → Printer) → List ℕ → List ℕ → ℕ → Printer → ℕ → ℕ → Printer
 applicationBy write sheet t limit g n f =
     let s = writeName sheet t limit g (labelOf t n) in
-    elim (eqb (childCount t n) 0) [ true ↦ s | false ↦ argumentsBy write t limit (childCount t n) n f 0 s ]
+    elim (eqb (childCount t n) 0) [ true ↦ s | false ↦ bracketedBy write t limit (childCount t n) n f s ]
 
 -- The word a, looked through.
-unfoldable pub wordBy : (Printer → ℕ → Printer) → List ℕ → List ℕ → ℕ → Printer → ℕ → Printer
+unfoldable pub wordBy : (ℕ → Printer → ℕ → Printer) → List ℕ → List ℕ → ℕ → Printer → ℕ → Printer
 wordBy write sheet t limit g a = elim (eqb (tagOf a) variableTag) [
   | true ↦ writeVariable limit g (nameOf a)
   | false ↦
@@ -55,7 +60,7 @@ writeTerm (suc rank) sheet t turns limit g a =
     elim (ltb limit (g .cursor .at)) [
       | true ↦ g
       | false ↦
-          wordBy (writeTerm rank sheet t turns limit) sheet t limit g (deref turns (g .memory) a)
+          wordBy (writeTerm rank sheet t turns) sheet t limit g (deref turns (g .memory) a)
     ]
 
 -- A rank that suffices.

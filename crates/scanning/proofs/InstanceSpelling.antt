@@ -15,13 +15,14 @@ use Rattle.formulas.specs.Formulas.{variableNames, freeT, freeTs}
 use Rattle.formulas.proofs.Free.{or-left, or-right}
 use Rattle.sequents.specs.Symbols.{Symbol, Ground}
 use Rattle.sequents.specs.Sequents.{Environment}
+use Rattle.sheet_format.specs.Limits.{maxNodes}
 use Rattle.sheet_format.specs.Nodes.{Declaration}
 use Rattle.sheet_format.proofs.Bytes.{name-kinds}
 use Rattle.sheet_format.proofs.Names.{Names}
 use Rattle.sheet_format.proofs.Formed.{Declares, FormedTerm, FormedTerms}
 use Rattle.node_table.specs.Layout.{kindOf, childCount, labelOf, childOf, nameStart, nameLength, variableKind, applicationKind}
 use Rattle.node_table.specs.Decoding.{childrenBy, termAt, argumentsAt, declarationAt, declarationsFrom}
-use Rattle.node_table.specs.WellMade.{IsTerm}
+use Rattle.node_table.specs.WellMade.{IsTerm, Arguments}
 use Rattle.node_table.proofs.Decoding.{Nodes, term-variable, term-application}
 use Rattle.answer_texts.specs.Spelling.{nameOf, spellTerm, spellArguments, spellMore}
 use Rattle.answer_texts.specs.Spelled.{hasArity, WritableTerm, WritableTerms}
@@ -30,7 +31,8 @@ use Rattle.scanning.specs.declared.Reach.{Reach}
 use Rattle.scanning.specs.declared.Reach.the-variants.{To, Differs}
 use Rattle.scanning.specs.Scanning.{nameSize}
 use Rattle.scanning.specs.Frames.{slotStart, slotEnd}
-use Rattle.scanning.specs.Instances.{matchRange, matchName, matchSlot, matchMore, matchArguments, matchApplication, matchInstance}
+use Rattle.scanning.specs.Instances.{matchRange, matchName, matchSlot, argumentCount, argumentOf, matchMore, matchArguments}
+use Rattle.scanning.specs.Instances.{matchApplication, matchInstance}
 use Rattle.scanning.proofs.Positions.{byte-is, byte-none, drop-next, drop-past}
 use Rattle.scanning.proofs.Ranges.{begins, begins-rest, Solid, range-begins}
 use Rattle.scanning.proofs.Names.{size-length, name-solid}
@@ -238,6 +240,16 @@ free-child t m (suc c) j k v l u f = go (eqb j k) refl (λ d. free-child t m c (
     go true e ih = or-left a r (subst (λ (n : ℕ). freeT (termAt t (childOf t m n)) v ≡ true) (sym (eqb-true j k e)) f)
     go false e ih = let d = eqb-false j k e in or-right a r (ih (omega arith))
 
+-- The remainders of a node's arguments do nothing.
+pub argument-count : (t : List ℕ) (m : ℕ) → Arguments t m → argumentCount t m ≡ childCount t m
+unfolding argumentCount
+argument-count t m h = let k = h .few in omega arith
+
+argument-of : (t : List ℕ) (m nodes j : ℕ) → Arguments t m → m < nodes → nodes ≤ maxNodes → j < childCount t m
+    → argumentOf t m j ≡ childOf t m j
+unfolding argumentOf
+argument-of t m nodes j h l few k = omega (arith, h .terms j k .0)
+
 -- The spelling of terms, the first after the byte c, and the closing bracket.
 unfoldable afterMark : ℕ → Terms Symbol → List Declaration → List ℕ
 afterMark c nil ds = 41 ∷ []
@@ -258,7 +270,7 @@ onward-same F G h Differs = refl
 module _ (t : List ℕ) (ds : List Declaration) (x : List ℕ) (e : Environment Symbol) (m : ℕ) (r : ℕ → ℕ → Reach) where
   -- Child k is gone along with by r.
   abbrev Goes : ℕ → Type 0
-  Goes k = (i : ℕ) → r (childOf t m k) i ≡ reach (spellTerm (substitute (termAt t (childOf t m k)) e) ds) x i
+  Goes k = (i : ℕ) → r (argumentOf t m k) i ≡ reach (spellTerm (substitute (termAt t (childOf t m k)) e) ds) x i
 
   -- Matching children after the byte k reaches the end of their spelling.
   match-more : (c j k i : ℕ) → 0 < k → ((n : ℕ) → j ≤ n → n < j + c → Goes n)
@@ -280,10 +292,10 @@ module _ (t : List ℕ) (ds : List Declaration) (x : List ℕ) (e : Environment 
       ∙ reach-byte k (a ++ spellMore us ds) x i z
 
   -- Matching all children, in brackets, reaches the end of their spelling.
-  match-arguments : (i : ℕ) → ((n : ℕ) → n < childCount t m → Goes n)
+  match-arguments : (i : ℕ) → argumentCount t m ≡ childCount t m → ((n : ℕ) → n < childCount t m → Goes n)
       → matchArguments r t m x i ≡ reach (spellArguments (substitutes (argumentsAt t m) e) ds) x i
   unfolding matchArguments argumentsAt spellArguments substitutes childrenBy afterMark
-  match-arguments i h = go (childCount t m) refl
+  match-arguments i few h = rw few (go (childCount t m) refl)
     where
       go : (c : ℕ) → childCount t m ≡ c
           → cond (eqb c 0) (To i) (matchMore r c t m 0 x 40 i) ≡ reach (spellArguments (substitutes (childrenBy (termAt t) t m c 0) e) ds)
@@ -294,7 +306,7 @@ module _ (t : List ℕ) (ds : List Declaration) (x : List ℕ) (e : Environment 
 -- instances
 
 module _ (b t : List ℕ) (symbols : ℕ) (names : Names (declarationsFrom b t symbols 0)) (x : List ℕ) (nodes : ℕ) (table : Nodes t nodes)
-    (w : List ℕ) (g : ℕ) (e : Environment Symbol) where
+    (few : nodes ≤ maxNodes) (w : List ℕ) (g : ℕ) (e : Environment Symbol) where
   -- `Instance f m` says that the instance of node m stands where its spelling does.
   abbrev Instance : ℕ → ℕ → Type 0
   Instance f m =
@@ -323,12 +335,12 @@ module _ (b t : List ℕ) (symbols : ℕ) (names : Names (declarationsFrom b t s
       rw (matchInstance, z) (ap (λ (o : Reach). elim o as (λ z. Reach) [ To j ↦ matchArguments r t m x j | Differs ↦ Differs ])
       (match-name b t symbols names x (labelOf t m) (count (argumentsAt t m)) i (p .0))
       ∙ onward-same (matchArguments r t m x) (reach (spellArguments (substitutes (argumentsAt t m) e) ds′) x)
-      (λ j. match-arguments t ds′ x e m r j (λ n k. let q = a .terms n k in
-      ih (childOf t m n) (omega (arith, q .0)) (omega (arith, q .0)) (q .1)
+      (λ j. match-arguments t ds′ x e m r j (argument-count t m a) (λ n k o. let q = a .terms n k in
+      ap (λ (y : ℕ). r y o) (argument-of t m nodes n a u few k) ∙ ih (childOf t m n) (omega (arith, q .0)) (omega (arith, q .0)) (q .1)
       (formed-child t ds′ m (childCount t m) 0 n (p .1) (omega arith) (omega arith))
       (frame-fewer ds′ x w g e (freeT (termAt t m)) (freeT (termAt t (childOf t m n)))
       (λ v f. subst (λ (y : Term ℕ). freeT y v ≡ true) (sym tree) (free-child t m (childCount t m) 0 n v (omega arith) (omega arith) f))
-      frame)))
+      frame) o))
       (reach (nameOf ds′ (labelOf t m)) x i)
       ∙ reach-append (nameOf ds′ (labelOf t m)) (spellArguments (substitutes (argumentsAt t m) e) ds′) x i
       ∙ ap (λ (y : Term ℕ). reach (spellTerm (substitute y e) ds′) x i) (sym tree))

@@ -1,13 +1,13 @@
 -- Comparing instances by classes of elements is comparing the instances: the classes hold elements that mean the same term.
-use Prim.Native.Nat.{ℕ, zero, suc, _+_, _<_, _≤_}
+use Prim.Native.Nat.{ℕ, zero, suc, _+_, _*_, _/_, _%_, _<_, _≤_}
 use native.Mathlib.Omega.{arith}
 use native.Mathlib.Numerals.{add-one}
 use mathlib.Core.Path.{_≡_, refl, sym, ap, ap₂, _∙_, subst}
 use mathlib.Core.Bool.{Bool, true, false, _&&_, cond}
 use mathlib.Core.List.{List}
-use lib.Dec.{eqb}
-use lib.ListN.{length, set}
-use borrow.Author.Tests.{eqb-true, ne-eqb}
+use lib.Dec.{eqb, ltb}
+use lib.ListN.{set}
+use borrow.Author.Tests.{eqb-true, ne-eqb, ltb-true, lt-ltb, le-ltb}
 use Rattle.terms.specs.Terms.{Term, app, Terms, substitute, substitutes}
 use Rattle.formulas.specs.Formulas.{freeT, freeTs}
 use Rattle.sequents.specs.Symbols.{Symbol, Ground}
@@ -23,11 +23,12 @@ use Rattle.node_table.proofs.Decoding.{Nodes, term-application}
 use Rattle.text_judging.specs.Judging.{sameTerm, sameTerms}
 use Rattle.text_judging.proofs.Infer.{sameTerm-refl}
 use Rattle.scanning.specs.Classes.{isNameElement, elementSide, elementNode, elementChild, sideFrame, nodeElement, rootOf, separate}
-use Rattle.scanning.specs.Instances.{Compared, compared, joined, sameName, joinName, sameChildren, sameNodes, sameRoots, sameElements}
-use Rattle.scanning.specs.Instances.{sameAtoms}
-use Rattle.scanning.proofs.InstanceSpelling.{Frame, frame-fewer, formed-child, free-child}
+use Rattle.scanning.specs.Instances.{argumentCount, Compared, compared, joined, sameName, joinName, sameChildren, sameNodes}
+use Rattle.scanning.specs.Instances.{sameRoots, sameElements, sameAtoms}
+use Rattle.scanning.proofs.InstanceSpelling.{Frame, frame-fewer, formed-child, free-child, argument-count}
 use Rattle.scanning.proofs.Depth.{depth, child-depth}
-use Rattle.scanning.proofs.Nodes.{sameTerm-swap, TermIn, child-in, instance-depth}
+use Rattle.scanning.proofs.Counting.{countBelow, count-most, count-strictly}
+use Rattle.scanning.proofs.Nodes.{sameTerm-swap, TermIn, child-in}
 use Rattle.scanning.proofs.Classes.{Forest, forest-set, root-of, separate-forest, separate-root}
 use Rattle.scanning.proofs.Elements.{environmentOn, Means, means-once, Alike, alike, element-means, same-name, side-low, node-number}
 
@@ -89,9 +90,49 @@ module _ (b t : List ℕ) (symbols : ℕ) (names : Names (declarationsFrom b t s
         go true q = rw (sym (h .answer) ∙ q) (k (h .classes))
         go false q = rw (sym (h .answer) ∙ q) (record { classes = h .classes; answer = q })
 
-    -- The comparison r is right for terms nested less deep than n.
+    -- How deep the instance of node l / 2 on side l % 2 is nested.
+    abbrev depthAt : ℕ → ℕ
+    depthAt l = depth (substitute (termAt t (l / 2)) (E (l % 2)))
+
+    -- How many of the 2,048 applications have instances that are nested less deep than n.
+    abbrev shallower : ℕ → ℕ
+    shallower n = countBelow (λ l. ltb (depthAt l) n) 2048
+
+    -- How deep comparisons are nested at most that begin with a term nested n deep: one for each application that is nested no deeper,
+    -- since the terms grow smaller, and one for a name.
+    abbrev comparisons : ℕ → ℕ
+    comparisons n = suc (shallower (suc n))
+
+    -- They are at most so many.
+    comparisons-most : (n m : ℕ) → 2049 ≤ m → comparisons n ≤ m
+    comparisons-most n m k = let h = count-most (λ l. ltb (depthAt l) (suc n)) 2048 in omega arith
+
+    -- More applications are nested at most m deep than less deep than n, if n is at most m and an application is nested m deep.
+    shallower-strictly : (l n m : ℕ) → l < 2048 → depthAt l ≡ m → n ≤ m → shallower n < shallower (suc m)
+    shallower-strictly l n m h e k =
+        count-strictly (λ i. ltb (depthAt i) n) (λ i. ltb (depthAt i) (suc m))
+        (λ i p. let q = ltb-true (depthAt i) n p in lt-ltb (depthAt i) (suc m) (omega arith)) 2048 l h
+        (le-ltb (depthAt l) n (omega arith)) (lt-ltb (depthAt l) (suc m) (omega arith))
+
+    -- The two parts of a number that is made of a node and a side.
+    made-of : (a b : ℕ) → b < 2 → ((2 * a + b) / 2 ≡ a) × ((2 * a + b) % 2 ≡ b)
+    made-of a b h = (omega arith, omega arith)
+
+    -- Going down from an application leaves room for one comparison less.
+    comparisons-below : (i n : ℕ) (u v : Ground) → isNameElement i ≡ false → M i u → depth v < depth u → comparisons (depth u) ≤ suc n
+        → comparisons (depth v) ≤ n
+    unfolding elementNode
+    comparisons-below i n u v p h k l =
+        let q = made-of (elementNode i) (elementSide i) (side-low i) in
+        let o : 2 * elementNode i + elementSide i < 2048 = (let a = side-low i in omega arith) in
+        let e : depthAt (2 * elementNode i + elementSide i) ≡ depth u = rw (q .0, q .1) (ap depth (sym (h .instance p))) in
+        let s = shallower-strictly (2 * elementNode i + elementSide i) (suc (depth v)) (depth u) o e (omega arith) in
+        omega arith
+
+    -- The comparison r is right where comparisons are nested at most n deep.
     abbrev Right : (List ℕ → ℕ → ℕ → Compared) → ℕ → Type 0
-    Right r n = (c : List ℕ) (i j : ℕ) (u v : Ground) → M i u → M j v → depth u < n → Classes c → Compares (r c i j) (sameTerm u v)
+    Right r n =
+        (c : List ℕ) (i j : ℕ) (u v : Ground) → M i u → M j v → comparisons (depth u) ≤ n → Classes c → Compares (r c i j) (sameTerm u v)
 
     -- applications
 
@@ -133,7 +174,7 @@ module _ (b t : List ℕ) (symbols : ℕ) (names : Names (declarationsFrom b t s
       -- Comparing children compares their instances.
       compares-children : (o l : ℕ) (c : List ℕ) → ((a : ℕ) → l ≤ a → a < l + o → M (elementChild t i a) (first a))
           → ((a : ℕ) → l ≤ a → a < l + o → M (elementChild t j a) (second a))
-          → ((a : ℕ) → l ≤ a → a < l + o → depth (first a) < n) → Classes c
+          → ((a : ℕ) → l ≤ a → a < l + o → comparisons (depth (first a)) ≤ n) → Classes c
           → Compares (sameChildren r o t i j l c)
           (sameTerms (substitutes (childrenBy (termAt t) t one o l) (E (elementSide i)))
           (substitutes (childrenBy (termAt t) t two o l) (E (elementSide j))))
@@ -153,18 +194,19 @@ module _ (b t : List ℕ) (symbols : ℕ) (names : Names (declarationsFrom b t s
       -- Comparing all children of two nodes with one symbol compares the instances of the arguments.
       compares-arguments : (c : List ℕ) → Arguments t one → Arguments t two → labelOf t one ≡ labelOf t two
           → ((a : ℕ) → a < childCount t one → M (elementChild t i a) (first a))
-          → ((a : ℕ) → a < childCount t two → M (elementChild t j a) (second a)) → ((a : ℕ) → a < childCount t one → depth (first a) < n)
-          → Classes c
-          → Compares (sameChildren r (childCount t one) t i j 0 c)
+          → ((a : ℕ) → a < childCount t two → M (elementChild t j a) (second a))
+          → ((a : ℕ) → a < childCount t one → comparisons (depth (first a)) ≤ n) → Classes c
+          → Compares (sameChildren r (argumentCount t one) t i j 0 c)
           (sameTerms (substitutes (argumentsAt t one) (E (elementSide i))) (substitutes (argumentsAt t two) (E (elementSide j))))
       unfolding argumentsAt
       compares-arguments c y z q u v s h =
           let l : childCount t two ≡ childCount t one = z .many ∙ ap (arityOf t) (sym q) ∙ sym (y .many) in
-          rw l (compares-children (childCount t one) 0 c (λ a p o. u a (omega arith)) (λ a p o. v a (omega arith))
+          rw (argument-count t one y, l) (compares-children (childCount t one) 0 c (λ a p o. u a (omega arith)) (λ a p o. v a (omega arith))
           (λ a p o. s a (omega arith)) h)
 
       -- Two applications.
-      compares-nodes : (c : List ℕ) (u v : Ground) → isNameElement i ≡ false → isNameElement j ≡ false → M i u → M j v → depth u < suc n → Classes c
+      compares-nodes : (c : List ℕ) (u v : Ground) → isNameElement i ≡ false → isNameElement j ≡ false → M i u → M j v
+          → comparisons (depth u) ≤ suc n → Classes c
           → Compares (sameNodes r t i j c) (sameTerm u v)
       unfolding sameNodes depth sameTerm argumentsAt
       compares-nodes c u v p q hi hj l h =
@@ -189,12 +231,12 @@ module _ (b t : List ℕ) (symbols : ℕ) (names : Names (declarationsFrom b t s
               → Compares (sameNodes r t i j c) (eqb (labelOf t one) (labelOf t two) && sameTerms Us Vs)
           go true o =
               rw o
-              (compares-joined (sameChildren r (childCount t one) t i j 0 c) (sameTerms Us Vs) i j
+              (compares-joined (sameChildren r (argumentCount t one) t i j 0 c) (sameTerms Us Vs) i j
               (compares-arguments c (table .term one (hi .node p .below) (hi .node p .is) .application (hi .applied p))
               (table .term two (hj .node q .below) (hj .node q .is) .application (hj .applied q))
               (eqb-true (labelOf t one) (labelOf t two) o) (child-means i u p hi) (child-means j v q hj)
               (λ a y. let s = child-depth t one (E (elementSide i)) (childCount t one) 0 a (omega arith) (omega arith) in let z =
-              ap depth eu in omega arith) h)
+              ap depth eu in comparisons-below i n u (first a) p hi (omega arith) l) h)
               (λ z. together (rw o z)))
           go false o = rw o (record { classes = h; answer = refl })
 
@@ -202,7 +244,7 @@ module _ (b t : List ℕ) (symbols : ℕ) (names : Names (declarationsFrom b t s
 
     -- Two representatives.
     compares-roots : (r : List ℕ → ℕ → ℕ → Compared) (n : ℕ) → Right r n → (c : List ℕ) (i j : ℕ) (u v : Ground) → M i u → M j v
-        → depth u < suc n → Classes c
+        → comparisons (depth u) ≤ suc n → Classes c
         → Compares (sameRoots r b t x w f g i j c) (sameTerm u v)
     unfolding sameRoots joinName
     compares-roots r n right c i j u v hi hj l h = go (eqb i j) refl (isNameElement i) refl (isNameElement j) refl
@@ -290,32 +332,20 @@ module _ (b t : List ℕ) (symbols : ℕ) (names : Names (declarationsFrom b t s
         element-means b t symbols names x nodes table few w f g e d (elementSide i) (childOf t (elementNode i) a) (side-low i)
         (atom-child (elementNode i) (sideFrame f g (elementSide i)) (D (elementSide i)) h a l)
 
-    -- The children of an atom are not nested too deep.
-    atom-depth : (i : ℕ) → AtomOn i → (a : ℕ) → a < childCount t (elementNode i)
-        → depth (substitute (termAt t (childOf t (elementNode i) a)) (D (elementSide i))) < 1023 + length x
-    atom-depth i h a l =
-        let m = childOf t (elementNode i) a in
-        let p = h .arguments .terms a l in
-        let q = h .below in
-        let r = instance-depth b t symbols names x nodes table few w (suc m) m (sideFrame f g (elementSide i)) (D (elementSide i))
-        (omega arith)
-        (atom-child (elementNode i) (sideFrame f g (elementSide i)) (D (elementSide i)) h a l) in
-        omega (arith, p .0)
-
     -- Comparing the elements of two atoms, if they differ, compares the atoms.
-    atoms-apart : (i j : ℕ) → (i ≡ j → ⊥) → isNameElement i ≡ false → isNameElement j ≡ false → AtomOn i → AtomOn j
-        → sameElements (suc (1023 + length x)) b t x w f g separate i j .same ≡ same (elementNode i) (elementNode j) (D (elementSide i))
+    atoms-apart : (n : ℕ) → 2049 ≤ n → (i j : ℕ) → (i ≡ j → ⊥) → isNameElement i ≡ false → isNameElement j ≡ false → AtomOn i → AtomOn j
+        → sameElements (suc n) b t x w f g separate i j .same ≡ same (elementNode i) (elementNode j) (D (elementSide i))
         (D (elementSide j))
     unfolding sameElements sameRoots sameNodes
-    atoms-apart i j z p q h k =
+    atoms-apart n high i j z p q h k =
         rw (sameElements, separate-root i, separate-root j, ne-eqb i j z, p, q)
         (go (eqb (labelOf t (elementNode i)) (labelOf t (elementNode j))) refl)
       where
         r : List ℕ → ℕ → ℕ → Compared
-        r = sameElements (1023 + length x) b t x w f g
+        r = sameElements n b t x w f g
 
         o : Compared
-        o = sameChildren r (childCount t (elementNode i)) t i j 0 separate
+        o = sameChildren r (argumentCount t (elementNode i)) t i j 0 separate
 
         go : (y : Bool) → eqb (labelOf t (elementNode i)) (labelOf t (elementNode j)) ≡ y
             → cond y (joined o i j) (compared separate false) .same
@@ -323,9 +353,9 @@ module _ (b t : List ℕ) (symbols : ℕ) (names : Names (declarationsFrom b t s
             (substitutes (argumentsAt t (elementNode j)) (D (elementSide j))))
         go true l =
             joined-same o i j
-            ∙ compares-arguments f g e d r (1023 + length x) (compares-elements f g e d (1023 + length x)) i j separate (h .arguments)
+            ∙ compares-arguments f g e d r n (compares-elements f g e d n) i j separate (h .arguments)
             (k .arguments)
-            (eqb-true (labelOf t (elementNode i)) (labelOf t (elementNode j)) l) (atom-means i h) (atom-means j k) (atom-depth i h)
+            (eqb-true (labelOf t (elementNode i)) (labelOf t (elementNode j)) l) (atom-means i h) (atom-means j k) (λ a o. comparisons-most f g e d _ n high)
             (separate-forest (λ a c. Alike b t symbols names x nodes table few w f g e d a c) (alike-self f g e d)
             (alike-then f g e d)) .answer
         go false l = refl
@@ -340,9 +370,7 @@ module _ (b t : List ℕ) (symbols : ℕ) (names : Names (declarationsFrom b t s
       let z = i .below in
       let p = node-number k 0 (omega arith) (omega arith) in
       let q = node-number m 1 (omega arith) (omega arith) in
-      let n : 1024 + length x ≡ suc (1023 + length x) = omega arith in
       let apart : nodeElement 0 k ≡ nodeElement 1 m → ⊥ = λ o. let r = sym (p .side) ∙ ap elementSide o ∙ q .side in omega arith in
-      ap (λ (o : ℕ). sameElements o b t x w f g separate (nodeElement 0 k) (nodeElement 1 m) .same) n
-      ∙ atoms-apart f g e d (nodeElement 0 k) (nodeElement 1 m) apart (p .kind) (q .kind) (rw (p .node, p .side) h)
+      atoms-apart f g e d 2049 (omega arith) (nodeElement 0 k) (nodeElement 1 m) apart (p .kind) (q .kind) (rw (p .node, p .side) h)
       (rw (q .node, q .side) i)
       ∙ rw (p .node, p .side, q .node, q .side) refl

@@ -6,6 +6,7 @@ pub mod Scanning
 pub mod TermsInText
 pub mod InstanceSpelling
 pub mod Depth
+pub mod Counting
 pub mod Nodes
 pub mod Classes
 pub mod Elements

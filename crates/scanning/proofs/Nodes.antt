@@ -33,7 +33,6 @@ use Rattle.scanning.specs.Instances.{endsAt, isInstance}
 use Rattle.scanning.proofs.Ranges.{begins, begins-rest, rest-begins}
 use Rattle.scanning.proofs.TermsInText.{both-ways, same-spelled, SpelledAt}
 use Rattle.scanning.proofs.InstanceSpelling.{reach, Frame, frame-fewer, instance-writable, formed-child, free-child, match-instance}
-use Rattle.scanning.proofs.Depth.{depth, spelled-at-depth, children-depth}
 
 -- a term of the text and an instance
 
@@ -91,7 +90,7 @@ module _ (b t : List ℕ) (symbols : ℕ) (names : Names (declarationsFrom b t s
       → isInstance b t x w s j g m ≡ sameTerm u (substitute (termAt t m) e)
   unfolding isInstance
   is-instance s j u m g e p h =
-      ap (λ (o : Reach). endsAt o j) (match-instance b t symbols names x nodes table w g e 1024 m (let q = h .below in omega arith)
+      ap (λ (o : Reach). endsAt o j) (match-instance b t symbols names x nodes table few w g e 1024 m (let q = h .below in omega arith)
       (h .below) (h .is) (h .formed) (h .frame) s)
       ∙ ends-same ds x s j u (spellTerm (substitute (termAt t m) e) ds) p
       ∙ same-spelled u (substitute (termAt t m) e) ds names (p .writable) (term-writable m g e h)
@@ -126,28 +125,3 @@ module _ (b t : List ℕ) (symbols : ℕ) (names : Names (declarationsFrom b t s
             (λ v f. subst (λ (y : Term ℕ). freeT y v ≡ true) (sym tree)
             (free-child t m (childCount t m) 0 n v (omega arith) (omega arith) f)) (h .frame);
       }
-
-  -- An instance is nested less deep than the text is long and the node's number is high.
-  pub instance-depth : (n m g : ℕ) (e : Environment Symbol) → m < n → TermIn m g e → depth (substitute (termAt t m) e) ≤ m + length x
-  unfolding depth substitute argumentsAt
-  instance-depth zero m g e l h = absurd (omega arith)
-  instance-depth (suc n) m g e l h = go (eqb (kindOf t m) variableKind) refl (λ k u i. instance-depth n k g e u i)
-    where
-      go : (z : Bool) → eqb (kindOf t m) variableKind ≡ z
-          → ((k : ℕ) → k < n → TermIn k g e → depth (substitute (termAt t k) e) ≤ k + length x)
-          → depth (substitute (termAt t m) e) ≤ m + length x
-      go true q ih =
-          let s = slot-of m g e h (eqb-true (kindOf t m) 0 q) in
-          let a = spelled-at-depth ds x _ _ (e (labelOf t m)) (s .0) in
-          let b = ap depth (s .1) in
-          omega arith
-      go false q ih =
-          let a = eqb-false (kindOf t m) 0 q in
-          let y = table .term m (h .below) (h .is) in
-          let z : kindOf t m ≡ applicationKind = omega (arith, y .kind) in
-          let b = ap (λ (p : Term ℕ). depth (substitute p e)) (term-application t nodes table m (h .below) (h .is) z) in
-          let c = children-depth t m e (m + length x) (childCount t m) 0 (λ j u v.
-          let r = y .application z .terms j (omega arith) in
-          let i = ih (childOf t m j) (omega (arith, r .0)) (child-in m g e h z j (omega arith)) in
-          omega (arith, r .0)) in
-          omega arith

@@ -1,7 +1,7 @@
 -- Comparing instances of sheet terms without unfolding them: a node of the table with a frame, whose names are positions in the text. Terms
 -- found to be the same are put into one class, so the work grows with the nodes of two atoms and with the texts of their names, however
 -- often these stand in the atoms.
-use Prim.Native.Nat.{ℕ, zero, suc, _+_, _-_}
+use Prim.Native.Nat.{ℕ, zero, suc, _+_, _-_, _%_}
 use Prim.Native.Char.{code}
 use mathlib.Core.Bool.{Bool, true, false, cond}
 use mathlib.Core.List.{List}
@@ -35,16 +35,27 @@ matchName b t k x i = matchRange (nameSize b t k) b (nameStart t k) x i
 unfoldable pub matchSlot : List ℕ → List ℕ → ℕ → ℕ → ℕ → Reach
 matchSlot x w g v i = matchRange (slotEnd w g v - slotStart w g v) x (slotStart w g v) x i
 
+-- Above every number of children.
+abbrev pub childLimit : ℕ
+childLimit = 8
+
+-- How many children node m has, and the j-th of them. The remainders do nothing where the node is one of the table.
+unfoldable pub argumentCount : List ℕ → ℕ → ℕ
+argumentCount t m = childCount t m % childLimit
+
+unfoldable pub argumentOf : List ℕ → ℕ → ℕ → ℕ
+argumentOf t m j = childOf t m j % maxNodes
+
 -- So do n children of node m from the j-th on, the first after the byte c, each other one after a comma, and the closing bracket.
 unfoldable pub matchMore : (ℕ → ℕ → Reach) → ℕ → List ℕ → ℕ → ℕ → List ℕ → ℕ → ℕ → Reach
 matchMore r zero t m j x c i = cond (eqb (getD x i 0) (code ")")) (To (i + 1)) Differs
 matchMore r (suc n) t m j x c i =
-    cond (eqb (getD x i 0) c) (elim (r (childOf t m j) (i + 1)) [ To e ↦ matchMore r n t m (j + 1) x (code ",") e | Differs ↦ Differs ])
+    cond (eqb (getD x i 0) c) (elim (r (argumentOf t m j) (i + 1)) [ To e ↦ matchMore r n t m (j + 1) x (code ",") e | Differs ↦ Differs ])
     Differs
 
 -- All children of node m stand at position i, in brackets if there are any.
 unfoldable pub matchArguments : (ℕ → ℕ → Reach) → List ℕ → ℕ → List ℕ → ℕ → Reach
-matchArguments r t m x i = cond (eqb (childCount t m) 0) (To i) (matchMore r (childCount t m) t m 0 x (code "(") i)
+matchArguments r t m x i = cond (eqb (argumentCount t m) 0) (To i) (matchMore r (argumentCount t m) t m 0 x (code "(") i)
 
 -- The symbol of node m stands at position i, and after it the node's children.
 unfoldable pub matchApplication : (ℕ → ℕ → Reach) → List ℕ → List ℕ → ℕ → List ℕ → ℕ → Reach
@@ -111,7 +122,7 @@ sameChildren r (suc n) t i j k c =
 unfoldable pub sameNodes : (List ℕ → ℕ → ℕ → Compared) → List ℕ → ℕ → ℕ → List ℕ → Compared
 sameNodes r t i j c =
     cond (eqb (labelOf t (elementNode i)) (labelOf t (elementNode j)))
-    (joined (sameChildren r (childCount t (elementNode i)) t i j 0 c) i j) (compared c false)
+    (joined (sameChildren r (argumentCount t (elementNode i)) t i j 0 c) i j) (compared c false)
 
 -- Two representatives. Of an application the children are at hand, so a name joins it.
 unfoldable pub sameRoots : (List ℕ → ℕ → ℕ → Compared) → List ℕ → List ℕ → List ℕ → List ℕ → ℕ → ℕ → ℕ → ℕ → List ℕ → Compared
@@ -119,7 +130,7 @@ sameRoots r b t x w f g i j c =
     cond (eqb i j) (compared c true)
     (cond (isNameElement i) (joinName b t x w f g c i j) (cond (isNameElement j) (joinName b t x w f g c j i) (sameNodes r t i j c)))
 
--- Two elements, whose terms are nested less deep than the first argument says.
+-- Two elements. Comparisons are nested less deep than the first argument says.
 unfoldable pub sameElements : ℕ → List ℕ → List ℕ → List ℕ → List ℕ → ℕ → ℕ → List ℕ → ℕ → ℕ → Compared
 sameElements zero b t x w f g c i j = compared c false
 sameElements (suc n) b t x w f g c i j =
@@ -127,7 +138,11 @@ sameElements (suc n) b t x w f g c i j =
     let q = rootOf (p .classes) j in
     sameRoots (sameElements n b t x w f g) b t x w f g (p .root) (q .root) (q .classes)
 
--- The atoms at the nodes k and m, in the frames f and g, are the same. A term of the sheet is nested less deep than its node's number,
--- a term of the text less deep than the text is long.
+-- How deep comparisons of elements are nested at most. Between the atoms and the last of them are comparisons of applications, whose
+-- terms grow smaller from one to the next, so none of the 2,048 applications is met twice.
+abbrev pub comparisonDepth : ℕ
+comparisonDepth = 2050
+
+-- The atoms at the nodes k and m, in the frames f and g, are the same.
 unfoldable pub sameAtoms : List ℕ → List ℕ → List ℕ → List ℕ → ℕ → ℕ → ℕ → ℕ → Bool
-sameAtoms b t x w f g k m = sameElements (maxNodes + length x) b t x w f g separate (nodeElement 0 k) (nodeElement 1 m) .same
+sameAtoms b t x w f g k m = sameElements comparisonDepth b t x w f g separate (nodeElement 0 k) (nodeElement 1 m) .same

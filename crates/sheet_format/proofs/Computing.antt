@@ -8,8 +8,8 @@ use Rattle.sheet_format.specs.Bytes.{ascii, extendLine, linesOf, extendF
 use Rattle.sheet_format.specs.Bytes.{atMost, number, digits, decimal, nameBytes, isName, sameBytes}
 use Rattle.sheet_format.specs.SheetLines.{consNumber, numbers, declared, declaration, noNumber, oneNumber, twoNumbers, withVariable}
 use Rattle.sheet_format.specs.SheetLines.{application, lineOf, ofFields, parseLine}
-use Rattle.sheet_format.specs.Nodes.{neither, memberCount, consTerm, termNodes, sized, termNode, applied, applyNode, goals2}
-use Rattle.sheet_format.specs.Nodes.{bothClauses, supposed, ruled, with1, with2, consNode, nodesAt, withSymbol, nodeOf, isSome}
+use Rattle.sheet_format.specs.Nodes.{neither, memberCount, termNodes, sized, termNode, applied, applyNode, map2}
+use Rattle.sheet_format.specs.Nodes.{bothClauses, ruled, nodesAt, nodeOf, isSome}
 use Rattle.sheet_format.specs.Nodes.{isSomething}
 use Rattle.sheet_format.specs.Sheets.{Read, isDeclared, takeDeclaration, addNode, takeNode, anyFree, addClause, clauseAt, takeClause}
 use Rattle.sheet_format.specs.Sheets.{lastGoal, goalAt, takeLine, atEnd, afterGoal, readFrom, readSheet}
@@ -17,9 +17,9 @@ use Rattle.sheet_format.specs.Sheets.{lastGoal, goalAt, takeLine, atEnd,
 unfoldable pub computeSheet : List ℕ → Read
 unfolding ascii extendLine linesOf extendField fields isDigit isLetter isNameByte digitsFrom atMost number nameBytes isName sameBytes
     consNumber numbers
-    declared declaration noNumber oneNumber twoNumbers withVariable application lineOf ofFields parseLine neither memberCount consTerm
+    declared declaration noNumber oneNumber twoNumbers withVariable application lineOf ofFields parseLine neither memberCount map2
     termNodes sized
-    termNode applied applyNode goals2 bothClauses supposed ruled with1 with2 consNode nodesAt withSymbol nodeOf isSome isSomething
+    termNode applied applyNode bothClauses ruled nodesAt nodeOf isSome isSomething
     isDeclared
     takeDeclaration addNode takeNode anyFree addClause clauseAt takeClause lastGoal goalAt takeLine atEnd afterGoal readFrom readSheet
     size freeT freeG freeC

@@ -3,18 +3,18 @@ use Prim.Native.Nat.{ℕ, suc, _+_}
 use mathlib.Core.Path.{_≡_, refl, sym, ap, subst}
 use mathlib.Core.Bool.{Bool, true, false, cond}
 use mathlib.Core.List.{List, [], _∷_, _++_}
-use mathlib.Core.Option.{Option, none, some}
+use mathlib.Core.Option.{Option, none, some, Option·map}
 use lib.Dec.{eqb, leb}
 use lib.ListN.{length, getElem?}
 use borrow.Author.Tests.{eqb-true}
 use Rattle.terms.specs.Lists.{All}
-use Rattle.terms.specs.Terms.{Term, app, Terms, size, count}
+use Rattle.terms.specs.Terms.{Term, app, Terms, size, count, cons}
 use Rattle.formulas.specs.Formulas.{Goal, atom, truth, and, or, implies, exists, forall, Clause, both, each}
 use Rattle.sheet_format.specs.Limits.{maxTermSize, maxMembers}
 use Rattle.sheet_format.specs.SheetLines.{NodeLine, variableLine, applyLine, trueLine, andLine, orLine, impliesLine, someLine}
 use Rattle.sheet_format.specs.SheetLines.{everyLine}
-use Rattle.sheet_format.specs.Nodes.{Declaration, Node, neither, memberCount, consTerm, termNodes, sized, termNode, applied, applyNode}
-use Rattle.sheet_format.specs.Nodes.{goals2, bothClauses, supposed, ruled, with1, with2, consNode, nodesAt, withSymbol, nodeOf}
+use Rattle.sheet_format.specs.Nodes.{Declaration, Node, neither, memberCount, termNodes, sized, termNode, applied, applyNode, map2}
+use Rattle.sheet_format.specs.Nodes.{bothClauses, ruled, nodesAt, nodeOf}
 use Rattle.sheet_format.proofs.Options.{OnSome, cond-some, map-some, some-weaken}
 use Rattle.sheet_format.proofs.Indexing.{at-some}
 use Rattle.sheet_format.proofs.SheetLines.{FormedNodeLine}
@@ -49,8 +49,8 @@ FormedList ds n ts = (count ts ≡ n) × FormedTerms ts ds
 -- One more well-formed term makes a well-formed list one term longer.
 consTerm-some : (ds : List Declaration) (n : ℕ) (o : Option (Term ℕ)) (p : Option (Terms ℕ)) → OnSome (λ t. FormedTerm t ds) o
     → OnSome (FormedList ds n) p
-    → OnSome (FormedList ds (suc n)) (consTerm o p)
-unfolding consTerm count FormedTerm
+    → OnSome (FormedList ds (suc n)) (map2 cons o p)
+unfolding map2 count FormedTerm
 consTerm-some ds n none p h k = tt
 consTerm-some ds n (some t) none h k = tt
 consTerm-some ds n (some t) (some ts) h k = (ap suc (k .0), (h, k .1))
@@ -92,8 +92,8 @@ applyNode-formed ds d f ns h k = go (eqb (length ns) (d .arity)) refl
 
 -- One more well-formed node keeps a list of nodes well-formed.
 consNode-some : (ds : List Declaration) (o : Option Node) (p : Option (List Node)) → OnSome (FormedNode ds) o
-    → OnSome (All (FormedNode ds)) p → OnSome (All (FormedNode ds)) (consNode o p)
-unfolding consNode
+    → OnSome (All (FormedNode ds)) p → OnSome (All (FormedNode ds)) (map2 _∷_ o p)
+unfolding map2
 consNode-some ds none p h k = tt
 consNode-some ds (some n) none h k = tt
 consNode-some ds (some n) (some ns) h k = (h, k)
@@ -109,8 +109,8 @@ nodesAt-some ds nodes (i ∷ is) h =
 -- A declared symbol and well-formed nodes that are there make a well-formed node.
 withSymbol-some : (ds : List Declaration) (f : ℕ) (o : Option Declaration) (p : Option (List Node)) → getElem? ds f ≡ o
     → OnSome (All (FormedNode ds)) p
-    → OnSome (FormedNode ds) (withSymbol f o p)
-unfolding withSymbol
+    → OnSome (FormedNode ds) (map2 (λ d. applyNode d f) o p)
+unfolding map2
 withSymbol-some ds f none p e h = tt
 withSymbol-some ds f (some d) none e h = tt
 withSymbol-some ds f (some d) (some ns) e h = applyNode-formed ds d f ns e h
@@ -120,8 +120,8 @@ withSymbol-some ds f (some d) (some ns) e h = applyNode-formed ds d f ns e h
 -- A goal made of two well-formed goals is well-formed.
 goals2-some : (ds : List Declaration) (f : Goal → Goal → Goal)
     → ((a b : Goal) → FormedGoal a ds → FormedGoal b ds → FormedGoal (f a b) ds) → (o p : Option Goal)
-    → OnSome (λ g. FormedGoal g ds) o → OnSome (λ g. FormedGoal g ds) p → OnSome (λ g. FormedGoal g ds) (goals2 f o p)
-unfolding goals2
+    → OnSome (λ g. FormedGoal g ds) o → OnSome (λ g. FormedGoal g ds) p → OnSome (λ g. FormedGoal g ds) (map2 f o p)
+unfolding map2
 goals2-some ds f k none p h l = tt
 goals2-some ds f k (some a) none h l = tt
 goals2-some ds f k (some a) (some b) h l = k a b h l
@@ -138,8 +138,8 @@ bothClauses-some ds (some c) (some d) h k =
 -- A goal in which a well-formed clause implies a well-formed goal is well-formed.
 supposed-some : (ds : List Declaration) (o : Option Clause) (p : Option Goal) → OnSome (λ c. FormedClause c ds) o
     → OnSome (λ g. FormedGoal g ds) p
-    → OnSome (λ g. FormedGoal g ds) (supposed o p)
-unfolding supposed FormedGoal
+    → OnSome (λ g. FormedGoal g ds) (map2 implies o p)
+unfolding map2 FormedGoal
 supposed-some ds none p h k = tt
 supposed-some ds (some c) none h k = tt
 supposed-some ds (some c) (some g) h k = (h, k)
@@ -161,16 +161,15 @@ ruled-some ds (some g) (some (forall v a)) h k = tt
 -- A node made from one well-formed node is well-formed.
 with1-some : (ds : List Declaration) (f : Node → Node) → ((a : Node) → FormedNode ds a → FormedNode ds (f a)) → (o : Option Node)
     → OnSome (FormedNode ds) o
-    → OnSome (FormedNode ds) (with1 f o)
-unfolding with1
+    → OnSome (FormedNode ds) (Option·map f o)
 with1-some ds f k none h = tt
 with1-some ds f k (some a) h = k a h
 
 -- A node made from two well-formed nodes is well-formed.
 with2-some : (ds : List Declaration) (f : Node → Node → Node) → ((a b : Node) → FormedNode ds a → FormedNode ds b → FormedNode ds (f a b))
     → (o p : Option Node)
-    → OnSome (FormedNode ds) o → OnSome (FormedNode ds) p → OnSome (FormedNode ds) (with2 f o p)
-unfolding with2
+    → OnSome (FormedNode ds) o → OnSome (FormedNode ds) p → OnSome (FormedNode ds) (map2 f o p)
+unfolding map2
 with2-some ds f k none p h l = tt
 with2-some ds f k (some a) none h l = tt
 with2-some ds f k (some a) (some b) h l = k a b h l

@@ -34,15 +34,16 @@ memberCount (rule g p ts) = 1
 memberCount (both a b) = memberCount a + memberCount b
 memberCount (each v c) = memberCount c
 
--- The nodes as terms.
-unfoldable pub consTerm : Option (Term ℕ) → Option (Terms ℕ) → Option (Terms ℕ)
-consTerm none ts = none
-consTerm (some t) none = none
-consTerm (some t) (some ts) = some (cons t ts)
+-- Both values by a function, where there are both.
+unfoldable pub map2 : {A B C : Type 0} → (A → B → C) → Option A → Option B → Option C
+map2 f none b = none
+map2 f (some a) none = none
+map2 f (some a) (some b) = some (f a b)
 
+-- The nodes as terms.
 unfoldable pub termNodes : List Node → Option (Terms ℕ)
 termNodes [] = some nil
-termNodes (n ∷ ns) = consTerm (n .term) (termNodes ns)
+termNodes (n ∷ ns) = map2 cons (n .term) (termNodes ns)
 
 -- "at most 1,024 variables and symbols, counted as often as they stand"
 unfoldable pub sized : Term ℕ → Option (Term ℕ)
@@ -62,22 +63,11 @@ applied false p (some ts) = record { term = none; goal = some (atom p ts); claus
 unfoldable pub applyNode : Declaration → ℕ → List Node → Node
 applyNode d f ns = cond (eqb (length ns) (d .arity)) (applied (d .function) f (termNodes ns)) neither
 
--- Both goals; both clauses, "with at most 64 members in all"
-unfoldable pub goals2 : (Goal → Goal → Goal) → Option Goal → Option Goal → Option Goal
-goals2 f none h = none
-goals2 f (some g) none = none
-goals2 f (some g) (some h) = some (f g h)
-
+-- Both clauses, "with at most 64 members in all"
 unfoldable pub bothClauses : Option Clause → Option Clause → Option Clause
 bothClauses none d = none
 bothClauses (some c) none = none
 bothClauses (some c) (some d) = cond (leb (memberCount c + memberCount d) maxMembers) (some (both c d)) none
-
--- "> from a clause to a goal"
-unfoldable pub supposed : Option Clause → Option Goal → Option Goal
-supposed none g = none
-supposed (some c) none = none
-supposed (some c) (some g) = some (implies c g)
 
 -- "> from a goal to an atom"
 unfoldable pub ruled : Option Goal → Option Goal → Option Clause
@@ -91,46 +81,28 @@ ruled (some g) (some (implies c a)) = none
 ruled (some g) (some (exists v a)) = none
 ruled (some g) (some (forall v a)) = none
 
--- The node that a line makes; none where it "names a symbol or node not yet there".
-unfoldable pub with1 : (Node → Node) → Option Node → Option Node
-with1 f none = none
-with1 f (some a) = some (f a)
-
-unfoldable pub with2 : (Node → Node → Node) → Option Node → Option Node → Option Node
-with2 f none b = none
-with2 f (some a) none = none
-with2 f (some a) (some b) = some (f a b)
-
-unfoldable pub consNode : Option Node → Option (List Node) → Option (List Node)
-consNode none ns = none
-consNode (some n) none = none
-consNode (some n) (some ns) = some (n ∷ ns)
-
+-- The nodes of these numbers.
 unfoldable pub nodesAt : List Node → List ℕ → Option (List Node)
 nodesAt nodes [] = some []
-nodesAt nodes (i ∷ is) = consNode (getElem? nodes i) (nodesAt nodes is)
+nodesAt nodes (i ∷ is) = map2 _∷_ (getElem? nodes i) (nodesAt nodes is)
 
-unfoldable pub withSymbol : ℕ → Option Declaration → Option (List Node) → Option Node
-withSymbol f none ns = none
-withSymbol f (some d) none = none
-withSymbol f (some d) (some ns) = some (applyNode d f ns)
-
+-- The node that a line makes; none where it "names a symbol or node not yet there". "> from a clause to a goal" is a goal.
 unfoldable pub nodeOf : List Declaration → List Node → NodeLine → Option Node
 nodeOf symbols nodes (variableLine v) = some (termNode (some (leaf v)))
-nodeOf symbols nodes (applyLine f ns) = withSymbol f (getElem? symbols f) (nodesAt nodes ns)
+nodeOf symbols nodes (applyLine f ns) = map2 (λ d. applyNode d f) (getElem? symbols f) (nodesAt nodes ns)
 nodeOf symbols nodes trueLine = some (record { term = none; goal = some truth; clause = none })
 nodeOf symbols nodes (andLine n m) =
-    with2 (λ a b. record { term = none; goal = goals2 and (a .goal) (b .goal); clause = bothClauses (a .clause) (b .clause) })
+    map2 (λ a b. record { term = none; goal = map2 and (a .goal) (b .goal); clause = bothClauses (a .clause) (b .clause) })
     (getElem? nodes n) (getElem? nodes m)
 nodeOf symbols nodes (orLine n m) =
-    with2 (λ a b. record { term = none; goal = goals2 or (a .goal) (b .goal); clause = none }) (getElem? nodes n) (getElem? nodes m)
+    map2 (λ a b. record { term = none; goal = map2 or (a .goal) (b .goal); clause = none }) (getElem? nodes n) (getElem? nodes m)
 nodeOf symbols nodes (impliesLine n m) =
-    with2 (λ a b. record { term = none; goal = supposed (a .clause) (b .goal); clause = ruled (a .goal) (b .goal) }) (getElem? nodes n)
+    map2 (λ a b. record { term = none; goal = map2 implies (a .clause) (b .goal); clause = ruled (a .goal) (b .goal) }) (getElem? nodes n)
     (getElem? nodes m)
 nodeOf symbols nodes (someLine v n) =
-    with1 (λ a. record { term = none; goal = Option·map (exists v) (a .goal); clause = none }) (getElem? nodes n)
+    Option·map (λ a. record { term = none; goal = Option·map (exists v) (a .goal); clause = none }) (getElem? nodes n)
 nodeOf symbols nodes (everyLine v n) =
-    with1 (λ a. record { term = none; goal = Option·map (forall v) (a .goal); clause = Option·map (each v) (a .clause) }) (getElem? nodes n)
+    Option·map (λ a. record { term = none; goal = Option·map (forall v) (a .goal); clause = Option·map (each v) (a .clause) }) (getElem? nodes n)
 
 -- "A node is neither term, goal nor clause"
 unfoldable pub isSome : {A : Type 0} → Option A → Bool

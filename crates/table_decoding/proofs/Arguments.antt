@@ -12,7 +12,7 @@ use borrow.Author.Tests.{ltb-true, ltb-false, eqb-true, eqb-false, le-leb, lt-le
 use Rattle.terms.specs.Lists.{All}
 use Rattle.terms.specs.Terms.{Term, Terms, nil, cons, size, sizes}
 use Rattle.formulas.specs.Formulas.{freeT, freeTs}
-use Rattle.sheet_format.specs.Nodes.{Node, consTerm, termNodes, consNode, nodesAt}
+use Rattle.sheet_format.specs.Nodes.{Node, termNodes, nodesAt, map2}
 use Rattle.node_table.specs.Layout.{childOf, maskOf, bitOf, sizeOf}
 use Rattle.node_table.specs.Decoding.{childrenBy, termAt}
 use Rattle.node_table.specs.WellMade.{IsTerm}
@@ -91,34 +91,34 @@ module _ (bytes t : List ℕ) (k : Counts) (st : Decodes bytes t k) where
   node-missing a h = missing-at a h
 
   pub nodes-read : (l : List ℕ) → nodesAt (tableOf bytes t k .nodes) l ≡ cond (allThere (k .nodes) l) (some (map (nodeRead t) l)) none
-  unfolding nodesAt allThere consNode
+  unfolding nodesAt allThere map2
   nodes-read [] = refl
   nodes-read (a ∷ l) = go (ltb a (k .nodes)) refl (nodes-read l)
     where
-      join : (b : Bool) → consNode (some (nodeRead t a)) (cond b (some (map (nodeRead t) l)) none) ≡ cond b
+      join : (b : Bool) → map2 _∷_ (some (nodeRead t a)) (cond b (some (map (nodeRead t) l)) none) ≡ cond b
           (some (nodeRead t a ∷ map (nodeRead t) l)) none
       join true = refl
       join false = refl
 
       go : (b : Bool) → ltb a (k .nodes) ≡ b
           → nodesAt (tableOf bytes t k .nodes) l ≡ cond (allThere (k .nodes) l) (some (map (nodeRead t) l)) none
-          → consNode (getElem? (tableOf bytes t k .nodes) a) (nodesAt (tableOf bytes t k .nodes) l) ≡ cond
+          → map2 _∷_ (getElem? (tableOf bytes t k .nodes) a) (nodesAt (tableOf bytes t k .nodes) l) ≡ cond
           (cond b (allThere (k .nodes) l) false) (some (nodeRead t a ∷ map (nodeRead t) l)) none
       go true e ih = rw (node-there a (ltb-true a (k .nodes) e), ih) (join (allThere (k .nodes) l))
       go false e ih = rw (node-missing a (ltb-false a (k .nodes) e))
 
   pub terms-read : (l : List ℕ) → termNodes (map (nodeRead t) l) ≡ cond (allTerms t l) (some (termsBy (termAt t) l)) none
-  unfolding termNodes allTerms termsBy nodeRead consTerm
+  unfolding termNodes allTerms termsBy nodeRead map2
   terms-read [] = refl
   terms-read (a ∷ l) = go (eqb (sizeOf t a) 0) refl (terms-read l)
     where
-      join : (b : Bool) → consTerm (some (termAt t a)) (cond b (some (termsBy (termAt t) l)) none) ≡ cond b
+      join : (b : Bool) → map2 cons (some (termAt t a)) (cond b (some (termsBy (termAt t) l)) none) ≡ cond b
           (some (cons (termAt t a) (termsBy (termAt t) l))) none
       join true = refl
       join false = refl
 
       go : (b : Bool) → eqb (sizeOf t a) 0 ≡ b → termNodes (map (nodeRead t) l) ≡ cond (allTerms t l) (some (termsBy (termAt t) l)) none
-          → consTerm (cond (leb 1 (sizeOf t a)) (some (termAt t a)) none) (termNodes (map (nodeRead t) l))
+          → map2 cons (cond (leb 1 (sizeOf t a)) (some (termAt t a)) none) (termNodes (map (nodeRead t) l))
           ≡ cond (cond b false (allTerms t l)) (some (cons (termAt t a) (termsBy (termAt t) l))) none
       go true e ih = let z = eqb-true (sizeOf t a) 0 e in rw (lt-leb 1 (sizeOf t a) (omega arith))
       go false e ih = let z = eqb-false (sizeOf t a) 0 e in rw (le-leb 1 (sizeOf t a) (omega arith), ih) (join (allTerms t l))

@@ -8,7 +8,7 @@ use lib.Dec.{leb, eqb}
 use borrow.Author.Tests.{eqb-true, eqb-false, le-leb, lt-leb, leb-true}
 use Rattle.terms.specs.Terms.{Terms}
 use Rattle.formulas.specs.Formulas.{Goal, atom, implies, Clause, rule, both}
-use Rattle.sheet_format.specs.Nodes.{memberCount, goals2, bothClauses, supposed, ruled}
+use Rattle.sheet_format.specs.Nodes.{memberCount, bothClauses, ruled, map2}
 use Rattle.table_builder.specs.Nodes.{sumMembers}
 
 -- If the bit made of two is 1, both bits are 1.
@@ -70,24 +70,24 @@ sum-below m n = go (eqb m 0) (eqb n 0) (leb (m + n) 64) refl
 
 -- The goal read from two nodes is the one that `goals2` makes of both.
 pub goals2-read : (f : Goal → Goal → Goal) (x y z : ℕ) (g h w : Goal) → z ≡ cond (eqb x 1) y 0 → (x ≡ 1 → y ≡ 1 → w ≡ f g h)
-    → cond (eqb z 1) (some w) none ≡ goals2 f (cond (eqb x 1) (some g) none) (cond (eqb y 1) (some h) none)
-unfolding goals2
+    → cond (eqb z 1) (some w) none ≡ map2 f (cond (eqb x 1) (some g) none) (cond (eqb y 1) (some h) none)
+unfolding map2
 goals2-read f x y z g h w e k = rw e (go (eqb x 1) refl (eqb y 1) refl)
   where
     go : (a : Bool) → eqb x 1 ≡ a → (b : Bool) → eqb y 1 ≡ b
-        → cond (eqb (cond a y 0) 1) (some w) none ≡ goals2 f (cond a (some g) none) (cond b (some h) none)
+        → cond (eqb (cond a y 0) 1) (some w) none ≡ map2 f (cond a (some g) none) (cond b (some h) none)
     go true p true q = rw q (ap some (k (eqb-true x 1 p) (eqb-true y 1 q)))
     go true p false q = rw q
     go false p b q = refl
 
 -- The goal read from a clause and a goal is the one that `supposed` makes of them.
 pub supposed-read : (m y z : ℕ) (c : Clause) (g w : Goal) → z ≡ cond (eqb m 0) 0 y → (1 ≤ m → y ≡ 1 → w ≡ implies c g)
-    → cond (eqb z 1) (some w) none ≡ supposed (cond (leb 1 m) (some c) none) (cond (eqb y 1) (some g) none)
-unfolding supposed
+    → cond (eqb z 1) (some w) none ≡ map2 implies (cond (leb 1 m) (some c) none) (cond (eqb y 1) (some g) none)
+unfolding map2
 supposed-read m y z c g w e k = rw e (go (eqb m 0) refl (eqb y 1) refl)
   where
     go : (a : Bool) → eqb m 0 ≡ a → (b : Bool) → eqb y 1 ≡ b
-        → cond (eqb (cond a 0 y) 1) (some w) none ≡ supposed (cond (leb 1 m) (some c) none) (cond b (some g) none)
+        → cond (eqb (cond a 0 y) 1) (some w) none ≡ map2 implies (cond (leb 1 m) (some c) none) (cond b (some g) none)
     go true p b q = let d = eqb-true m 0 p in rw (lt-leb 1 m (omega arith))
     go false p true q = let d = eqb-false m 0 p in let l : 1 ≤ m = omega arith in rw (q, le-leb 1 m l) (ap some (k l (eqb-true y 1 q)))
     go false p false q = let d = eqb-false m 0 p in let l : 1 ≤ m = omega arith in rw (q, le-leb 1 m l)

@@ -5,13 +5,13 @@ use native.Mathlib.Omega.{arith}
 use mathlib.Core.Path.{_≡_, refl, ap, _∙_}
 use mathlib.Core.Bool.{Bool, true, false, not, cond}
 use mathlib.Core.List.{List, map}
-use mathlib.Core.Option.{Option, none, some}
+use mathlib.Core.Option.{Option, none, some, Option·map}
 use lib.Dec.{ltb, leb}
 use lib.ListN.{length, take, drop, getElem?}
 use borrow.Author.Tests.{le-ltb, lt-ltb, leb-true, leb-false}
 use Rattle.sheet_format.specs.SheetLines.{NodeLine, variableLine, applyLine, trueLine, andLine, orLine, impliesLine, someLine, everyLine}
 use Rattle.sheet_format.specs.SheetLines.{declareLine, nodeLine, clauseLine, goalLine}
-use Rattle.sheet_format.specs.Nodes.{Declaration, Node, with1, with2, nodesAt, withSymbol, nodeOf}
+use Rattle.sheet_format.specs.Nodes.{Declaration, Node, nodesAt, nodeOf, map2, applyNode}
 use Rattle.sheet_format.specs.Sheets.{Table, stop, takeNode, takeLine}
 use Rattle.sheet_format.specs.Sheets.{Taken as SheetTaken}
 use Rattle.sheet_format.specs.Sheets.{addNode as sheetAddNode}
@@ -67,24 +67,24 @@ module _ (bytes t : List ℕ) (k : Counts) (st : Decodes bytes t k) where
       go false p = let l = leb-false (k .nodes) a p in rw (node-there bytes t k st a l) (h l)
 
   two : (l : NodeLine) (kind a b info : ℕ) (f : Node → Node → Node)
-      → nodeOf (table .symbols) (table .nodes) l ≡ with2 f (getElem? (table .nodes) a) (getElem? (table .nodes) b)
+      → nodeOf (table .symbols) (table .nodes) l ≡ map2 f (getElem? (table .nodes) a) (getElem? (table .nodes) b)
       → (k .nodes < 1024 → a < k .nodes → b < k .nodes
       → Follows bytes t k (addNode t k (nodeRecord (kind + 32) 0 a b 0 0 info))
       (sheetAddNode table (some (f (nodeRead t a) (nodeRead t b)))))
       → Follows bytes t k (addTwo t k kind a b info) (takeNode table l)
-  unfolding addTwo with2 sheetAddNode
+  unfolding addTwo map2 sheetAddNode
   two l kind a b info f e h =
       room l _ (λ p. rw e
-      (there a (λ o. sheetAddNode table (with2 f o (getElem? (table .nodes) b))) _ refl
-      (λ q. there b (λ o. sheetAddNode table (with2 f (some (nodeRead t a)) o)) _ refl (λ r. h p q r))))
+      (there a (λ o. sheetAddNode table (map2 f o (getElem? (table .nodes) b))) _ refl
+      (λ q. there b (λ o. sheetAddNode table (map2 f (some (nodeRead t a)) o)) _ refl (λ r. h p q r))))
 
   one : (l : NodeLine) (kind v a info : ℕ) (f : Node → Node)
-      → nodeOf (table .symbols) (table .nodes) l ≡ with1 f (getElem? (table .nodes) a)
+      → nodeOf (table .symbols) (table .nodes) l ≡ Option·map f (getElem? (table .nodes) a)
       → (k .nodes < 1024 → a < k .nodes
       → Follows bytes t k (addNode t k (nodeRecord (kind + 16) v a 0 0 0 info)) (sheetAddNode table (some (f (nodeRead t a)))))
       → Follows bytes t k (addOne t k kind v a info) (takeNode table l)
-  unfolding addOne with1 sheetAddNode
-  one l kind v a info f e h = room l _ (λ p. rw e (there a (λ o. sheetAddNode table (with1 f o)) _ refl (λ q. h p q)))
+  unfolding addOne sheetAddNode
+  one l kind v a info f e h = room l _ (λ p. rw e (there a (λ o. sheetAddNode table (Option·map f o)) _ refl (λ q. h p q)))
 
   -- nodes
 
@@ -132,14 +132,14 @@ module _ (bytes t : List ℕ) (k : Counts) (st : Decodes bytes t k) where
 
   pub follows-application : (f count a b c d : ℕ) → count ≤ 4
       → Follows bytes t k (insertApplication t k f count a b c d) (takeLine table (some (nodeLine (applyLine f (firstOf count a b c d)))))
-  unfolding insertApplication takeLine nodeOf withSymbol sheetAddNode
+  unfolding insertApplication takeLine nodeOf map2 sheetAddNode
   follows-application f count a b c d few = room (applyLine f (firstOf count a b c d)) _ (λ p. symbol p (leb (k .symbols) f) refl)
     where
       nodes : k .nodes < 1024 → f < k .symbols → (x : Bool) → allThere (k .nodes) (firstOf count a b c d) ≡ x
           → Follows bytes t k
           (cond x (addNode t k (nodeRecord (appliedKind t f + 16 * count) f a b c d (applicationInfo t f (firstOf count a b c d))))
           (made t (Stop 8)))
-          (sheetAddNode table (withSymbol f (some (declarationAt bytes t f))
+          (sheetAddNode table (map2 (λ d. applyNode d f) (some (declarationAt bytes t f))
           (cond x (some (map (nodeRead t) (firstOf count a b c d))) none)))
       nodes p q true e = application-added bytes t k st p f count a b c d q few e
       nodes p q false e = refused 8
@@ -149,7 +149,7 @@ module _ (bytes t : List ℕ) (k : Counts) (st : Decodes bytes t k) where
           (cond x (made t (Stop 8)) (cond (allThere (k .nodes) (firstOf count a b c d))
           (addNode t k (nodeRecord (appliedKind t f + 16 * count) f a b c d (applicationInfo t f (firstOf count a b c d))))
           (made t (Stop 8))))
-          (sheetAddNode table (withSymbol f (getElem? (table .symbols) f) (nodesAt (table .nodes) (firstOf count a b c d))))
+          (sheetAddNode table (map2 (λ d. applyNode d f) (getElem? (table .symbols) f) (nodesAt (table .nodes) (firstOf count a b c d))))
       symbol p true e = rw (symbol-missing f (leb-true (k .symbols) f e)) (refused 8)
       symbol p false e =
           let q = leb-false (k .symbols) f e in

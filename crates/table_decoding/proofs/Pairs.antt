@@ -10,7 +10,7 @@ use lib.ListN.{length, length-append}
 use borrow.Author.Tests.{eqb-true}
 use Rattle.formulas.specs.Formulas.{Goal, atom, and, or, implies, Clause, rule, both, freeTs, freeG, freeC}
 use Rattle.formulas.specs.Members.{members}
-use Rattle.sheet_format.specs.Nodes.{goals2, bothClauses, supposed, ruled}
+use Rattle.sheet_format.specs.Nodes.{bothClauses, ruled, map2}
 use Rattle.sheet_format.specs.Sheets.{addNode as sheetAddNode}
 use Rattle.node_table.specs.Layout.{kindOf, labelOf, childOf, maskOf, bitOf, goalBit, membersOf, atomKind}
 use Rattle.node_table.specs.Decoding.{argumentsAt, goalBy, goalAt, clauseBy, clauseAtNode}
@@ -85,7 +85,7 @@ module _ (bytes t : List ℕ) (k : Counts) (st : Decodes bytes t k) (h : k .node
   and-read : nodeRead andTable n
       ≡ record {
         term = none;
-        goal = goals2 and (nodeRead t a .goal) (nodeRead t b .goal);
+        goal = map2 and (nodeRead t a .goal) (nodeRead t b .goal);
         clause = bothClauses (nodeRead t a .clause) (nodeRead t b .clause);
       }
   unfolding nodeRead bothGoals
@@ -148,7 +148,7 @@ module _ (bytes t : List ℕ) (k : Counts) (st : Decodes bytes t k) (h : k .node
   pub and-added : Follows bytes t k (addNode t k andRecord) (sheetAddNode (tableOf bytes t k) (some
       (record {
         term = none;
-        goal = goals2 and (nodeRead t a .goal) (nodeRead t b .goal);
+        goal = map2 and (nodeRead t a .goal) (nodeRead t b .goal);
         clause = bothClauses (nodeRead t a .clause) (nodeRead t b .clause);
       })))
   and-added = added bytes t k st h andRecord _ and-read and-new
@@ -174,7 +174,7 @@ module _ (bytes t : List ℕ) (k : Counts) (st : Decodes bytes t k) (h : k .node
       ∙ ap₂ or (ap (goalBy n orTable) (or-is .first) ∙ goal-under bytes t k st h orRecord a la i)
       (ap (goalBy n orTable) (or-is .second) ∙ goal-under bytes t k st h orRecord b lb j)
 
-  or-read : nodeRead orTable n ≡ record { term = none; goal = goals2 or (nodeRead t a .goal) (nodeRead t b .goal); clause = none }
+  or-read : nodeRead orTable n ≡ record { term = none; goal = map2 or (nodeRead t a .goal) (nodeRead t b .goal); clause = none }
   unfolding nodeRead bothGoals
   or-read =
       node-agree _ _ _ _ _ _ (rw (or-is .size))
@@ -202,7 +202,7 @@ module _ (bytes t : List ℕ) (k : Counts) (st : Decodes bytes t k) (h : k .node
       }
 
   pub or-added : Follows bytes t k (addNode t k orRecord) (sheetAddNode (tableOf bytes t k) (some
-      (record { term = none; goal = goals2 or (nodeRead t a .goal) (nodeRead t b .goal); clause = none })))
+      (record { term = none; goal = map2 or (nodeRead t a .goal) (nodeRead t b .goal); clause = none })))
   or-added = added bytes t k st h orRecord _ or-read or-new
 
   -- >
@@ -272,7 +272,7 @@ module _ (bytes t : List ℕ) (k : Counts) (st : Decodes bytes t k) (h : k .node
   implies-read : nodeRead impliesTable n
       ≡ record {
         term = none;
-        goal = supposed (nodeRead t a .clause) (nodeRead t b .goal);
+        goal = map2 implies (nodeRead t a .clause) (nodeRead t b .goal);
         clause = ruled (nodeRead t a .goal) (nodeRead t b .goal);
       }
   unfolding nodeRead supposedGoal ruledMembers bothGoals
@@ -351,7 +351,7 @@ module _ (bytes t : List ℕ) (k : Counts) (st : Decodes bytes t k) (h : k .node
   pub implies-added : Follows bytes t k (addNode t k impliesRecord) (sheetAddNode (tableOf bytes t k) (some
       (record {
         term = none;
-        goal = supposed (nodeRead t a .clause) (nodeRead t b .goal);
+        goal = map2 implies (nodeRead t a .clause) (nodeRead t b .goal);
         clause = ruled (nodeRead t a .goal) (nodeRead t b .goal);
       })))
   implies-added = added bytes t k st h impliesRecord _ implies-read implies-new

@@ -9,7 +9,8 @@ use Rattle.node_table.specs.Layout.{childCount, labelOf, childOf}
 use Rattle.machine.specs.Words.{increment, tagOf, nameOf, nodeOf, frameOf, wordOf, deref}
 use Rattle.printing.specs.declared.Cursor.{Cursor}
 use Rattle.printing.specs.Numbering.{Printer, printer, writeVariable, writeConstant}
-use Rattle.printing.specs.WriteTerms.{emitTo, writeName, separator, argumentsBy, applicationBy, wordBy, writeTerm, termTo}
+use Rattle.printing.specs.WriteTerms.{emitTo, writeName, separator, argumentsBy, bracketedBy, applicationBy, wordBy, writeTerm}
+use Rattle.printing.specs.WriteTerms.{termTo}
 
 -- The arguments.
 module _ (write : Printer → ℕ → Printer) (t : List ℕ) (limit c n f j : ℕ) where
@@ -18,7 +19,7 @@ module _ (write : Printer → ℕ → Printer) (t : List ℕ) (limit c n f j : �
       let e : c - 0 ≡ c = omega arith in
       rw e
 
-  pub arguments-end : (g : Printer) → c ≤ j → argumentsBy write t limit (c - j) n f j g ≡ emitTo limit g 41
+  pub arguments-end : (g : Printer) → c ≤ j → argumentsBy write t limit (c - j) n f j g ≡ g
   unfolding argumentsBy
   arguments-end g h =
       let e : c - j ≡ 0 = omega arith in
@@ -46,7 +47,7 @@ module _ (sheet t : List ℕ) (turns limit : ℕ) (w out : List ℕ) (p : Cursor
   term-past (suc rank) n h = simp (writeTerm, lt-ltb _ _ h)
 
   term-word : (rank : ℕ) → (rank ≡ 0 → ⊥) → p .at ≤ limit
-      → writeTerm rank sheet t turns limit (printer w out p) a ≡ wordBy (writeTerm (rank - 1) sheet t turns limit) sheet t limit
+      → writeTerm rank sheet t turns limit (printer w out p) a ≡ wordBy (writeTerm (rank - 1) sheet t turns) sheet t limit
       (printer w out p) (deref turns w a)
   unfolding writeTerm
   term-word zero n h = absurd (n refl)
@@ -64,7 +65,7 @@ module _ (sheet t : List ℕ) (turns limit : ℕ) (w out : List ℕ) (p : Cursor
     term-constant x s e₁ e ex es = rw (es, ex, term-word rank r h) (simp (wordBy, ← eb, ← ek, ne-eqb _ _ e₁, eq-eqb _ _ e))
 
     term-application : (n f : ℕ) → (k ≡ 1 → ⊥) → (k ≡ 2 → ⊥) → n ≡ nodeOf b → f ≡ frameOf b
-        → writeTerm rank sheet t turns limit (printer w out p) a ≡ applicationBy (writeTerm (rank - 1) sheet t turns limit) sheet t limit
+        → writeTerm rank sheet t turns limit (printer w out p) a ≡ applicationBy (writeTerm (rank - 1) sheet t turns) sheet t limit
         (printer w out p) n f
     unfolding wordBy
     term-application n f e₁ e₂ en ef = rw (term-word rank r h, en, ef) (simp (wordBy, ← eb, ← ek, ne-eqb _ _ e₁, ne-eqb _ _ e₂))
@@ -78,9 +79,11 @@ module _ (sheet t : List ℕ) (turns limit : ℕ) (w out : List ℕ) (p : Cursor
 
     pub term-applied : (n l c f : ℕ) (s : Printer) → (k ≡ 1 → ⊥) → (k ≡ 2 → ⊥) → n ≡ nodeOf b → l ≡ labelOf t n
         → s ≡ writeName sheet t limit (printer w out p) l → c ≡ childCount t n → (c ≡ 0 → ⊥) → f ≡ frameOf b
-        → writeTerm rank sheet t turns limit (printer w out p) a ≡ argumentsBy (writeTerm (rank - 1) sheet t turns limit) t limit c n f 0 s
-    unfolding applicationBy
-    term-applied n l c f s e₁ e₂ en el es ec e ef = rw (term-application n f e₁ e₂ en ef, es, el) (simp (applicationBy, ← ec, ne-eqb _ _ e))
+        → writeTerm rank sheet t turns limit (printer w out p) a
+        ≡ emitTo limit (argumentsBy (writeTerm (rank - 1) sheet t turns (limit - 1)) t (limit - 1) c n f 0 s) 41
+    unfolding applicationBy bracketedBy
+    term-applied n l c f s e₁ e₂ en el es ec e ef =
+        rw (term-application n f e₁ e₂ en ef, es, el) (simp (applicationBy, bracketedBy, ← ec, ne-eqb _ _ e))
 
   pub term-ranked : (rank : ℕ) (s : Printer) → rank ≡ increment limit → s ≡ writeTerm rank sheet t turns limit (printer w out p) a
       → s ≡ termTo sheet t turns limit (printer w out p) a

@@ -13,7 +13,7 @@ use Rattle.machine.specs.Words.{tagOf, nameOf, nodeOf, frameOf, wordOf, constan
 use Rattle.printing.specs.Output.{writeSymbol}
 use Rattle.printing.specs.Numbering.{withPosition, Printer, wrote, numberVariable, numberConstant, writeVariable, writeConstant}
 use Rattle.printing.specs.Numbering.{constantNumberField}
-use Rattle.printing.specs.WriteTerms.{emitTo, writeName, separator, argumentsBy, applicationBy, wordBy, writeTerm}
+use Rattle.printing.specs.WriteTerms.{emitTo, writeName, separator, argumentsBy, bracketedBy, applicationBy, wordBy, writeTerm}
 use Rattle.printing.proofs.Bytes.{bytes-grow, symbol-bytes}
 use Rattle.printing.proofs.PrinterStates.{emitted, name-then, printer-grow}
 use Rattle.memory.specs.Records.{field}
@@ -68,34 +68,46 @@ module _ (limit : ℕ) (small : limit ≤ 65535) where
     arguments-risen : (write : Printer → ℕ → Printer) → ((g : Printer) (a : ℕ) → Risen g (write g a)) → (c n f j : ℕ) (g : Printer)
         → Risen g (argumentsBy write t limit c n f j g)
     unfolding argumentsBy
-    arguments-risen write h zero n f j g = emit-risen g (code ")")
+    arguments-risen write h zero n f j g = risen-same g
     arguments-risen write h (suc c) n f j g =
         let s = emitTo limit g (separator j) in
         let x = wordOf t (s .memory) (childOf t n j) f in
         risen-trans g s _ (emit-risen g (separator j))
         (risen-trans s (write s x) _ (h s x) (arguments-risen write h c n f (suc j) (write s x)))
 
-    application-risen : (write : Printer → ℕ → Printer) → ((g : Printer) (a : ℕ) → Risen g (write g a)) → (g : Printer) (n f : ℕ)
-        → Risen g (applicationBy write sheet t limit g n f)
-    unfolding applicationBy
-    application-risen write h g n f =
-        let s = writeName sheet t limit g (labelOf t n) in
-        risen-either g s _ (eqb (childCount t n) 0) (name-risen sheet t g (labelOf t n))
-        (risen-trans g s _ (name-risen sheet t g (labelOf t n)) (arguments-risen write h (childCount t n) n f 0 s))
+-- A writer at any limit.
+abbrev Rising : (ℕ → Printer → ℕ → Printer) → Type 0
+Rising write = (limit : ℕ) → limit ≤ 65535 → (g : Printer) (a : ℕ) → Risen g (write limit g a)
 
-    word-risen : (write : Printer → ℕ → Printer) → ((g : Printer) (a : ℕ) → Risen g (write g a)) → (g : Printer) (a : ℕ)
-        → Risen g (wordBy write sheet t limit g a)
-    unfolding wordBy
-    word-risen write h g a =
-        risen-either g _ _ (eqb (tagOf a) variableTag) (variable-risen g (nameOf a))
-        (risen-either g _ _ (eqb (tagOf a) constantTag) (constant-risen g (nameOf a)) (application-risen write h g (nodeOf a) (frameOf a)))
+module _ (sheet t : List ℕ) (limit : ℕ) (small : limit ≤ 65535) (write : ℕ → Printer → ℕ → Printer) (h : Rising write) where
+  bracketed-risen : (c n f : ℕ) (g : Printer) → Risen g (bracketedBy write t limit c n f g)
+  unfolding bracketedBy
+  bracketed-risen c n f g =
+      let s = argumentsBy (write (limit - 1)) t (limit - 1) c n f 0 g in
+      risen-trans g s _
+      (arguments-risen (limit - 1) (omega arith) sheet t (write (limit - 1)) (h (limit - 1) (omega arith)) c n f 0 g)
+      (emit-risen limit small s (code ")"))
 
-    term-risen : (rank turns : ℕ) (g : Printer) (a : ℕ) → Risen g (writeTerm rank sheet t turns limit g a)
-    unfolding writeTerm
-    term-risen zero turns g a = risen-same g
-    term-risen (suc rank) turns g a =
-        risen-either g g _ (ltb limit (g .cursor .at)) (risen-same g)
-        (word-risen (writeTerm rank sheet t turns limit) (term-risen rank turns) g (deref turns (g .memory) a))
+  application-risen : (g : Printer) (n f : ℕ) → Risen g (applicationBy write sheet t limit g n f)
+  unfolding applicationBy
+  application-risen g n f =
+      let s = writeName sheet t limit g (labelOf t n) in
+      let named = name-risen limit small sheet t g (labelOf t n) in
+      risen-either g s _ (eqb (childCount t n) 0) named (risen-trans g s _ named (bracketed-risen (childCount t n) n f s))
+
+  word-risen : (g : Printer) (a : ℕ) → Risen g (wordBy write sheet t limit g a)
+  unfolding wordBy
+  word-risen g a =
+      risen-either g _ _ (eqb (tagOf a) variableTag) (variable-risen limit small g (nameOf a))
+      (risen-either g _ _ (eqb (tagOf a) constantTag) (constant-risen limit small g (nameOf a))
+      (application-risen g (nodeOf a) (frameOf a)))
+
+term-risen : (rank : ℕ) (sheet t : List ℕ) (turns : ℕ) → Rising (writeTerm rank sheet t turns)
+unfolding writeTerm
+term-risen zero sheet t turns limit small g a = risen-same g
+term-risen (suc rank) sheet t turns limit small g a =
+    risen-either g g _ (ltb limit (g .cursor .at)) (risen-same g)
+    (word-risen sheet t limit small (writeTerm rank sheet t turns) (term-risen rank sheet t turns) g (deref turns (g .memory) a))
 
 -- The same of what the code's calls gave.
 after : (g s u : Printer) → Risen g s → u ≡ s → g .cursor .at ≤ u .cursor .at
@@ -109,4 +121,4 @@ module _ (limit : ℕ) (small : limit ≤ 65535) (g u : Printer) where
   name-after sheet t f e = after g _ u (name-risen limit small sheet t g f) e
 
   pub term-after : (sheet t : List ℕ) (rank turns a : ℕ) → u ≡ writeTerm rank sheet t turns limit g a → g .cursor .at ≤ u .cursor .at
-  term-after sheet t rank turns a e = after g _ u (term-risen limit small sheet t rank turns g a) e
+  term-after sheet t rank turns a e = after g _ u (term-risen rank sheet t turns limit small g a) e

@@ -16,3 +16,7 @@ boundsIn s = record { turns = getD s 3 0; limit = getD s 4 0 }
 -- The five numbers of a cursor and of bounds.
 unfoldable pub stateOf : Cursor → Bounds → List ℕ
 stateOf p k = p .at ∷ p .variables ∷ p .constants ∷ k .turns ∷ k .limit ∷ []
+
+-- Changes the limit.
+abbrev pub withLimit : Bounds → ℕ → Bounds
+withLimit k n = record { turns = k .turns; limit = n }

@@ -11,10 +11,10 @@ use node_table::name_start;
 use printing::Cursor;
 ghost use mathlib.Core.Path.{_≡_};
 ghost use mathlib.Core.List.{List};
-ghost use Prim.Native.Nat.{ℕ};
+ghost use Prim.Native.Nat.{ℕ, _-_};
 ghost use Rattle.printing.specs.Numbering.{printer, writeVariable, writeConstant};
 ghost use Rattle.printing.specs.WriteTerms.{emitTo, writeName, separator};
-ghost use Rattle.term_printer.specs.State.{stateOf, cursorIn, boundsIn};
+ghost use Rattle.term_printer.specs.State.{stateOf, cursorIn, boundsIn, withLimit};
 
 pub fn emit_to(limit: u32, out: &mut [u8], p: Cursor, b: u8) -> Cursor
     ensures { λ q. ⌜ ((m : List ℕ) → printer m (now (out .exit)) q ≡ emitTo limit (printer m (now (out .entry)) p) b) ⌝ }
@@ -75,6 +75,29 @@ fn put_cursor(s: &mut [u32; NUMBERS], p: Cursor)
     let turns = s[TURNS];
     let limit = s[LIMIT];
     *s = [p.at, p.variables, p.constants, turns, limit];
+}
+
+// Changes the limit.
+pub fn put_limit(s: &mut [u32; NUMBERS], limit: u32)
+    ensures { λ _.
+        ⌜ (cursorIn (now (s .exit)) ≡ cursorIn (now (s .entry)))
+        × (boundsIn (now (s .exit)) ≡ withLimit (boundsIn (now (s .entry))) limit) ⌝ }
+{
+    let at = s[AT];
+    let variables = s[VARIABLES];
+    let constants = s[CONSTANTS];
+    let turns = s[TURNS];
+    *s = [at, variables, constants, turns, limit];
+}
+
+// The limit for what stands before one byte more.
+pub fn lower(limit: u32) -> u32
+    ensures { λ r. ⌜ r ≡ limit - 1 ⌝ }
+{
+    if limit == 0 {
+        return 0;
+    }
+    limit - 1
 }
 
 // The functions above, and those of the module symbols that show a symbol, on the cursor in the state.

@@ -12,6 +12,8 @@ use cursor::NUMBERS;
 use cursor::TURNS;
 use cursor::cursor_in;
 use cursor::emit_in;
+use cursor::lower;
+use cursor::put_limit;
 use cursor::separator;
 use cursor::write_constant_in;
 use cursor::write_name_in;
@@ -29,7 +31,7 @@ use node_table::child_count;
 use node_table::label;
 use printing::Cursor;
 ghost use mathlib.Core.Path.{_≡_};
-ghost use Prim.Native.Nat.{_≤_};
+ghost use Prim.Native.Nat.{_-_, _≤_};
 ghost use Rattle.printing.specs.Numbering.{printer};
 ghost use Rattle.printing.specs.WriteTerms.{separator, writeTerm, termTo};
 ghost use Rattle.term_printer.specs.State.{cursorIn, boundsIn};
@@ -41,7 +43,9 @@ pub struct Bounds {
 }
 
 // The term of word a: its name, and its arguments in brackets by calls of itself. It ends since the remaining answer bytes plus the
-// rank fall. The sheet and the table are lent as references to slices: a slice itself is a pair, which each level would copy.
+// rank fall. The limit of the arguments is lower by the bracket that closes them, so that no more brackets are opened than could be
+// closed; the rank, which is one above the limit, tells it again after them. The sheet and the table are lent as references to
+// slices: a slice itself is a pair, which each level would copy.
 pub fn write_term(
     rank: u32,
     sheet: &&[u8],
@@ -51,7 +55,7 @@ pub fn write_term(
     s: &mut [u32; NUMBERS],
     a: u32,
 )
-    requires { ⌜ boundsIn (now s) .limit ≤ 65535 ⌝ }
+    requires { ⌜ (boundsIn (now s) .limit ≤ 65535) × (boundsIn (now s) .limit ≡ rank - 1) ⌝ }
     ensures { λ _.
         ⌜ (printer (now (w .exit)) (now (out .exit)) (cursorIn (now (s .exit))) ≡ writeTerm rank (now (now (sheet .entry)))
         (now (now (t .entry))) (boundsIn (now (s .entry)) .turns) (boundsIn (now (s .entry)) .limit)
@@ -81,13 +85,16 @@ pub fn write_term(
         return;
     }
     let f = frame_of(b);
+    let limit = rank - 1;
+    put_limit(s, lower(limit));
     let mut j: u32 = 0;
     while j < c {
         emit_in(out, s, separator(j));
         let x = word_of(*t, w, child(*t, n, j), f);
-        write_term(rank - 1, sheet, t, w, out, s, x);
+        write_term(limit, sheet, t, w, out, s, x);
         j += 1;
     }
+    put_limit(s, limit);
     emit_in(out, s, b')');
 }
 

@@ -15,7 +15,7 @@ use Rattle.instances.proofs.name_classes.join_name.Reads as join-name-r
 use Rattle.instances.proofs.name_classes.root_of.Reads as root-of-reads
 use Rattle.memory.proofs.put.Reads as put-reads
 use Rattle.memory.proofs.widen.Reads as widen-reads
-use Rattle.node_table.proofs.child_count.Reads as child-count-reads
+use Rattle.instances.proofs.instance_ranges.argument_count.Reads as argument-count-reads
 use Rattle.node_table.proofs.label.Reads as label-reads
 use Rattle.instances.proofs.Laws.{
   rest,
@@ -48,8 +48,8 @@ claims t = (
   join-name-reads.Learnt,
   label-reads.Asked,
   label-reads.Learnt,
-  child-count-reads.Asked,
-  child-count-reads.Learnt,
+  argument-count-reads.Asked,
+  argument-count-reads.Learnt,
   child-of-reads.Asked,
   child-of-reads.Learnt,
   below t,
@@ -125,7 +125,7 @@ returns-5 t c =
     sym (elements-same _ _ _ _ _ _ _ _ _ _ _ _ _ (at-root-of .root-of .ensures) (at-root-of2 .root-of2 .ensures) _
     (at-root-of .before .before .if1 .left) (at-label .before .before .before .if2 .left) (at-label .before .before .if3 .left)
     (at-label .before .if4 .left) _ _ (at-label .label .ensures) (at-loop .before .before .before .label2 .ensures) _
-    (at-loop .before .before .if5 .taken) (at-loop .before .child-count .ensures) ∙ at-loop .loop .inv .2
+    (at-loop .before .before .if5 .taken) (at-loop .before .argument-count .ensures .0) ∙ at-loop .loop .inv .2
     ∙ children-off _ _ _ _ _ _ _ _ _ _ _ h (at-child-of2 .before .child-of .ensures) (at-child-of2 .child-of2 .ensures)
     (c .before .before .before .same-elements .ensures) (c .if6 .left))
 
@@ -140,7 +140,7 @@ returns-6 t c =
     (c .before .before .put .ensures) ∙ sym (elements-same _ _ _ _ _ _ _ _ _ _ _ _ _ (at-root-of .root-of .ensures)
     (at-if2 .before .before .before .root-of2 .ensures) _ (at-root-of .before .before .if1 .left) (at-if2 .if2 .left)
     (at-label2 .before .before .before .if3 .left) (at-label2 .before .before .if4 .left) _ _ (at-label2 .before .label .ensures)
-    (at-label2 .label2 .ensures) _ (at-loop-test .before .before .before .if5 .taken) (at-loop-test .before .before .child-count .ensures)
+    (at-label2 .label2 .ensures) _ (at-loop-test .before .before .before .if5 .taken) (at-loop-test .before .before .argument-count .ensures .0)
     ∙ at-loop-test .before .loop .inv .2)
 
 returns-7 : (t : ℕ) → lts.Need-returns-7 (claims t) (at t) own.Post Inv-loop μ-loop

@@ -10,4 +10,4 @@ pub same-atoms-spec : {M : Type 1} → statement M
 same-atoms-spec =
     tie.close
     (tie.spec (λ c. search needs) (λ c. search needs) (λ c. search needs) (λ c. search needs) (λ c. search needs)
-    (λ c. search needs) (λ c κs. search needs) returns)
+    (λ c κs. search needs) returns)

@@ -11,7 +11,21 @@ use Rattle.term_printer.proofs.Laws.{
   term-past,
   term-variable,
 }
-use Rattle.term_printer.proofs.cursor.States.{arguments-same, emit-same, less, past, small-same, sought, term-same, within}
+use Rattle.term_printer.proofs.cursor.States.{
+  closed,
+  emit-same,
+  kept-at,
+  less,
+  lowered,
+  past,
+  raised,
+  rank-lowered,
+  small-lowered,
+  small-same,
+  sought,
+  term-same,
+  within,
+}
 use Rattle.term_printer.specs.State.{boundsIn, cursorIn}
 use Rattle.printing.specs.Numbering.{printer}
 use Rattle.printing.specs.WriteTerms.{argumentsBy, writeTerm}
@@ -34,6 +48,8 @@ use Rattle.machine_memory.proofs.words.deref.Reads as deref-reads
 use Rattle.term_printer.proofs.cursor.write_constant_in.Reads as write-constant-in-reads
 use Rattle.term_printer.proofs.cursor.emit_in.Reads as emit-in-reads
 use Rattle.term_printer.proofs.cursor.write_name_in.Reads as write-name-in-reads
+use Rattle.term_printer.proofs.cursor.lower.Reads as lower-reads
+use Rattle.term_printer.proofs.cursor.put_limit.Reads as put-limit-reads
 use Rattle.term_printer.proofs.cursor.separator.Reads as separator-reads
 use Rattle.term_printer.proofs.cursor.write_variable_in.Reads as write-variable-in-reads
 use Rattle.node_table.proofs.child.Reads as child-reads
@@ -73,6 +89,10 @@ claims t = (
   child-count-reads.Learnt,
   frame-of-reads.Asked,
   frame-of-reads.Learnt,
+  lower-reads.Asked,
+  lower-reads.Learnt,
+  put-limit-reads.Asked,
+  put-limit-reads.Learnt,
   separator-reads.Asked,
   separator-reads.Learnt,
   emit-in-reads.Asked,
@@ -86,7 +106,7 @@ claims t = (
 )
 
 abbrev Inv-loop : lts.InvT-loop
-Inv-loop rank sheet t w₀ out₀ s₀ a b tag n c f j₀ w out s j =
+Inv-loop rank sheet t w₀ out₀ s₀ a b tag n c f limit j₀ w out s j =
     (length w ≡ length w₀) × (length out ≡ length out₀) × (cursorIn s₀ .at ≤ cursorIn s .at) × (boundsIn s ≡ boundsIn s₀)
     × (argumentsBy (writeTerm (rank - 1) (sheet .now) (t .now) (boundsIn s₀ .turns) (boundsIn s₀ .limit)) (t .now)
     (boundsIn s₀ .limit) c n f 0 (printer w₀ out₀ (cursorIn s₀))
@@ -94,7 +114,7 @@ Inv-loop rank sheet t w₀ out₀ s₀ a b tag n c f j₀ w out s j =
     (c - j) n f j (printer w out (cursorIn s)))
 
 abbrev μ-loop : lts.MeasureT-loop
-μ-loop rank sheet t w₀ out₀ s₀ a b tag n c f j₀ w out s j = c - j
+μ-loop rank sheet t w₀ out₀ s₀ a b tag n c f limit j₀ w out s j = c - j
 
 returns : (t : ℕ) → lts.Need-returns (claims t) (at t) own.Post Inv-loop μ-loop
 returns t c = (term-none _ _ _ _ _ _ _ _ _ (c .if1 .taken), refl)
@@ -145,56 +165,57 @@ returns-5 t c =
 loop-holds : (t : ℕ) → lts.Need-loop-holds (claims t) (at t) own.Post Inv-loop μ-loop
 loop-holds t c = (search needs, search needs, search needs, refl, arguments-first _ _ _ _ _ _ _ _)
 
-sub-write-term : (t : ℕ) → lts.Need-sub-write-term (claims t) (at t) own.Post Inv-loop μ-loop
-sub-write-term t c =
-    let at-point =
-    c .before .before .before .before .before .before .before .before .before .before .before .before .before .before .before .before in
+sub-limit : (t : ℕ) → lts.Need-sub-limit (claims t) (at t) own.Post Inv-loop μ-loop
+sub-limit t c =
+    let at-write-name-in = c .before .before .before .before .before .before in
     let at-if1 =
-    at-point
-    .before .before .before .before .before .before .before .before .before .before .before .before .before .before .before .before
-    .before .before .before .before in
+    at-write-name-in .before .before .before .before .before .before .before .before .before .before .before .before .before .before
+    .before .before .before in
     omega (arith, at-if1 .if1 .left)
 
 write-term-requires : (t : ℕ) → lts.Need-write-term-requires (claims t) (at t) own.Post Inv-loop μ-loop
 write-term-requires t c κs =
-    let at-point = c .before .before .before .before .before .before .before .before .before .before in
-    let at-emit-in = at-point in
+    let at-emit-in = c .before .before .before .before .before .before .before .before .before .before in
     let at-loop = at-emit-in .before .before .before .before .before in
-    let at-write-name-in = at-loop .before .before .before .before .before .before .before in
+    let at-put-limit = at-loop .before in
+    let at-write-name-in = at-put-limit .before .before .before .before .before .before .before .before .before in
     let at-if1 =
     at-write-name-in .before .before .before .before .before .before .before .before .before .before .before .before .before .before
-    .before .before .before in (
-      less _ _ (sym (at-emit-in .emit-in .ensures .1 ∙ at-loop .loop .inv .3 ∙ at-write-name-in .write-name-in .ensures .1)) _ _ _ _
-          (at-if1 .before .before .before .pre .0) (at-if1 .if1 .left)
-          (le-trans (name-after _ (at-if1 .before .before .before .pre .1) _ _ _ _ _
-          (at-write-name-in .write-name-in .ensures .0 (at-if1 .before .before .before .args .w .now)))
-          (le-trans (at-loop .loop .inv .2) (emit-after _ (at-if1 .before .before .before .pre .1) _ _ _
-          (emit-same _ _ (at-loop .loop .inv .3 ∙ at-write-name-in .write-name-in .ensures .1) _ _ _
-          (at-emit-in .emit-in .ensures .0 (at-loop .loop .w)))))),
-      small-same _ _ (sym (at-emit-in .emit-in .ensures .1 ∙ at-loop .loop .inv .3 ∙ at-write-name-in .write-name-in .ensures .1))
-          (at-if1 .before .before .before .pre .1),
+    .before .before .before in
+    let start = at-if1 .before .before .before in
+    let bounds = at-loop .loop .inv .3 ∙ lowered _ _ _ (at-write-name-in .write-name-in .ensures .1) (start .pre .1 .1) _ _
+    (at-put-limit .before .lower .ensures) (at-put-limit .put-limit .ensures .1) in (
+      less _ _ (at-emit-in .emit-in .ensures .1 ∙ bounds) _ _ _ _ (start .pre .0) (at-if1 .if1 .left)
+          (le-trans (kept-at _ _ _ (at-put-limit .put-limit .ensures .0) (name-after _ (start .pre .1 .0) _ _ _ _ _
+          (at-write-name-in .write-name-in .ensures .0 (start .args .w .now))))
+          (le-trans (at-loop .loop .inv .2) (emit-after _ (small-lowered _ _ bounds (start .pre .1 .0)) _ _ _
+          (at-emit-in .emit-in .ensures .0 (at-loop .loop .w))))),
+      (
+        small-lowered _ _ (at-emit-in .emit-in .ensures .1 ∙ bounds) (start .pre .1 .0),
+        rank-lowered _ _ (at-emit-in .emit-in .ensures .1 ∙ bounds) _ (start .pre .1 .1),
+      ),
     )
 
 loop-again : (t : ℕ) → lts.Need-loop-again (claims t) (at t) own.Post Inv-loop μ-loop
 loop-again t c =
-    let at-point = c .before .before .before .before in
-    let at-write-term = at-point in
+    let at-write-term = c .before .before .before .before in
     let at-word-of = at-write-term .before .before .before .before in
     let at-emit-in = at-word-of .before .before .before .before .before .before .before in
     let at-loop-test = at-emit-in .before .before .before .before in
-    let at-write-name-in = at-loop-test .before .before .before .before .before .before .before .before in
+    let at-put-limit = at-loop-test .before .before in
+    let at-write-name-in = at-put-limit .before .before .before .before .before .before .before .before .before in
     let start = at-write-name-in .before .before .before .before .before .before .before .before .before .before .before .before
-    .before .before .before .before .before .before .before .before in (
+    .before .before .before .before .before .before .before .before in
+    let small = small-lowered _ _ (at-loop-test .before .loop .inv .3
+    ∙ lowered _ _ _ (at-write-name-in .write-name-in .ensures .1) (start .pre .1 .1) _ _ (at-put-limit .before .lower .ensures)
+    (at-put-limit .put-limit .ensures .1)) (start .pre .1 .0) in (
       at-write-term .write-term .kept .1 .1 .1 .0 ∙ at-loop-test .before .loop .inv .0,
       at-write-term .write-term .kept .1 .1 .1 .1 .0
           ∙ at-emit-in .emit-in .kept .0 ∙ at-loop-test .before .loop .inv .1,
       le-trans (at-loop-test .before .loop .inv .2)
-          (le-trans (emit-after _ (start .pre .1) _ _ _
-          (emit-same _ _ (at-loop-test .before .loop .inv .3 ∙ at-write-name-in .write-name-in .ensures .1) _ _ _
-          (at-emit-in .emit-in .ensures .0 (at-loop-test .before .loop .w))))
-          (term-after _ (start .pre .1) _ _ _ _ _ _ _
-          (term-same _ _ (at-emit-in .emit-in .ensures .1 ∙ at-loop-test .before .loop .inv .3
-          ∙ at-write-name-in .write-name-in .ensures .1) _ _ _ _ _ _ (at-write-term .write-term .ensures .0)))),
+          (le-trans (emit-after _ small _ _ _ (at-emit-in .emit-in .ensures .0 (at-loop-test .before .loop .w)))
+          (term-after _ (small-same _ _ (sym (at-emit-in .emit-in .ensures .1)) small) _ _ _ _ _ _ _
+          (at-write-term .write-term .ensures .0))),
       at-write-term .write-term .ensures .1 ∙ at-emit-in .emit-in .ensures .1 ∙ at-loop-test .before .loop .inv .3,
       at-loop-test .before .loop .inv .4 ∙ arguments-on _ _ _ _ _ _ _ _ _ _ _ _ _ _ _ _ (at-loop-test .loop-test .taken)
           (at-emit-in .before .separator .ensures)
@@ -205,33 +226,38 @@ loop-again t c =
     )
 
 same-length-7 : (t : ℕ) → lts.Need-same-length-7 (claims t) (at t) own.Post Inv-loop μ-loop
-same-length-7 t c = c .before .before .before .before .before .before .loop .inv .0
+same-length-7 t c = c .before .before .before .before .before .before .before .before .loop .inv .0
 
 same-length-8 : (t : ℕ) → lts.Need-same-length-8 (claims t) (at t) own.Post Inv-loop μ-loop
 same-length-8 t c =
-    let at-point = c .before .before .before .before .before .before in
-    let at-loop = at-point in
-    let at-write-name-in = at-loop .before .before .before .before .before .before .before in
+    let at-loop = c .before .before .before .before .before .before .before .before in
+    let at-write-name-in = at-loop .before .before .before .before .before .before .before .before .before .before in
     c .before .before .emit-in2 .kept .0 ∙ at-loop .loop .inv .1 ∙ at-write-name-in .write-name-in .kept .1 .1 .0
 
 returns-6 : (t : ℕ) → lts.Need-returns-6 (claims t) (at t) own.Post Inv-loop μ-loop
 returns-6 t c =
-    let at-point = c .before .before .before .before .before in
-    let at-loop-test = at-point in
-    let at-child-count = at-loop-test .before .before .before .before in
+    let at-put-limit2 = c .before .before .before .before .before in
+    let at-loop-test = at-put-limit2 .before .before in
+    let at-put-limit = at-loop-test .before .before in
+    let at-frame-of = at-put-limit .before .before .before in
+    let at-child-count = at-frame-of .before .before in
     let at-write-name-in = at-child-count .before .before .before .before in
     let at-node-of = at-write-name-in .before .before .before .before .before .before .before in
     let at-deref = at-node-of .before .before .before .before in
-    let at-if1 = at-deref .before .before .before .before .before .before in (
-      emit-same _ _ (at-loop-test .before .loop .inv .3) _ _ _ (c .before .before .emit-in2 .ensures .0 _)
+    let at-if1 = at-deref .before .before .before .before .before .before in
+    let start = at-if1 .before .before .before in
+    let bounds = lowered _ _ _ (at-write-name-in .write-name-in .ensures .1) (start .pre .1 .1) _ _ (at-put-limit .before .lower .ensures)
+    (at-put-limit .put-limit .ensures .1) in
+    let back = raised _ _ _ _ (start .pre .1 .1) (at-loop-test .before .loop .inv .3 ∙ bounds) (at-put-limit2 .put-limit2 .ensures .1) in (
+      closed _ _ bounds _ _ _ _ _ _ _ _ _ _ _ _ _ _ _ _ _ (at-put-limit .put-limit .ensures .0) (at-loop-test .before .loop .inv .4)
+          (arguments-end _ _ _ _ _ _ _ _ (at-loop-test .loop-test .left)) (at-put-limit2 .put-limit2 .ensures .0) back
+          (c .before .before .emit-in2 .ensures .0 _)
           ∙ sym (term-applied _ _ _ _ _ _ _ _ _ _ _ (at-if1 .if1 .left) (within _ (at-deref .before .before .before .if2 .left))
           (sought _ _ _ _ (at-deref .deref .ensures)) (at-node-of .before .before .before .tag-of .ensures) _ _ _ _ _
           (at-node-of .before .before .if3 .left) (at-node-of .before .if4 .left) (at-node-of .node-of .ensures)
           (at-write-name-in .before .label .ensures) (at-write-name-in .write-name-in .ensures .0 _) (at-child-count .child-count .ensures)
-          (at-loop-test .before .before .before .if5 .left) (at-loop-test .before .before .frame-of .ensures)
-          ∙ arguments-same _ _ (sym (at-write-name-in .write-name-in .ensures .1)) _ _ _ _ _ _ _ _ ∙ at-loop-test .before .loop .inv .4
-          ∙ arguments-end _ _ _ _ _ _ _ _ (at-loop-test .loop-test .left)),
-      c .before .before .emit-in2 .ensures .1 ∙ at-loop-test .before .loop .inv .3 ∙ at-write-name-in .write-name-in .ensures .1,
+          (at-frame-of .before .if5 .left) (at-frame-of .frame-of .ensures)),
+      c .before .before .emit-in2 .ensures .1 ∙ back,
     )
 
 pub +write-term-spec : {M : Type 1} → statement M
@@ -241,7 +267,8 @@ pub +write-term-spec : {M : Type 1} → statement M
     (λ c κs. search needs) (λ c κs. search needs) (λ c. search needs) (λ c. search needs) (returns-3 t)
     (λ c κs. search needs) (λ c κs. search needs) (λ c. search needs) (λ c. search needs) (returns-4 t)
     (λ c κs. search needs) (λ c κs. search needs) (λ c κs. search needs) (λ c κs. search needs) (λ c. search needs)
-    (λ c. search needs) (returns-5 t) (λ c κs. search needs) (loop-holds t) (λ c κs. search needs)
-    (λ c κs. search needs) (λ c κs. search needs) (λ c κs. search needs) (sub-write-term t)
-    (write-term-requires t) (λ c. search needs) (λ c. search needs) (loop-again t) (λ c κs. search needs)
+    (λ c. search needs) (returns-5 t) (λ c κs. search needs) (sub-limit t) (λ c κs. search needs) (λ c κs. search needs)
+    (loop-holds t) (λ c κs. search needs)
+    (λ c κs. search needs) (λ c κs. search needs) (λ c κs. search needs)
+    (write-term-requires t) (λ c. search needs) (λ c. search needs) (loop-again t) (λ c κs. search needs) (λ c κs. search needs)
     (same-length-7 t) (same-length-8 t) (returns-6 t)

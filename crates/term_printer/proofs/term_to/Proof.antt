@@ -1,5 +1,5 @@
 use Rattle.term_printer.proofs.Laws.{term-ranked}
-use Rattle.term_printer.proofs.cursor.States.{cursor-taken, state-made}
+use Rattle.term_printer.proofs.cursor.States.{cursor-taken, increment-back, state-made}
 use Rattle.term_printer.specs.State.{boundsIn}
 use borrow.Author.Needs.{needs}
 use Rattle.term_printer.proofs.term_to.Statement.{statement}
@@ -8,8 +8,9 @@ use Rattle.term_printer.proofs.term_to.Tie as tie
 write-term-requires : tie.Need-write-term-requires
 unfolding boundsIn
 write-term-requires c κs =
+    let at-increment = c .before .before .before .before .before in
     let at-pre = c .before .before .before .before .before .before .before .before .before .before in
-    at-pre .pre
+    (at-pre .pre, increment-back _ _ (at-pre .pre) (at-increment .increment .ensures))
 
 returns : tie.Need-returns
 returns c =
