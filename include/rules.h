@@ -2,10 +2,11 @@
  *
  * Link librules.a (rt staticlib rules). The header is C99 and C++.
  *
- * Both functions answer for every input: there is nothing a caller must see to but that each pointer is not null
- * and points to as many elements as the length after it says, and that no buffer overlaps another or an input.
+ * Both functions answer for every input: there is nothing a caller must see to but that each pointer is aligned for
+ * its type (pointers to numbers for uint32_t) and points to as many elements as the length after it says (where that
+ * is 0 it may be null), that no buffer overlaps another or an input, and that there is enough stack (below).
  * They allocate nothing, keep nothing between two calls, read and write no file, and touch no memory
- * but the lent buffers and at most 8 MB of stack. So any number of threads may call them at the same time, each with
+ * but the lent buffers and the stack. So any number of threads may call them at the same time, each with
  * its own buffers. What the buffers hold before a call does not matter.
  */
 #ifndef RULES_H
@@ -24,6 +25,14 @@ extern "C" {
 #define RULES_LARGEST_BUDGET 50000 /* [3] units */
 #define RULES_TEXT_BYTES 65535    /* [4, 12] bytes of an answer text */
 #define RULES_WORK_NUMBERS 64     /* [5] work numbers for each unit of budget, or for each LF of a text */
+
+/* Stack, in bytes, that must be left where the functions are called. That of rules_check does not depend on its input.
+ * In rules_run the printer of terms calls itself for each bracket that it opens, as long as all that are open can still
+ * be closed within the answer: so the stack grows with the answer buffer, up to RULES_TEXT_BYTES. 4,096 bytes of answer
+ * take 320 KB of stack, 65,535 take 4.1 MB. */
+#define RULES_CHECK_STACK 65536
+#define RULES_RUN_STACK(answer_len) \
+    (65536 + 64 * ((size_t)(answer_len) < RULES_TEXT_BYTES ? (size_t)(answer_len) : (size_t)RULES_TEXT_BYTES))
 
 /* What rules_run returns. */
 enum rules_outcome {

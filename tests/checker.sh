@@ -43,4 +43,25 @@ if ((compared < 100)); then
     echo "checker: only $compared texts compared" >&2
     exit 1
 fi
+
+# The checker knows neither the runner's answer buffer nor its budget: texts past them are valid too.
+boundaries=$(dirname "$cases")/boundaries.py
+for limit in 'text 16384' 'text 16385' 'units 257'; do
+    # shellcheck disable=SC2086
+    python3 "$boundaries" $limit "$work/limit"
+    expect "$work/limit.sheet" "$work/limit.text" valid
+done
+
+# Refusal 4: a text over 65,535 bytes. Refusal 5: a text of over 31,000 LF bytes. Refusal 1 comes before both.
+strobe=$cases/s01_strobe.sheet
+head -c 65535 /dev/zero | tr '\0' a >"$work/full"
+expect "$strobe" "$work/full" $'not valid\t1'
+head -c 65536 /dev/zero | tr '\0' a >"$work/over"
+expect "$strobe" "$work/over" $'X\t4\t0'
+head -c 31000 /dev/zero | tr '\0' '\n' >"$work/lines"
+expect "$strobe" "$work/lines" $'not valid\t1'
+head -c 31001 /dev/zero | tr '\0' '\n' >"$work/more"
+expect "$strobe" "$work/more" $'X\t5\t0'
+head -c 16385 /dev/zero | tr '\0' Y >"$work/sheet"
+expect "$work/sheet" "$work/over" $'X\t1\t0'
 echo "checker: $compared verdicts, all as expected"

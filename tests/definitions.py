@@ -1,10 +1,14 @@
 #!/usr/bin/env python3
-"""Computes the definition `engineRun` on every stored case and compares with the known answer.
+"""Computes the definitions `engineRun` and `checkText` on the stored cases and compares the whole result with the known one.
 
-The definitions are what a reader must believe, so they are run on outside vectors too: each case becomes an equation that the
-prover must accept by computation, in a copy of the repository (the crates below `engine_spec` as rt ci proved them)."""
+The definitions are what a reader must believe, so they are run on outside vectors too: each case becomes an equation that the prover must
+accept by computation, in a copy of the repository (the crates below `promises` as rt ci proved them). Of a run: outcome, units and text, or
+refusal and line. Of a check: valid, or the line that breaks, or refusal and line, for the text of each case, for that text without its
+last LF, without its last line and with a line more (document 01 says which line breaks), and for damaged texts, as the independent
+implementation judges them (tests/reference)."""
 import glob
 import os
+import random
 import shutil
 import subprocess
 import sys
@@ -14,53 +18,130 @@ ROOT = os.path.dirname(os.path.dirname(os.path.abspath(__file__)))
 HEADER = """-- The stored cases, computed.
 use Prim.Native.Nat.{ℕ}
 use mathlib.Core.Path.{_≡_, refl}
-use mathlib.Core.List.{List, [], _∷_}
+use mathlib.Core.List.{List, [], _∷_, _++_}
 use Rattle.sheet_format.specs.Bytes.{ascii}
-use Rattle.engine_spec.specs.EngineRun.{Result, turnedBack, answered}
+use Rattle.sheet_format.specs.Sheets.{refusal, turnBackIf}
+use Rattle.answer_texts.specs.Judgements.{valid, invalid}
+use Rattle.text_judging.proofs.Computing.{computeJudgement}
+use Rattle.engine_spec.specs.EngineRun.{reportedProved, reportedNo, reportedSpent, Result, turnedBack, answered}
 use Rattle.engine_spec.proofs.Computing.{computeRun}
+use Rattle.checker_spec.specs.CheckText.{Checked, judged, checkRefused, countLf, checkSheet, checkText}
 
-abbrev printed : Result → List ℕ
-printed (answered a) = a .text
-printed (turnedBack r) = r .number ∷ r .line ∷ []
+unfoldable computeCheck : List ℕ → List ℕ → ℕ → ℕ → Checked
+unfolding computeRun computeJudgement countLf checkSheet turnBackIf checkText
+computeCheck bytes text t w = checkText bytes text t w
 """
+OUTCOMES = {"proved": "reportedProved", "no": "reportedNo", "spent": "reportedSpent"}
+# Work numbers for a text of 300 lines; a text of more lines is refused, and the stored ones have fewer.
+WORK = 64 * 300
 
 
-def quoted(data):
+def byte_list(data):
+    """The bytes as an antt list: runs of plain ASCII as strings, other bytes by their numbers."""
     marks = {9: "\\t", 10: "\\n", 34: '\\"', 92: "\\\\"}
-    return '"' + "".join(marks.get(c, chr(c)) for c in data) + '"'
+    parts, plain = [], ""
+    for c in data:
+        if c in marks or 32 <= c < 127:
+            plain += marks.get(c, chr(c))
+        else:
+            parts += [f'ascii "{plain}"', f"({c} ∷ [])"]
+            plain = ""
+    parts.append(f'ascii "{plain}"')
+    return "(" + " ++ (".join(parts) + ")" * len(parts)
 
 
-def equation(number, sheet, expected):
+def ran(sheet, expected):
+    """The equation of a run with 256 units, as document 01's sheet runner has it."""
     if expected.startswith(b"X"):
-        _, refusal, line = expected.decode().split("\t")
-        right = f"{refusal} ∷ {line.strip()} ∷ []"
+        _, number, line = expected.decode().split("\t")
+        right = f"turnedBack (refusal {number} {line.strip()})"
     else:
-        right = f"ascii {quoted(expected)}"
-    left = f"printed (computeRun (ascii {quoted(sheet)}) 256 8192 16384 16384)"
-    return f"case{number} : {left} ≡ {right}\nunfolding computeRun\ncase{number} = refl\n"
+        _, outcome, units = expected.split(b"\n")[0].decode().split("\t")
+        text = byte_list(expected)
+        right = f"answered (record {{ outcome = {OUTCOMES[outcome]}; units = {units}; text = {text} }})"
+    return f"computeRun {byte_list(sheet)} 256 8192 16384 16384 ≡ {right}", "computeRun"
+
+
+def checked(sheet, text, verdict):
+    """The equation of a check; the verdict is None for valid, a line, or a pair of refusal and line."""
+    if isinstance(verdict, tuple):
+        right = f"checkRefused (refusal {verdict[0]} {verdict[1]})"
+    else:
+        right = "judged valid" if verdict is None else f"judged (invalid {verdict})"
+    return f"computeCheck {byte_list(sheet)} {byte_list(text)} 8192 {WORK} ≡ {right}", "computeCheck"
+
+
+def by_document(sheet, text):
+    """Texts of a case with the verdicts that document 01 gives them."""
+    if text.startswith(b"R\tproved"):
+        lines = text.count(b"\n")
+        yield text, None
+        yield text[:-1], lines
+        yield text[: text[:-1].rfind(b"\n") + 1], lines
+        yield text + b"D\ttrue\n", lines + 1
+    elif text.startswith(b"X") and not text.startswith(b"X\t12"):
+        _, number, line = text.decode().split("\t")
+        yield b"", (int(number), int(line))
+    else:
+        yield text, 1
+
+
+def damaged(text, choose):
+    """One byte changed, taken out or put in."""
+    place = choose.randrange(len(text))
+    byte = bytes([choose.choice(b"01279_!@(),\tDRBabz\n\x00\xff")])
+    return choose.choice([text[:place] + byte + text[place + 1 :], text[:place] + text[place + 1 :], text[:place] + byte + text[place:]])
+
+
+def reference(program, folder, sheet, text):
+    """The verdict of the independent implementation."""
+    names = [os.path.join(folder, name) for name in ("sheet", "text")]
+    for name, data in zip(names, (sheet, text)):
+        with open(name, "wb") as f:
+            f.write(data)
+    said = subprocess.run([program, *names], capture_output=True, text=True).stdout.split("\t")
+    if said[0].strip() == "valid":
+        return None
+    if said[0] == "not valid":
+        return int(said[1])
+    return (int(said[1]), int(said[2]))
+
+
+def equations():
+    choose = random.Random(14)
+    subprocess.run(["cargo", "build", "--release", "--offline", "--quiet", "-p", "reference"], cwd=os.path.join(ROOT, "tests"), check=True)
+    program = os.path.join(ROOT, "tests", "target", "release", "check")
+    with tempfile.TemporaryDirectory() as folder:
+        for path in sorted(glob.glob(os.path.join(ROOT, "tests", "cases", "*.sheet"))):
+            with open(path, "rb") as f, open(path[: -len("sheet")] + "256", "rb") as g:
+                sheet, expected = f.read(), g.read()
+            yield ran(sheet, expected)
+            for text, verdict in by_document(sheet, expected):
+                yield checked(sheet, text, verdict)
+            if expected.startswith(b"R\tproved"):
+                for _ in range(3):
+                    text = damaged(expected, choose)
+                    yield checked(sheet, text, reference(program, folder, sheet, text))
 
 
 def main():
-    cases = sorted(glob.glob(os.path.join(ROOT, "tests", "cases", "*.sheet")))
-    parts = [HEADER]
-    for number, path in enumerate(cases):
-        with open(path, "rb") as f, open(path[: -len("sheet")] + "256", "rb") as g:
-            sheet, expected = f.read(), g.read()
-        if max(sheet + expected, default=0) < 127:
-            parts.append(equation(number, sheet, expected))
+    parts, runs, checks = [HEADER], 0, 0
+    for number, (equation, name) in enumerate(equations()):
+        runs, checks = runs + (name == "computeRun"), checks + (name == "computeCheck")
+        parts.append(f"case{number} : {equation}\nunfolding {name}\ncase{number} = refl\n")
     with tempfile.TemporaryDirectory() as work:
         copy = os.path.join(work, "main")
         shutil.copytree(ROOT, copy, ignore=shutil.ignore_patterns(".git", "tests"), symlinks=True)
-        proofs = os.path.join(copy, "crates", "engine_spec", "proofs")
+        proofs = os.path.join(copy, "crates", "promises", "proofs")
         with open(os.path.join(proofs, "Stored.antt"), "w") as f:
             f.write("\n".join(parts))
         with open(os.path.join(proofs, "Lib.antt"), "a") as f:
             f.write("pub mod Stored\n")
-        run = subprocess.run(["rt", "dev", "engine_spec"], cwd=copy, capture_output=True, text=True)
+        run = subprocess.run(["rt", "dev", "promises"], cwd=copy, capture_output=True, text=True)
     if run.returncode != 0:
         print(run.stdout + run.stderr)
-        sys.exit("the definition engineRun differs from a stored case")
-    print(f"definitions: {len(parts) - 1} stored cases computed, all as expected")
+        sys.exit("a definition differs from a stored case")
+    print(f"definitions: {runs} runs and {checks} checks computed, all as expected")
 
 
 main()

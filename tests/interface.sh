@@ -1,7 +1,7 @@
 #!/usr/bin/env bash
 # The C interface and the Rust bindings with a library: tests/interface.sh [LIBRARY]
 # The C example, compiled as C and as C++, and the Rust example must print the rehearsed answers of document 01 and the
-# known answer of every stored case, and `valid` after each proof.
+# known answer of every stored case, and `valid` after each proof. Each buffer may be a null pointer with length 0.
 set -euo pipefail
 cd "$(dirname "$0")/.."
 library=$(realpath "${1:-${RULES_LIBRARY:-target/staticlib/librules.a}}")
@@ -14,6 +14,12 @@ example=examples/c/rules_example.c
 "${CXX:-c++}" -std=c++11 "${warnings[@]}" -O2 -I include -o "$work/cxx" -x c++ $example -x none "$library"
 RULES_LIBRARY=$library cargo build --release --offline --quiet --manifest-path bindings/rust/Cargo.toml --example answer
 cp bindings/rust/target/release/examples/answer "$work/rust"
+
+# Null pointers with length 0, in each place, as C and as C++.
+"${CC:-cc}" -std=c99 "${warnings[@]}" -O2 -I include -o "$work/null" tests/null_buffers.c "$library"
+"$work/null"
+"${CXX:-c++}" -std=c++11 "${warnings[@]}" -O2 -I include -o "$work/nullxx" -x c++ tests/null_buffers.c -x none "$library"
+"$work/nullxx"
 
 compared=0
 # expect FILE SHEET [BUDGET [ANSWER_BYTES]]: what all three print for a sheet.

@@ -45,6 +45,18 @@ printf 'Y\n%.0s' {1..200000} >"$work/large"
 expect_text '400,000 bytes' 'X\t1\t0\n' "$@" <"$work/large"
 expect_text 'nothing' 'X\t11\t1\n' "$@" </dev/null
 
+# The answer buffer's limit and the budget's: 16,384 bytes and 256 units are told, one more is refusal 12 or spent.
+boundaries=$(dirname "$cases")/boundaries.py
+for limit in 'text 16384' 'units 256'; do
+    # shellcheck disable=SC2086
+    python3 "$boundaries" $limit "$work/limit"
+    expect "$limit" "$work/limit.text" "$@" <"$work/limit.sheet"
+done
+python3 "$boundaries" text 16385 "$work/limit"
+expect_text 'text 16385' 'X\t12\t0\n' "$@" <"$work/limit.sheet"
+python3 "$boundaries" units 257 "$work/limit"
+expect_text 'units 257' 'R\tspent\t256\n' "$@" <"$work/limit.sheet"
+
 # A sheet that comes in pieces is one sheet.
 mkfifo "$work/pipe"
 (for piece in 1:5 6:9 15:1000; do

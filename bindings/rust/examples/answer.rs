@@ -10,14 +10,14 @@ use rules::{check, run, Outcome, Refusal, Verdict};
 use rules::{LARGEST_BUDGET, TABLE_NUMBERS, TEXT_BYTES, WORK_NUMBERS};
 
 /// The verdict on a text, in words.
-fn verdict(sheet: &[u8], text: &[u8]) -> String {
+fn verdict(sheet: &[u8], text: &[u8]) -> io::Result<String> {
     let lines = text.iter().filter(|&&byte| byte == b'\n').count();
     let (mut table, mut work) = (vec![0; TABLE_NUMBERS], vec![0; lines * WORK_NUMBERS]);
-    match check(sheet, text, &mut table, &mut work) {
+    Ok(match check(sheet, text, &mut table, &mut work)? {
         Verdict::Valid => "valid\n".to_string(),
         Verdict::NotValid(line) => format!("not valid\t{line}\n"),
         Verdict::Refused(Refusal { number, line }) => format!("X\t{number}\t{line}\n"),
-    }
+    })
 }
 
 fn main() -> io::Result<ExitCode> {
@@ -38,7 +38,7 @@ fn main() -> io::Result<ExitCode> {
     let mut table = vec![0; TABLE_NUMBERS];
     let mut work = vec![0; budget.min(LARGEST_BUDGET) as usize * WORK_NUMBERS];
     let mut answer = vec![0; answer_bytes as usize];
-    let ended = run(&sheet, budget, &mut table, &mut work, &mut answer);
+    let ended = run(&sheet, budget, &mut table, &mut work, &mut answer)?;
     let text = &answer[..ended.length];
 
     let mut out = io::stdout();
@@ -46,7 +46,7 @@ fn main() -> io::Result<ExitCode> {
         Outcome::Refused(Refusal { number, line }) => writeln!(out, "X\t{number}\t{line}")?,
         Outcome::Proved => {
             out.write_all(text)?;
-            out.write_all(verdict(&sheet, text).as_bytes())?;
+            out.write_all(verdict(&sheet, text)?.as_bytes())?;
         }
         Outcome::No | Outcome::Spent => out.write_all(text)?,
     }

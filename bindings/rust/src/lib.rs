@@ -1,8 +1,14 @@
 //! The proof engine for house rule sheets and the checker of its answer texts, over lent slices.
 //!
 //! `run` searches for a proof of a sheet's goal and writes the answer text; `check` judges such a text and trusts
-//! neither sheet nor text. Both answer for every input, allocate nothing and keep nothing between calls; what the
-//! buffers held before does not matter. include/rules.h says what each buffer holds afterwards.
+//! neither sheet nor text. Both answer for every input and keep nothing between calls; what the buffers held before
+//! does not matter. include/rules.h says what each buffer holds afterwards.
+//!
+//! Each of the two makes a thread with the stack that its call may need, which takes some 20 microseconds, and gives an
+//! error only if there is no thread to be had; then no buffer has been touched. A caller who knows that its own stack
+//! is large enough calls `run_here` or `check_here`, which make no thread and allocate nothing.
+
+use std::{io, thread};
 
 pub mod raw;
 
@@ -16,6 +22,20 @@ pub const LARGEST_BUDGET: u32 = 50_000;
 pub const TEXT_BYTES: usize = 65_535;
 /// Work numbers for each unit of budget, or for each LF of a text; fewer are refusal 5.
 pub const WORK_NUMBERS: usize = 64;
+/// Bytes of stack that `check_here` needs (RULES_CHECK_STACK).
+pub const CHECK_STACK: usize = 65_536;
+/// Bytes of stack that a new thread may need before it calls the library.
+const THREAD_STACK: usize = 65_536;
+
+/// Bytes of stack that `run_here` needs with an answer buffer of this length (RULES_RUN_STACK).
+pub const fn run_stack(answer_bytes: usize) -> usize {
+    let written = if answer_bytes < TEXT_BYTES {
+        answer_bytes
+    } else {
+        TEXT_BYTES
+    };
+    65_536 + 64 * written
+}
 
 /// A numbered refusal. Lines count from 1; line 0 says that no line is at fault.
 #[derive(Clone, Copy, PartialEq, Eq, Debug)]
@@ -50,8 +70,25 @@ pub enum Verdict {
     Refused(Refusal),
 }
 
-/// Runs a sheet with a budget. `work` needs `WORK_NUMBERS` for each unit of budget.
-pub fn run(sheet: &[u8], budget: u32, table: &mut [u32], work: &mut [u32], answer: &mut [u8]) -> Run {
+/// Runs a sheet with a budget, on a thread of its own. `work` needs `WORK_NUMBERS` for each unit of budget.
+pub fn run(sheet: &[u8], budget: u32, table: &mut [u32], work: &mut [u32], answer: &mut [u8]) -> io::Result<Run> {
+    let stack = run_stack(answer.len());
+    // SAFETY: the thread has the stack that is needed.
+    on_a_thread(stack, move || unsafe { run_here(sheet, budget, table, work, answer) })
+}
+
+/// Checks an answer text against a sheet, on a thread of its own. `work` needs `WORK_NUMBERS` for each LF of the text.
+pub fn check(sheet: &[u8], text: &[u8], table: &mut [u32], work: &mut [u32]) -> io::Result<Verdict> {
+    // SAFETY: the thread has the stack that is needed.
+    on_a_thread(CHECK_STACK, move || unsafe { check_here(sheet, text, table, work) })
+}
+
+/// `run` without a thread.
+///
+/// # Safety
+///
+/// At least `run_stack(answer.len())` bytes of stack are left.
+pub unsafe fn run_here(sheet: &[u8], budget: u32, table: &mut [u32], work: &mut [u32], answer: &mut [u8]) -> Run {
     let mut result = [0; 5];
     let code = raw::run(sheet, budget, table, work, answer, &mut result);
     let [_, units, length, number, line] = result;
@@ -67,8 +104,12 @@ pub fn run(sheet: &[u8], budget: u32, table: &mut [u32], work: &mut [u32], answe
     }
 }
 
-/// Checks an answer text against a sheet. `work` needs `WORK_NUMBERS` for each LF of the text.
-pub fn check(sheet: &[u8], text: &[u8], table: &mut [u32], work: &mut [u32]) -> Verdict {
+/// `check` without a thread.
+///
+/// # Safety
+///
+/// At least `CHECK_STACK` bytes of stack are left.
+pub unsafe fn check_here(sheet: &[u8], text: &[u8], table: &mut [u32], work: &mut [u32]) -> Verdict {
     let mut result = [0; 3];
     let code = raw::check(sheet, text, table, work, &mut result);
     let [_, line, number] = result;
@@ -77,4 +118,14 @@ pub fn check(sheet: &[u8], text: &[u8], table: &mut [u32], work: &mut [u32]) -> 
         1 => Verdict::NotValid(line),
         _ => Verdict::Refused(Refusal { number, line }),
     }
+}
+
+/// What a call gives on a thread that has so much stack for it.
+fn on_a_thread<T: Send>(stack: usize, call: impl FnOnce() -> T + Send) -> io::Result<T> {
+    thread::scope(|scope| {
+        let called = thread::Builder::new()
+            .stack_size(THREAD_STACK + stack)
+            .spawn_scoped(scope, call)?;
+        Ok(called.join().expect("the library does not panic"))
+    })
 }

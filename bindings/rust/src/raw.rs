@@ -1,7 +1,7 @@
 //! The two functions of include/rules.h over slices, with the numbers as the library gives them.
 //!
-//! The only unsafe code of the crate. The library reads and writes nothing but what the pointers and lengths name, for
-//! every input; slices give it pointers that are not null and buffers that do not overlap.
+//! The library reads and writes nothing but what the pointers and lengths name and its stack, for every input; slices
+//! give it pointers that are not null and aligned, and buffers that do not overlap. The caller gives it the stack.
 
 extern "C" {
     fn rules_run(
@@ -34,7 +34,11 @@ extern "C" {
 
 /// `rules_run`: 0 proved, 1 no, 2 spent, 3 refused. `result` gets that number, the units, the text's length, the
 /// refusal's number and its line, as far as it is long.
-pub fn run(
+///
+/// # Safety
+///
+/// At least `run_stack(answer.len())` bytes of stack are left.
+pub unsafe fn run(
     sheet: &[u8],
     budget: u32,
     table: &mut [u32],
@@ -42,38 +46,38 @@ pub fn run(
     answer: &mut [u8],
     result: &mut [u32],
 ) -> u32 {
-    unsafe {
-        rules_run(
-            sheet.as_ptr(),
-            sheet.len(),
-            budget,
-            table.as_mut_ptr(),
-            table.len(),
-            work.as_mut_ptr(),
-            work.len(),
-            answer.as_mut_ptr(),
-            answer.len(),
-            result.as_mut_ptr(),
-            result.len(),
-        )
-    }
+    rules_run(
+        sheet.as_ptr(),
+        sheet.len(),
+        budget,
+        table.as_mut_ptr(),
+        table.len(),
+        work.as_mut_ptr(),
+        work.len(),
+        answer.as_mut_ptr(),
+        answer.len(),
+        result.as_mut_ptr(),
+        result.len(),
+    )
 }
 
 /// `rules_check`: 0 valid, 1 not valid, 3 refused. `result` gets that number, the line and the refusal's number, as far
 /// as it is long.
-pub fn check(sheet: &[u8], text: &[u8], table: &mut [u32], work: &mut [u32], result: &mut [u32]) -> u32 {
-    unsafe {
-        rules_check(
-            sheet.as_ptr(),
-            sheet.len(),
-            text.as_ptr(),
-            text.len(),
-            table.as_mut_ptr(),
-            table.len(),
-            work.as_mut_ptr(),
-            work.len(),
-            result.as_mut_ptr(),
-            result.len(),
-        )
-    }
+///
+/// # Safety
+///
+/// At least `CHECK_STACK` bytes of stack are left.
+pub unsafe fn check(sheet: &[u8], text: &[u8], table: &mut [u32], work: &mut [u32], result: &mut [u32]) -> u32 {
+    rules_check(
+        sheet.as_ptr(),
+        sheet.len(),
+        text.as_ptr(),
+        text.len(),
+        table.as_mut_ptr(),
+        table.len(),
+        work.as_mut_ptr(),
+        work.len(),
+        result.as_mut_ptr(),
+        result.len(),
+    )
 }

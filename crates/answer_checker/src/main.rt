@@ -1,40 +1,10 @@
-// The checker on two files, a sheet and an answer text, which the arguments name: prints `valid`, `not valid` and the line that
-// breaks, or `X`, number and line of the refusal, with tabs between and LF at the end. Of each file it reads up to one byte more
-// than is allowed, so that refusals 1 and 4 arise.
+// The checker on two files, a sheet and an answer text, which the arguments name: prints what `checker_output` makes of them. Of each
+// file it reads at most one byte more than is allowed: then refusal 1 or 4 is told, as it is of the whole (`FrontsSuffice` in
+// checker_output).
+use checker_output::LINE_BYTES;
+use checker_output::SHEET_BYTES;
+use checker_output::TEXT_BYTES;
 use libc::STDOUT_FILENO;
-use outcomes::Verdict;
-use sheet_format::limits;
-
-const SHEET_BYTES: usize = limits::MAX_SHEET_BYTES + 1;
-
-const TEXT_BYTES: usize = limits::MAX_TEXT_BYTES as usize + 1;
-
-const LINES: usize = 2048;
-
-const WORK_NUMBERS: usize = limits::NUMBERS_PER_UNIT * LINES;
-
-fn print_number(n: u32) {
-    io::write_all(STDOUT_FILENO, b"\t");
-    io::print_decimal(STDOUT_FILENO, n as u64);
-}
-
-fn print_verdict(verdict: Verdict) {
-    match verdict {
-        Verdict::Valid => {
-            io::write_all(STDOUT_FILENO, b"valid");
-        }
-        Verdict::Invalid(line) => {
-            io::write_all(STDOUT_FILENO, b"not valid");
-            print_number(line);
-        }
-        Verdict::Refused(f) => {
-            io::write_all(STDOUT_FILENO, b"X");
-            print_number(f.number);
-            print_number(f.line);
-        }
-    }
-    io::write_all(STDOUT_FILENO, b"\n");
-}
 
 // The file that argument i names, open for reading; below 0 where there is none, and then standard error says why.
 fn open_named(i: usize) -> i32 {
@@ -61,19 +31,10 @@ fn is_whole(fd: i32, n: usize, size: usize) -> bool {
     libc::read(fd, &mut one) == 0
 }
 
-// The work buffer has 64 numbers for each of 2,048 lines: a run of 2,000 units writes fewer. A text of more lines gets refusal 5.
-// A larger buffer would not leave enough of a stack of 8 MB for the deepest term that a text can begin.
-fn check_bytes(sheet: &[u8], text: &[u8]) {
-    let mut table = [0u32; limits::TABLE_NUMBERS];
-    let mut work = [0u32; WORK_NUMBERS];
-    let verdict = checker::check(sheet, text, &mut table, &mut work);
-    print_verdict(verdict);
-}
-
 fn check_files(sheet_file: i32, text_file: i32) {
     let mut sheet = [0u8; SHEET_BYTES];
     let n = io::read_full(sheet_file, &mut sheet);
-    let mut text = io::large_buffer();
+    let mut text = [0u8; TEXT_BYTES];
     let m = io::read_full(text_file, &mut text);
     if !is_whole(sheet_file, n, SHEET_BYTES) {
         os::fail(b"sheet");
@@ -83,7 +44,9 @@ fn check_files(sheet_file: i32, text_file: i32) {
         os::fail(b"text");
         return;
     }
-    check_bytes(&sheet[..n], &text[..m]);
+    let mut out = [0u8; LINE_BYTES];
+    let k = checker_output::checker_output(&sheet[..n], &text[..m], &mut out);
+    io::write_all(STDOUT_FILENO, &out[..k]);
 }
 
 fn main() {

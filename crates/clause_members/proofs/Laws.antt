@@ -5,7 +5,7 @@ use native.Mathlib.Numerals.{sub-one}
 use mathlib.Core.Path.{_≡_, refl, sym, ap, _∙_}
 use mathlib.Core.Bool.{Bool, true, false}
 use mathlib.Core.List.{List}
-use borrow.Author.Tests.{lt-ltb, le-ltb, eq-eqb, ne-eqb}
+use borrow.Author.Tests.{lt-ltb, le-ltb, le-leb, lt-leb, eq-eqb, ne-eqb}
 use Rattle.node_table.specs.Layout.{andKind, impliesKind, forallKind, kindOf, labelOf, childOf, maskOf, bitOf, membersOf}
 use Rattle.clause_members.specs.declared.Found.{Found}
 use Rattle.clause_members.specs.Members.{found, hasName, pushName, addName, pushOther, reverseWithout, moveToFront, passName}
@@ -68,14 +68,19 @@ reverse-on zero vs v m r p e = absurd (omega arith)
 reverse-on (suc n) vs v m r p e = rw (e, sub-one (suc n))
 
 module _ (v : ℕ) (m : Found) where
-  pub passed-low : (r s u : Found) → v < 8 → r ≡ reverseWithout (m .count) (m .names) v (found (m .leaf) 0 0)
-      → s ≡ reverseWithout (r .count) (r .names) v (found (r .leaf) 0 0) → u ≡ pushName v s → u ≡ passName v m
-  unfolding passName moveToFront
-  passed-low r s u p er es eu = rw (eu, es, er) (simp (passName, moveToFront, lt-ltb _ _ p))
-
   pub passed-high : 8 ≤ v → m ≡ passName v m
   unfolding passName
-  passed-high p = simp (passName, le-ltb _ _ p)
+  passed-high p = simp (passName, le-leb _ _ p)
+
+  pub passed-again : (h : Bool) (r s u : Found) → v < 8 → h ≡ hasName (m .count) (m .names) v → h ≡ true
+      → r ≡ reverseWithout (m .count) (m .names) v (found (m .leaf) 0 0)
+      → s ≡ reverseWithout (r .count) (r .names) v (found (r .leaf) 0 0) → u ≡ pushName v s → u ≡ passName v m
+  unfolding passName moveToFront
+  passed-again h r s u p eh e er es eu = rw (eu, es, er) (simp (passName, moveToFront, lt-leb _ _ p, ← eh, e))
+
+  pub passed-first : (h : Bool) (u : Found) → v < 8 → h ≡ hasName (m .count) (m .names) v → h ≡ false → u ≡ pushName v m → u ≡ passName v m
+  unfolding passName
+  passed-first h u p eh e eu = eu ∙ simp (passName, lt-leb _ _ p, ← eh, e)
 
 pub add-end : (t : List ℕ) (n vs k us : ℕ) (a b r : Found) → a ≡ b → addNames t n vs a ≡ addNames t k us r → k ≤ 0
     → r ≡ addNames t n vs b

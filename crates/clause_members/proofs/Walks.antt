@@ -6,9 +6,9 @@ use mathlib.Core.Path.{_≡_, refl, sym, ap, _∙_, subst}
 use mathlib.Core.Bool.{Bool, true, false, cond, true≢false}
 use mathlib.Core.List.{List, [], _∷_, _++_, append-nil}
 use mathlib.Core.Logic.{_⊎_, inl, inr}
-use lib.Dec.{eqb, ltb}
+use lib.Dec.{eqb, leb, ltb}
 use lib.ListN.{length}
-use borrow.Author.Tests.{eqb-true, ne-eqb, ltb-true, ltb-false}
+use borrow.Author.Tests.{eqb-true, ne-eqb, leb-true, leb-false, ltb-true, ltb-false}
 use Rattle.terms.specs.Lists.{elem}
 use Rattle.node_table.specs.Layout.{andKind, forallKind, kindOf, labelOf, childOf, maskOf, bitOf, membersOf}
 use Rattle.node_table.proofs.Bits.{bit-none}
@@ -182,7 +182,7 @@ settled-without t v (u ∷ l) m p s = go (eqb u v) refl (settled-without t v l)
 pub passed : (t : List ℕ) (v : ℕ) (w m : Found) → Prefix w → Prefix m
     → Prefix (passName v w) × (addNames t (w .count) (w .names) (addName t v m) ≡ addNames t (passName v w .count) (passName v w .names) m)
 unfolding passName addList
-passed t v w m p q = go (ltb v 8) refl
+passed t v w m p q = go (leb 8 v) refl (hasName (w .count) (w .names) v) refl
   where
     vs : List ℕ
     vs = namesOf (w .count) (w .names)
@@ -190,16 +190,22 @@ passed t v w m p q = go (ltb v 8) refl
     Result : Found → Type 0
     Result r = Prefix r × (addNames t (w .count) (w .names) (addName t v m) ≡ addNames t (r .count) (r .names) m)
 
-    go : (b : Bool) → ltb v 8 ≡ b → Result (cond b (moveToFront v w) w)
-    go true e =
-        let r = moved v w (ltb-true v 8 e) p in
-        let x = moveToFront v w in
-        let a = added t v m q in (
-          r .0,
-          add-list t (w .count) (w .names) (addName t v m) ∙ sym (settled-without t v vs (addName t v m) (a .0) (a .1))
-              ∙ sym (add-list t (x .count) (x .names) m ∙ ap (λ (l : List ℕ). addList t l m) (r .1)),
-        )
-    go false e = (p, ap (addNames t (w .count) (w .names)) (add-high t v m (ltb-false v 8 e)))
+    first : (r : Found) (us : List ℕ) → Prefix r × (namesOf (r .count) (r .names) ≡ v ∷ us)
+        → addList t us (addName t v m) ≡ addList t vs (addName t v m) → Result r
+    first r us k e = (
+      k .0,
+      add-list t (w .count) (w .names) (addName t v m) ∙ sym (add-list t (r .count) (r .names) m
+          ∙ ap (λ (l : List ℕ). addList t l m) (k .1) ∙ e),
+    )
+
+    go : (b : Bool) → leb 8 v ≡ b → (c : Bool) → hasName (w .count) (w .names) v ≡ c
+        → Result (cond b w (cond c (moveToFront v w) (pushName v w)))
+    go true e c d = (p, ap (addNames t (w .count) (w .names)) (add-high t v m (leb-true 8 v e)))
+    go false e true d =
+        let a = added t v m q in
+        first (moveToFront v w) (remove v vs) (moved v w (leb-false 8 v e) p) (settled-without t v vs (addName t v m) (a .0) (a .1))
+    go false e false d =
+        first (pushName v w) vs (prefix-push v w (leb-false 8 v e) (sym (has-name (w .count) (w .names) v) ∙ d) p) refl
 
 -- What the definition finds has a prefix.
 pub found-prefix : (f : ℕ) (t : List ℕ) (n k : ℕ) → Prefix (findMember f t n k)

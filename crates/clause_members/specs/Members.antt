@@ -2,7 +2,7 @@
 use Prim.Native.Nat.{ℕ, zero, suc, _+_, _-_, _*_, _/_, _%_}
 use mathlib.Core.Bool.{Bool, true, false, cond}
 use mathlib.Core.List.{List}
-use lib.Dec.{eqb, ltb}
+use lib.Dec.{eqb, leb, ltb}
 use Rattle.sheet_format.specs.Limits.{maxNodes, variableNames}
 use Rattle.node_table.specs.Layout.{andKind, impliesKind, forallKind, kindOf, labelOf, childOf, maskOf, bitOf, membersOf}
 use Rattle.clause_members.specs.declared.Found.{Found}
@@ -63,7 +63,7 @@ moveToFront v m =
 
 -- A U node of variable v is passed. No mask has a name from 8 on.
 unfoldable pub passName : ℕ → Found → Found
-passName v m = cond (ltb v variableNames) (moveToFront v m) m
+passName v m = cond (leb variableNames v) m (cond (hasName (m .count) (m .names) v) (moveToFront v m) (pushName v m))
 
 -- The walk goes on to node n.
 unfoldable pub withLeaf : Found → ℕ → Found

@@ -105,10 +105,13 @@ fn reverse_without(m: Found, v: u32) -> Found
 fn pass_name(v: u32, m: Found) -> Found
     ensures { λ r. ⌜ r ≡ passName v m ⌝ }
 {
-    if v < limits::VARIABLE_NAMES {
+    if limits::VARIABLE_NAMES <= v {
+        return m;
+    }
+    if has_name(m.count, m.names, v) {
         return push_name(v, reverse_without(reverse_without(m, v), v));
     }
-    m
+    push_name(v, m)
 }
 
 // The walk goes on to node n.

@@ -25,7 +25,8 @@ use Rattle.sheet_reader.proofs.sheet_lines.Refusals.{refused-late}
 
 -- Where a test of refusals 1, 2, 3 and 5 holds, the run is refused with its number, which is at most 5.
 shut : (a b c d e : Bool) (r : Result) (n : ℕ) → n ≡ cond a 1 (cond b 2 (cond c 3 (cond d 3 (cond e 5 0)))) → (n ≡ 0 → ⊥)
-    → (turnBackIf turnedBack a 1 (turnBackIf turnedBack b 2 (turnBackIf turnedBack (c || d) 3 (turnBackIf turnedBack e 5 r))) ≡ turnedBack (refusal n 0)) × (n ≤ 5)
+    → (turnBackIf turnedBack a 1 (turnBackIf turnedBack b 2 (turnBackIf turnedBack (c || d) 3 (turnBackIf turnedBack e 5 r)))
+    ≡ turnedBack (refusal n 0)) × (n ≤ 5)
 unfolding turnBackIf
 shut true b c d e r n q h = (ap (λ (k : ℕ). turnedBack (refusal k 0)) (sym q), omega arith)
 shut false true c d e r n q h = (ap (λ (k : ℕ). turnedBack (refusal k 0)) (sym q), omega arith)

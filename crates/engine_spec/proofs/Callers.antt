@@ -169,13 +169,15 @@ told-again demand bytes budget table work answer table′ work′ answer′ r la
 
 pub told-retry : AllDemand3 → Retry
 unfolding result
-told-retry demand bytes budget table work answer table′ work′ answer′ r larger table₂ work₂ answer₂ table₂′ work₂′ answer₂′ r₂ c d h l m ht hw ha =
+told-retry demand bytes budget table work answer table′ work′ answer′ r larger table₂ work₂ answer₂ table₂′ work₂′ answer₂′ r₂ c d
+    h l m ht hw ha =
     let q = the-answer bytes budget table work answer table′ work′ answer′ r c (omega arith) in
     let x = q .0 in
     let k = q .2 in
     let p = answered-answers bytes budget (length table) (length work) (length answer) x (q .1) in
     let n : r .length ≡ length (x .text) = (unfold handedBack in ap (λ (b : HandedBack). b .length) (k .value)) in
     let e = demand bytes (p .s) (p .read) .retry budget (length table) (length work) (length answer) x (q .1)
-    (not-spent _ (subst (λ (i : ℕ). i ≤ 1) (k .outcome) h)) larger (length table₂) (length work₂) (length answer₂) l m ht hw (rw (← n) ha) in
+    (not-spent _ (subst (λ (i : ℕ). i ≤ 1) (k .outcome) h)) larger (length table₂) (length work₂) (length answer₂) l m ht hw
+    (rw (← n) ha) in
     let z = holds answer₂ answer₂′ r₂ x (d .value ∙ ap handedBack e) (d .answerEnd ∙ ap (λ (y : Result). answerAfter y answer₂) e) in
     (z .value ∙ sym (k .value), z .text ∙ sym (k .text))

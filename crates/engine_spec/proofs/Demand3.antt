@@ -63,7 +63,8 @@ module _ (bytes : List ℕ) (s : Sheet) (read : readSheet bytes ≡ sheet s) (cl
   tells budget spent x q e h = absurd (h (ap (λ (y : Answer). y .outcome) e))
 
   -- If no is told, the search ended with no proof.
-  says-no : (budget : ℕ) (o : SearchOutcome) (x : Answer) → x ≡ answerTo s budget o → x .outcome ≡ reportedNo → (n : ℕ) × (o ≡ ends noProof n)
+  says-no : (budget : ℕ) (o : SearchOutcome) (x : Answer) → x ≡ answerTo s budget o → x .outcome ≡ reportedNo
+      → (n : ℕ) × (o ≡ ends noProof n)
   unfolding answerTo
   says-no budget (ends (proved store path) n) x e h = absurd (no-not-proved (sym (ap (λ (y : Answer). y .outcome) e) ∙ h))
   says-no budget (ends noProof n) x e h = (n, refl)

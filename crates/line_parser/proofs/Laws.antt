@@ -15,8 +15,8 @@ use Rattle.sheet_format.specs.SheetLines.{oneNumber, twoNumbers, withVariable, 
 use Rattle.line_parser.proofs.fields.Laws.{rest-part}
 use Rattle.line_parser.proofs.fields.Fields.{numbers-some}
 use Rattle.line_parser.specs.declared.lines.NodeLine.the-variants.{True}
-use Rattle.line_parser.specs.declared.lines.Line.the-variants.{Node, Malformed}
-use Rattle.line_parser.specs.Lines.{nodeAnswer, lineAnswer, connectiveOf, quantifierOf}
+use Rattle.line_parser.specs.declared.lines.Line.the-variants.{Node}
+use Rattle.line_parser.specs.Lines.{malformed, nodeAnswer, lineAnswer, connectiveOf, quantifierOf}
 use Rattle.line_parser.proofs.lines.Laws.{alone, cond-same, lettered, long}
 
 -- by the letter
@@ -78,7 +78,7 @@ true-alone l s = go (numbers (fields s)) (numbers-some s)
 -- Any other letter with a field after it makes a malformed line.
 pub letter-other : (c : ℕ) (s : List ℕ) → (c ≡ code "F" → ⊥) → (c ≡ code "P" → ⊥) → (c ≡ code "V" → ⊥) → (c ≡ code "A" → ⊥)
     → ((c ≡ code "&") ⊎ ((c ≡ code ">") ⊎ (c ≡ code "|")) → ⊥) → ((c ≡ code "E") ⊎ (c ≡ code "U") → ⊥)
-    → (c ≡ code "C" → ⊥) → (c ≡ code "Q" → ⊥) → Malformed ≡ lineAnswer (lineOf c (fields s))
+    → (c ≡ code "C" → ⊥) → (c ≡ code "Q" → ⊥) → malformed ≡ lineAnswer (lineOf c (fields s))
 unfolding lineOf lineAnswer
 letter-other c s f p v a o q l g =
     simp (
@@ -100,7 +100,7 @@ letter-other c s f p v a o q l g =
 -- the whole line
 
 -- An empty line is malformed.
-pub line-empty : (s : List ℕ) → length s ≡ 0 → Malformed ≡ lineAnswer (parseLine s)
+pub line-empty : (s : List ℕ) → length s ≡ 0 → malformed ≡ lineAnswer (parseLine s)
 unfolding parseLine ofFields fields lineAnswer
 line-empty [] h = refl
 line-empty (c ∷ cs) h = absurd (omega arith)
@@ -113,7 +113,7 @@ line-true (c ∷ []) h e = rw (alone c, e)
 line-true (c ∷ d ∷ ds) h e = absurd (omega arith)
 
 -- A letter alone other than Y is malformed.
-pub line-alone : (s : List ℕ) → length s ≡ 1 → (getD s 0 0 ≡ code "Y" → ⊥) → Malformed ≡ lineAnswer (parseLine s)
+pub line-alone : (s : List ℕ) → length s ≡ 1 → (getD s 0 0 ≡ code "Y" → ⊥) → malformed ≡ lineAnswer (parseLine s)
 unfolding lineOf numbers noNumber oneNumber twoNumbers withVariable application declaration lineAnswer
 line-alone [] h e = absurd (omega arith)
 line-alone (c ∷ []) h e = rw (alone c) (simp (ne-eqb c (code "Y") e, cond-same))
@@ -127,7 +127,7 @@ line-fields (c ∷ []) h k e = absurd (k refl)
 line-fields (c ∷ d ∷ ds) h k e = rw (rest-part 2 (c ∷ d ∷ ds), e) (rw (lettered c ds))
 
 -- Where another byte than a tab follows the letter, the line is malformed.
-pub line-long : (s : List ℕ) → (length s ≡ 0 → ⊥) → (length s ≡ 1 → ⊥) → (getD s 1 0 ≡ tab → ⊥) → Malformed ≡ lineAnswer (parseLine s)
+pub line-long : (s : List ℕ) → (length s ≡ 0 → ⊥) → (length s ≡ 1 → ⊥) → (getD s 1 0 ≡ tab → ⊥) → malformed ≡ lineAnswer (parseLine s)
 unfolding lineAnswer
 line-long [] h k e = absurd (h refl)
 line-long (c ∷ []) h k e = absurd (k refl)

@@ -9,6 +9,8 @@ use lib.ListN.{take}
 use Rattle.sheet_format.specs.Bytes.{tab, number, isName}
 use Rattle.line_parser.specs.declared.fields.Number.{Number}
 use Rattle.line_parser.specs.declared.fields.Number.the-variants.{Value, Bad}
+use Rattle.line_parser.specs.declared.names.Name.{Name}
+use Rattle.line_parser.specs.declared.names.Name.the-variants.{Of, NotAName}
 
 -- The position of the first tab, or the length where there is none.
 unfoldable pub fieldLen : List ℕ → ℕ
@@ -31,3 +33,7 @@ firstNumber s = numberAnswer (fieldLen s) (number (firstField s))
 -- The first field if it is a name, and nothing otherwise.
 unfoldable pub firstName : List ℕ → List ℕ
 firstName s = cond (isName (firstField s)) (firstField s) []
+
+-- What a part of n bytes says: a name of so many bytes, or none where it is empty.
+unfoldable pub nameAnswer : ℕ → Name
+nameAnswer n = cond (eqb n 0) NotAName (Of n)

@@ -13,11 +13,11 @@ use Rattle.line_parser.specs.declared.lines.Nodes.{Nodes}
 use Rattle.line_parser.specs.declared.lines.NodeLine.{NodeLine}
 use Rattle.line_parser.specs.declared.lines.NodeLine.the-variants.{Variable, Apply, True, And, Or, Implies, Exists, Forall}
 use Rattle.line_parser.specs.declared.lines.Line.{Line}
-use Rattle.line_parser.specs.declared.lines.Line.the-variants.{Declare, Node, Clause, Goal, Malformed}
+use Rattle.line_parser.specs.declared.lines.Line.the-variants.{Declare, Node, Clause, Goal, Refused}
 use Rattle.line_parser.specs.declared.lines.One.{One}
-use Rattle.line_parser.specs.declared.lines.One.the-variants.{Only, NotOne}
+use Rattle.line_parser.specs.declared.lines.One.the-variants.{Only, Refused as RefusedOne}
 use Rattle.line_parser.specs.declared.lines.Two.{Two}
-use Rattle.line_parser.specs.declared.lines.Two.the-variants.{Both, NotTwo}
+use Rattle.line_parser.specs.declared.lines.Two.the-variants.{Both, Refused as RefusedTwo}
 
 -- The nodes of an application: how many, and the first four, 0 where there are fewer.
 unfoldable pub nodesOf : List ℕ → Nodes
@@ -34,9 +34,13 @@ nodeAnswer (impliesLine n m) = Implies n m
 nodeAnswer (someLine v n) = Exists v n
 nodeAnswer (everyLine v n) = Forall v n
 
+-- "A line is malformed": refusal 6.
+abbrev pub malformed : Line
+malformed = Refused 6
+
 -- The answer for a line. Of a declared name it has the length: the name starts at offset 2 of the line.
 unfoldable pub lineAnswer : Option SheetLine → Line
-lineAnswer none = Malformed
+lineAnswer none = malformed
 lineAnswer (some (declareLine k n a)) = Declare k (length n) a
 lineAnswer (some (nodeLine l)) = Node (nodeAnswer l)
 lineAnswer (some (clauseLine n)) = Clause n
@@ -65,29 +69,36 @@ lineBack s (Declare k n a) = some (declareLine k (take n (drop 2 s)) a)
 lineBack s (Node l) = some (nodeLine (nodeBack l))
 lineBack s (Clause n) = some (clauseLine n)
 lineBack s (Goal n) = some (goalLine n)
-lineBack s Malformed = none
+lineBack s (Refused n) = none
 
 -- Steps of the reader
 
+-- The refusals of the readers of one number and of two: 6 as well.
+abbrev pub malformedOne : One
+malformedOne = RefusedOne 6
+
+abbrev pub malformedTwo : Two
+malformedTwo = RefusedTwo 6
+
 -- One number.
 unfoldable pub oneAnswer : Option (List ℕ) → One
-oneAnswer none = NotOne
-oneAnswer (some []) = NotOne
+oneAnswer none = malformedOne
+oneAnswer (some []) = malformedOne
 oneAnswer (some (n ∷ [])) = Only n
-oneAnswer (some (n ∷ m ∷ ns)) = NotOne
+oneAnswer (some (n ∷ m ∷ ns)) = malformedOne
 
 -- Two numbers.
 unfoldable pub twoAnswer : Option (List ℕ) → Two
-twoAnswer none = NotTwo
-twoAnswer (some []) = NotTwo
-twoAnswer (some (n ∷ [])) = NotTwo
+twoAnswer none = malformedTwo
+twoAnswer (some []) = malformedTwo
+twoAnswer (some (n ∷ [])) = malformedTwo
 twoAnswer (some (n ∷ m ∷ [])) = Both n m
-twoAnswer (some (n ∷ m ∷ o ∷ ns)) = NotTwo
+twoAnswer (some (n ∷ m ∷ o ∷ ns)) = malformedTwo
 
 -- The declaration with a name of n bytes and that number as its arity.
 unfoldable pub arityAnswer : Bool → ℕ → One → Line
-arityAnswer k n (Only a) = cond (leb a maxArity) (Declare k n a) Malformed
-arityAnswer k n NotOne = Malformed
+arityAnswer k n (Only a) = cond (leb a maxArity) (Declare k n a) malformed
+arityAnswer k n (RefusedOne m) = malformed
 
 -- One node more; a fifth is not asked for.
 unfoldable pub pushNode : Nodes → ℕ → Nodes
@@ -100,11 +111,11 @@ pushNode ns n =
 -- The application of f to the nodes read so far and the further ones.
 unfoldable pub applyOn : ℕ → Nodes → List ℕ → Line
 applyOn f ns [] = Node (Apply f ns)
-applyOn f ns (m ∷ ms) = cond (ltb (ns .count) maxArity) (applyOn f (pushNode ns m) ms) Malformed
+applyOn f ns (m ∷ ms) = cond (ltb (ns .count) maxArity) (applyOn f (pushNode ns m) ms) malformed
 
 -- The same, where the further fields may be no numbers.
 unfoldable pub applyAnswer : ℕ → Nodes → Option (List ℕ) → Line
-applyAnswer f ns none = Malformed
+applyAnswer f ns none = malformed
 applyAnswer f ns (some ms) = applyOn f ns ms
 
 -- The lines with two nodes, by their letter.

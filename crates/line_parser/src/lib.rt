@@ -1,5 +1,4 @@
-// Reading a line of a sheet, without its LF: its letter tells its kind. Malformed is what the reader of the sheet refuses with
-// number 6.
+// Reading a line of a sheet, without its LF: its letter tells its kind. A line that is malformed is refused with number 6.
 mod fields;
 mod line_kinds;
 pub mod lines;
@@ -14,6 +13,7 @@ use line_kinds::read_quantifier;
 use line_kinds::read_variable;
 use lines::Line;
 use lines::NodeLine;
+use outcomes::refusals;
 ghost use mathlib.Core.Path.{_≡_};
 ghost use Rattle.sheet_format.specs.Bytes.{fields};
 ghost use Rattle.sheet_format.specs.SheetLines.{lineOf, parseLine};
@@ -32,7 +32,7 @@ fn read_fields(s: &[u8], letter: u8) -> Line
         b'E' | b'U' => read_quantifier(s, letter),
         b'C' => read_clause(s),
         b'Q' => read_goal(s),
-        _ => Line::Malformed,
+        _ => Line::Refused(refusals::MALFORMED),
     }
 }
 
@@ -41,16 +41,16 @@ pub fn read_line(s: &[u8]) -> Line
     ensures { λ r. ⌜ r ≡ lineAnswer (parseLine (now (s .entry))) ⌝ }
 {
     if s.len() == 0 {
-        return Line::Malformed;
+        return Line::Refused(refusals::MALFORMED);
     }
     if s.len() == 1 {
         if s[0] == b'Y' {
             return Line::Node(NodeLine::True);
         }
-        return Line::Malformed;
+        return Line::Refused(refusals::MALFORMED);
     }
     if s[1] == b'\t' {
         return read_fields(&s[2..], s[0]);
     }
-    Line::Malformed
+    Line::Refused(refusals::MALFORMED)
 }

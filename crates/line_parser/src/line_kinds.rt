@@ -8,6 +8,8 @@ use super::lines::Two;
 use super::lines::one_number;
 use super::lines::read_nodes;
 use super::lines::two_numbers;
+use super::names::Name;
+use outcomes::refusals;
 use sheet_format::limits;
 ghost use mathlib.Core.Path.{_≡_};
 ghost use Rattle.sheet_format.specs.Bytes.{fields};
@@ -20,10 +22,10 @@ fn declared_arity(s: &[u8], function: bool, n: usize) -> Line
     ensures { λ r. ⌜ r ≡ arityAnswer function n (oneAnswer (numbers (fields (now (s .entry))))) ⌝ }
 {
     let One::Only(a) = one_number(s) else {
-        return Line::Malformed;
+        return Line::Refused(refusals::MALFORMED);
     };
     if limits::MAX_ARITY < a {
-        return Line::Malformed;
+        return Line::Refused(refusals::MALFORMED);
     }
     Line::Declare(function, n, a)
 }
@@ -33,12 +35,11 @@ pub fn read_declaration(s: &[u8], function: bool) -> Line
     ensures { λ r. ⌜ r ≡ lineAnswer (declaration function (fields (now (s .entry)))) ⌝ }
 {
     let name = super::names::read_name(s);
-    let n = name.len();
-    if n == 0 {
-        return Line::Malformed;
-    }
+    let Name::Of(n) = super::names::name_of(name) else {
+        return Line::Refused(refusals::MALFORMED);
+    };
     if s.len() <= n {
-        return Line::Malformed;
+        return Line::Refused(refusals::MALFORMED);
     }
     declared_arity(&s[n + 1..], function, n)
 }
@@ -48,10 +49,10 @@ pub fn read_variable(s: &[u8]) -> Line
     ensures { λ r. ⌜ r ≡ lineAnswer (oneNumber (λ v. nodeLine (variableLine v)) (withVariable (numbers (fields (now (s .entry)))))) ⌝ }
 {
     let One::Only(v) = one_number(s) else {
-        return Line::Malformed;
+        return Line::Refused(refusals::MALFORMED);
     };
     if limits::VARIABLE_NAMES <= v {
-        return Line::Malformed;
+        return Line::Refused(refusals::MALFORMED);
     }
     Line::Node(NodeLine::Variable(v))
 }
@@ -61,7 +62,7 @@ pub fn read_clause(s: &[u8]) -> Line
     ensures { λ r. ⌜ r ≡ lineAnswer (oneNumber clauseLine (numbers (fields (now (s .entry))))) ⌝ }
 {
     let One::Only(n) = one_number(s) else {
-        return Line::Malformed;
+        return Line::Refused(refusals::MALFORMED);
     };
     Line::Clause(n)
 }
@@ -71,7 +72,7 @@ pub fn read_goal(s: &[u8]) -> Line
     ensures { λ r. ⌜ r ≡ lineAnswer (oneNumber goalLine (numbers (fields (now (s .entry))))) ⌝ }
 {
     let One::Only(n) = one_number(s) else {
-        return Line::Malformed;
+        return Line::Refused(refusals::MALFORMED);
     };
     Line::Goal(n)
 }
@@ -81,7 +82,7 @@ pub fn read_connective(s: &[u8], letter: u8) -> Line
     ensures { λ r. ⌜ r ≡ lineAnswer (connectiveOf letter (numbers (fields (now (s .entry))))) ⌝ }
 {
     let Two::Both(n, m) = two_numbers(s) else {
-        return Line::Malformed;
+        return Line::Refused(refusals::MALFORMED);
     };
     if letter == b'&' {
         return Line::Node(NodeLine::And(n, m));
@@ -92,7 +93,7 @@ pub fn read_connective(s: &[u8], letter: u8) -> Line
     if letter == b'>' {
         return Line::Node(NodeLine::Implies(n, m));
     }
-    Line::Malformed
+    Line::Refused(refusals::MALFORMED)
 }
 
 // E U: a variable and a node.
@@ -100,10 +101,10 @@ pub fn read_quantifier(s: &[u8], letter: u8) -> Line
     ensures { λ r. ⌜ r ≡ lineAnswer (quantifierOf letter (numbers (fields (now (s .entry))))) ⌝ }
 {
     let Two::Both(variable, n) = two_numbers(s) else {
-        return Line::Malformed;
+        return Line::Refused(refusals::MALFORMED);
     };
     if limits::VARIABLE_NAMES <= variable {
-        return Line::Malformed;
+        return Line::Refused(refusals::MALFORMED);
     }
     if letter == b'E' {
         return Line::Node(NodeLine::Exists(variable, n));
@@ -111,7 +112,7 @@ pub fn read_quantifier(s: &[u8], letter: u8) -> Line
     if letter == b'U' {
         return Line::Node(NodeLine::Forall(variable, n));
     }
-    Line::Malformed
+    Line::Refused(refusals::MALFORMED)
 }
 
 // A: a symbol and its nodes.
@@ -119,7 +120,7 @@ pub fn read_application(s: &[u8]) -> Line
     ensures { λ r. ⌜ r ≡ lineAnswer (application (numbers (fields (now (s .entry))))) ⌝ }
 {
     let Number::Value(f, e) = super::fields::read_number(s) else {
-        return Line::Malformed;
+        return Line::Refused(refusals::MALFORMED);
     };
     let none = Nodes {
         count: 0,

@@ -1,6 +1,7 @@
 // The parts of a line of a sheet, without its LF: one number, two, and the node numbers of an A line. Each reader takes the rest of
 // the line as a part, reads one field, and hands the rest on.
 use super::fields::Number;
+use outcomes::refusals;
 use sheet_format::limits;
 ghost use mathlib.Core.Path.{_≡_};
 ghost use mathlib.Core.Option.{some};
@@ -35,19 +36,20 @@ pub enum Line {
     Node(NodeLine),
     Clause(u32),
     Goal(u32),
-    Malformed,
+    // A malformed line, with the refusal's number: 6.
+    Refused(u32),
 }
 
-// The rest of a line as one number.
+// The rest of a line as one number, or the refusal's number: 6.
 pub enum One {
     Only(u32),
-    NotOne,
+    Refused(u32),
 }
 
-// The rest of a line as two numbers.
+// The rest of a line as two numbers, or the refusal's number: 6.
 pub enum Two {
     Both(u32, u32),
-    NotTwo,
+    Refused(u32),
 }
 
 // One number and no further field.
@@ -55,10 +57,10 @@ pub fn one_number(s: &[u8]) -> One
     ensures { λ r. ⌜ r ≡ oneAnswer (numbers (fields (now (s .entry)))) ⌝ }
 {
     let Number::Value(n, e) = super::fields::read_number(s) else {
-        return One::NotOne;
+        return One::Refused(refusals::MALFORMED);
     };
     if e < s.len() {
-        return One::NotOne;
+        return One::Refused(refusals::MALFORMED);
     }
     One::Only(n)
 }
@@ -68,7 +70,7 @@ fn second_number(s: &[u8], n: u32) -> Two
     ensures { λ r. ⌜ r ≡ twoAnswer (consNumber (some n) (numbers (fields (now (s .entry))))) ⌝ }
 {
     let One::Only(m) = one_number(s) else {
-        return Two::NotTwo;
+        return Two::Refused(refusals::MALFORMED);
     };
     Two::Both(n, m)
 }
@@ -78,10 +80,10 @@ pub fn two_numbers(s: &[u8]) -> Two
     ensures { λ r. ⌜ r ≡ twoAnswer (numbers (fields (now (s .entry)))) ⌝ }
 {
     let Number::Value(n, e) = super::fields::read_number(s) else {
-        return Two::NotTwo;
+        return Two::Refused(refusals::MALFORMED);
     };
     if s.len() <= e {
-        return Two::NotTwo;
+        return Two::Refused(refusals::MALFORMED);
     }
     second_number(&s[e + 1..], n)
 }
@@ -132,10 +134,10 @@ pub fn read_nodes(s: &[u8], f: u32, ns: Nodes) -> Line
     ensures { λ r. ⌜ r ≡ applyAnswer f ns (numbers (fields (now (s .entry)))) ⌝ }
 {
     let Number::Value(n, e) = super::fields::read_number(s) else {
-        return Line::Malformed;
+        return Line::Refused(refusals::MALFORMED);
     };
     if limits::MAX_ARITY <= ns.count {
-        return Line::Malformed;
+        return Line::Refused(refusals::MALFORMED);
     }
     let more = push_node(ns, n);
     if s.len() <= e {

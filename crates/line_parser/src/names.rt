@@ -2,8 +2,9 @@
 use super::fields::field_len;
 use sheet_format::limits;
 ghost use mathlib.Core.Path.{_≡_};
+ghost use lib.ListN.{length};
 ghost use Rattle.sheet_format.specs.Bytes.{isLetter, isNameByte, nameBytes, isName};
-ghost use Rattle.line_parser.specs.Fields.{firstName};
+ghost use Rattle.line_parser.specs.Fields.{firstName, nameAnswer};
 
 // The byte is a letter, a to z.
 fn is_letter(b: u8) -> bool
@@ -77,4 +78,19 @@ pub fn read_name(s: &[u8]) -> &[u8]
         return &s[..n];
     }
     &s[..0]
+}
+
+// What the part says that `read_name` returned: a name of so many bytes, or none. An enum cannot hold the part itself.
+pub enum Name {
+    Of(usize),
+    NotAName,
+}
+
+pub fn name_of(part: &[u8]) -> Name
+    ensures { λ r. ⌜ r ≡ nameAnswer (length (now (part .entry))) ⌝ }
+{
+    if part.len() == 0 {
+        return Name::NotAName;
+    }
+    Name::Of(part.len())
 }

@@ -11,7 +11,8 @@ use memory::widen;
 use scanning::Scan;
 use term_scanner::scan_term;
 ghost use mathlib.Core.Path.{_≡_};
-ghost use Prim.Native.Nat.{_+_, _<_};
+ghost use Prim.Native.Nat.{_+_, _<_, _≤_};
+ghost use lib.ListN.{length};
 ghost use Rattle.line_checking.specs.Sequents.{made};
 ghost use Rattle.line_checking.specs.Bindings.{bindWith, bindTerm, bindsVariable, bindLine};
 
@@ -53,7 +54,7 @@ pub fn bind_term(
     r: Registers,
     line: Line,
 ) -> Registers
-    requires { ⌜ (line .at < 4294967296) × (line .end < 4294967296) ⌝ }
+    requires { ⌜ (length (now text) ≤ 65535) × (line .at < 4294967296) × (line .end < 4294967296) ⌝ }
     ensures { λ s. ⌜ made (now (w .exit)) s ≡ bindTerm (now (sheet .entry)) (now (t .entry)) (shape .symbols) (shape .goal)
         (now (text .entry)) (now (w .entry)) r (line .number) (line .at) (line .end) ⌝ }
 {
@@ -88,7 +89,7 @@ pub fn bind_line(
     r: Registers,
     line: Line,
 ) -> Registers
-    requires { ⌜ (line .at + 4 < 4294967296) × (line .end < 4294967296) ⌝ }
+    requires { ⌜ (length (now text) ≤ 65535) × (line .at + 4 < 4294967296) × (line .end < 4294967296) ⌝ }
     ensures { λ s. ⌜ made (now (w .exit)) s ≡ bindLine (now (sheet .entry)) (now (t .entry)) (shape .symbols) (shape .goal)
         (now (text .entry)) (now (w .entry)) r (line .number) (line .at) (line .end) ⌝ }
 {

@@ -24,7 +24,7 @@ use scanning::Scan;
 use scanning::fields;
 use term_scanner::tokens::scan_number;
 ghost use mathlib.Core.Path.{_≡_};
-ghost use Prim.Native.Nat.{_+_, _<_, _-_};
+ghost use Prim.Native.Nat.{_+_, _<_, _≤_, _-_};
 ghost use lib.ListN.{length};
 ghost use Rattle.line_checking.specs.Sequents.{made};
 ghost use Rattle.line_checking.specs.Clauses.{withBody, useMember, clauseFields, clauseLine};
@@ -89,7 +89,7 @@ pub fn clause_fields(
     r: Registers,
     line: Line,
 ) -> Registers
-    requires { ⌜ (length (now text) < 4294967296) × (line .end < 4294967296) ⌝ }
+    requires { ⌜ (length (now text) ≤ 65535) × (line .end < 4294967296) ⌝ }
     ensures { λ s. ⌜ made (now (w .exit)) s ≡ clauseFields (now (sheet .entry)) (now (t .entry)) (shape .symbols) (shape .clauses)
         (now (text .entry)) (now (w .entry)) r (line .number) (line .at) (line .end) ⌝ }
 {
@@ -131,7 +131,7 @@ pub fn clause_line(
     r: Registers,
     line: Line,
 ) -> Registers
-    requires { ⌜ (length (now text) < 4294967296) × (line .at < 4294967296) × (line .end < 4294967296) ⌝ }
+    requires { ⌜ (length (now text) ≤ 65535) × (line .at < 4294967296) × (line .end < 4294967296) ⌝ }
     ensures { λ s. ⌜ made (now (w .exit)) s ≡ clauseLine (now (sheet .entry)) (now (t .entry)) (shape .symbols) (shape .clauses)
         (now (text .entry)) (now (w .entry)) r (line .number) (line .at) (line .end) ⌝ }
 {

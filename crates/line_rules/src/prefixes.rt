@@ -7,7 +7,7 @@ use scanning::Scan;
 use sheet_format::limits;
 use term_scanner::scan_term;
 ghost use mathlib.Core.Path.{_≡_};
-ghost use Prim.Native.Nat.{_+_, _<_, _%_};
+ghost use Prim.Native.Nat.{_+_, _<_, _≤_, _%_};
 ghost use lib.ListN.{length};
 ghost use Rattle.line_checking.specs.Clauses.{read, prefixTerm, prefixAt, prefixFrom};
 
@@ -50,7 +50,7 @@ pub fn prefix_at(
     line: Line,
     prefix: Prefix,
 ) -> Scan
-    requires { ⌜ (length (now text) < 4294967296) × (line .end < 4294967296) ⌝ }
+    requires { ⌜ (length (now text) ≤ 65535) × (line .end < 4294967296) ⌝ }
     ensures { λ a. ⌜ read (now (w .exit)) a ≡ prefixAt (now (sheet .entry)) (now (t .entry)) symbols (now (text .entry)) (now (w .entry))
         (line .number) (prefix .names % 8) (line .at) (prefix .level) (line .end) ⌝ }
 {
@@ -75,7 +75,7 @@ pub fn prefix_from(
     line: Line,
     prefix: Prefix,
 ) -> Scan
-    requires { ⌜ (length (now text) < 4294967296) × (line .end < 4294967296) ⌝ }
+    requires { ⌜ (length (now text) ≤ 65535) × (line .end < 4294967296) ⌝ }
     ensures { λ a. ⌜ read (now (w .exit)) a ≡ prefixFrom (prefix .count) (now (sheet .entry)) (now (t .entry)) symbols (now (text .entry))
         (now (w .entry)) (line .number) (prefix .names) (line .at) (prefix .level) (line .end) ⌝ }
 {

@@ -14,7 +14,8 @@ use scanning::Scan;
 use term_scanner::scan_symbol;
 use term_scanner::scan_term;
 ghost use mathlib.Core.Path.{_≡_};
-ghost use Prim.Native.Nat.{_+_, _<_};
+ghost use Prim.Native.Nat.{_+_, _<_, _≤_};
+ghost use lib.ListN.{length};
 ghost use Rattle.line_checking.specs.Sequents.{made};
 ghost use Rattle.line_checking.specs.Rules.{bindGoal, someWith, someTerm, someLine, allWith, allConstant, allLine};
 
@@ -54,7 +55,7 @@ pub fn some_term(
     r: Registers,
     line: Line,
 ) -> Registers
-    requires { ⌜ (line .at < 4294967296) × (line .end < 4294967296) ⌝ }
+    requires { ⌜ (length (now text) ≤ 65535) × (line .at < 4294967296) × (line .end < 4294967296) ⌝ }
     ensures { λ s. ⌜ made (now (w .exit)) s ≡ someTerm (now (sheet .entry)) (now (t .entry)) (shape .symbols) (now (text .entry))
         (now (w .entry)) r (line .number) (line .at) (line .end) ⌝ }
 {
@@ -74,7 +75,7 @@ pub fn some_line(
     r: Registers,
     line: Line,
 ) -> Registers
-    requires { ⌜ (line .at + 7 < 4294967296) × (line .end < 4294967296) ⌝ }
+    requires { ⌜ (length (now text) ≤ 65535) × (line .at + 7 < 4294967296) × (line .end < 4294967296) ⌝ }
     ensures { λ s. ⌜ made (now (w .exit)) s ≡ someLine (now (sheet .entry)) (now (t .entry)) (shape .symbols) (now (text .entry))
         (now (w .entry)) r (line .number) (line .at) (line .end) ⌝ }
 {

@@ -17,7 +17,8 @@ use Rattle.node_table.specs.Decoding.{termAt, declarationsFrom}
 use Rattle.node_table.proofs.Decoding.{Nodes}
 use Rattle.text_judging.specs.Judging.{sameTerm}
 use Rattle.text_judging.proofs.Infer.{sameTerm-true}
-use Rattle.scanning.specs.Classes.{nameElement, nodeElement, elementOf, isNameElement, elementSide, elementName, elementNode, sideFrame}
+use Rattle.scanning.specs.Classes.{nameElement, nodeElement, elementOf, isNameElement, elementSide, elementName, elementNode}
+use Rattle.scanning.specs.Classes.{sideFrame}
 use Rattle.scanning.specs.Instances.{startOf, endOf, sameName}
 use Rattle.scanning.proofs.TermsInText.{SpelledAt, spelled-at-once, same-slots}
 use Rattle.scanning.proofs.Nodes.{TermIn, is-instance, slot-of}

@@ -355,7 +355,8 @@ module _ (b t : List ℕ) (symbols : ℕ) (names : Names (declarationsFrom b t s
             joined-same o i j
             ∙ compares-arguments f g e d r n (compares-elements f g e d n) i j separate (h .arguments)
             (k .arguments)
-            (eqb-true (labelOf t (elementNode i)) (labelOf t (elementNode j)) l) (atom-means i h) (atom-means j k) (λ a o. comparisons-most f g e d _ n high)
+            (eqb-true (labelOf t (elementNode i)) (labelOf t (elementNode j)) l) (atom-means i h) (atom-means j k)
+            (λ a o. comparisons-most f g e d _ n high)
             (separate-forest (λ a c. Alike b t symbols names x nodes table few w f g e d a c) (alike-self f g e d)
             (alike-then f g e d)) .answer
         go false l = refl

@@ -14,7 +14,8 @@ use Rattle.scanning.specs.declared.Reach.the-variants.{To, Differs}
 use Rattle.scanning.specs.Ranges.{sameRange}
 use Rattle.scanning.specs.Scanning.{nameSize}
 use Rattle.scanning.specs.Frames.{slotStart, slotEnd}
-use Rattle.scanning.specs.Classes.{nodeElement, isNameElement, elementSide, elementName, elementNode, elementChild, sideFrame, separate}
+use Rattle.scanning.specs.Classes.{nodeElement, isNameElement, elementSide, elementName, elementNode, elementChild, sideFrame}
+use Rattle.scanning.specs.Classes.{separate}
 use Rattle.scanning.specs.Classes.{rootOf}
 
 -- Two terms of the text, from s to e and from i to j. Where they start at one position they are one term.

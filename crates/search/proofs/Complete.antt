@@ -16,11 +16,11 @@ use Rattle.terms.proofs.Terms.{substitutes-substitutes}
 use Rattle.formulas.specs.Formulas.{Goal, atom, truth, and, or, implies, exists, forall, Clause, freeG}
 use Rattle.sequents.specs.Symbols.{Symbol, made, symbolLevel, Ground, level}
 use Rattle.sequents.specs.Sequents.{Environment, Program, Entry, entries, Sequent, sequent, assign, bodySequent, Line, putEnvironment}
-use Rattle.sequents.specs.Sequents.{putProgram, putEntry, putSequent}
+use Rattle.sequents.specs.Sequents.{putProgram, putSequent}
 use Rattle.sequents.specs.Derivations.{Instantiates, Derivation, d-true, d-and, d-left, d-right, d-assume, d-some, d-all, d-clause}
 use Rattle.sequents.specs.Derivations.{BodyDerivation, b-some, Derivable, instanceOf, InstanceDerivation}
 use Rattle.sequents.specs.Promises.{AgreeOn, Closed}
-use Rattle.sequents.proofs.Sequents.{entries-put, update-put, assign-put, assign-all, entries-all, instance-put, sheet-all}
+use Rattle.sequents.proofs.Sequents.{putEntry, entries-put, update-put, assign-put, assign-all, entries-all, instance-put, sheet-all}
 use Rattle.sequents.proofs.Constants.{LowEnvironment, LowProgram, another-constant}
 use Rattle.sequents.proofs.Locality.{local}
 use Rattle.unification.specs.Store.{Leaf, var, con, Store, fresh, freshVariables}

@@ -12,8 +12,8 @@ use Rattle.terms.proofs.Lists.{map-append, map-map, map-agree}
 use Rattle.formulas.specs.Formulas.{Clause, fact, rule, both, each, freeTs, freeB}
 use Rattle.formulas.specs.Members.{Member, members, quantify, standsFree}
 use Rattle.formulas.proofs.Free.{substitutes-free}
-use Rattle.sequents.specs.Sequents.{Program, putProgram, Entry, entry, putEntry, entries}
-use Rattle.sequents.proofs.Sequents.{entries-put}
+use Rattle.sequents.specs.Sequents.{Program, putProgram, Entry, entry, entries}
+use Rattle.sequents.proofs.Sequents.{putEntry, entries-put}
 use Rattle.unification.specs.Store.{Leaf, at}
 use Rattle.search.specs.Paper.{name, Names, bound, formulaD, names, Elaborated, generalize, elab, elabs}
 use Rattle.search.specs.Procedure.{formulasOf}

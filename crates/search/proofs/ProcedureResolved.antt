@@ -8,7 +8,8 @@ use Rattle.terms.specs.Terms.{Term, leaf, Terms, substitute, substitutes}
 use Rattle.terms.proofs.Lists.{all-append, all-weaken, map-append}
 use Rattle.terms.proofs.Terms.{substitutes-substitutes}
 use Rattle.formulas.specs.Formulas.{Goal, Clause}
-use Rattle.sequents.specs.Sequents.{putEnvironment, Entry, putEntry, entries, Sequent, bodySequent, Dclause}
+use Rattle.sequents.specs.Sequents.{putEnvironment, Entry, entries, Sequent, bodySequent, Dclause}
+use Rattle.sequents.proofs.Sequents.{putEntry}
 use Rattle.unification.specs.Store.{Leaf, var, Store, past, fresh, freshVariables, at, solution}
 use Rattle.unification.specs.Matching.{pairs}
 use Rattle.unification.specs.Labelled.{Labelling}

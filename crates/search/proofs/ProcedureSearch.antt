@@ -55,7 +55,9 @@ follows-answer s gs path h f (var x) =
     ∙ substitute-agree (solution s x) (symbolUnder (f .state .labels)) (symbolUnder (s .level)) symbol
   where
     symbol : (a : Leaf) → Appears (solution s x) a → symbolUnder (f .state .labels) a ≡ symbolUnder (s .level) a
-    symbol (var y) i = unfold symbolUnder in ap (λ (k : ℕ). leaf (leftover y k)) (f .labels y (appears-unbound (s .bindings) x y (h .bound) i))
+    symbol (var y) i =
+        unfold symbolUnder in
+        ap (λ (k : ℕ). leaf (leftover y k)) (f .labels y (appears-unbound (s .bindings) x y (h .bound) i))
     symbol (con c k) i = unfold symbolUnder in refl
 
 -- Promise T4 holds: every search follows the derivation steps.

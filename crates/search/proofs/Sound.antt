@@ -14,9 +14,9 @@ use Rattle.terms.proofs.Terms.{substitutes-substitutes}
 use Rattle.formulas.specs.Formulas.{Goal, atom, truth, and, or, implies, exists, forall, Clause}
 use Rattle.sequents.specs.Symbols.{Symbol, Ground, level}
 use Rattle.sequents.specs.Sequents.{Environment, Program, Entry, entries, Sequent, sequent, assign, Dtrue, Dand, Dleft, Dright, Dassume}
-use Rattle.sequents.specs.Sequents.{Line, plain, Dsome, Dall, Dclause, putTerms, putEnvironment, putProgram, putEntry, putSequent, putLine}
+use Rattle.sequents.specs.Sequents.{Line, plain, Dsome, Dall, Dclause, putTerms, putEnvironment, putProgram, putSequent, putLine}
 use Rattle.sequents.specs.Lines.{Uses, Infers, Leads, Derives}
-use Rattle.sequents.proofs.Sequents.{entries-put, assign-put, instance-put}
+use Rattle.sequents.proofs.Sequents.{putEntry, entries-put, assign-put, instance-put}
 use Rattle.sequents.proofs.Lines.{leads-append}
 use Rattle.unification.specs.Store.{Leaf, var, con, Store, fresh, freshVariables}
 use Rattle.unification.specs.Matching.{Matching, pairs, check, fail, matchStep}

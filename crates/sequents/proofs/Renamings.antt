@@ -9,12 +9,12 @@ use Rattle.terms.proofs.Terms.{level-rename}
 use Rattle.formulas.specs.Formulas.{Goal, atom, truth, and, or, implies, exists, forall}
 use Rattle.sequents.specs.Symbols.{Symbol, made, leftover, symbolLevel, Ground, level}
 use Rattle.sequents.specs.Sequents.{Environment, Program, Entry, Sequent, sequent, assign, bodySequent, Line, Dclause, putTerms}
-use Rattle.sequents.specs.Sequents.{putEnvironment, putProgram, putEntry, putLine}
+use Rattle.sequents.specs.Sequents.{putEnvironment, putProgram, putLine}
 use Rattle.sequents.specs.Derivations.{Instantiates, lines}
 use Rattle.sequents.specs.Lines.{Uses, Infers, Leads}
 use Rattle.sequents.specs.Renamings.{Renaming, rename, renamed, renameSequent, renameLine}
 use Rattle.sequents.specs.Promises.{Renames}
-use Rattle.sequents.proofs.Sequents.{entries-put, update-put, assign-put, body-put, arguments-put}
+use Rattle.sequents.proofs.Sequents.{putEntry, entries-put, update-put, assign-put, body-put, arguments-put}
 use Rattle.sequents.proofs.Lines.{trees-are-lines}
 
 -- Renaming keeps the level of a symbol.

@@ -10,9 +10,13 @@ use Rattle.terms.proofs.Lists.{map-append, map-map, update-map, update-all, all
 use Rattle.terms.proofs.Terms.{substitutes-substitutes}
 use Rattle.formulas.specs.Formulas.{Goal, Clause}
 use Rattle.formulas.specs.Members.{Member, members}
-use Rattle.sequents.specs.Sequents.{Environment, Program, hypothesis, entry, entries, sequent, assign, bodySequent, putTerms}
-use Rattle.sequents.specs.Sequents.{putEnvironment, putHypothesis, putProgram, putEntry, putSequent}
+use Rattle.sequents.specs.Sequents.{Environment, Program, hypothesis, Entry, entry, entries, sequent, assign, bodySequent, putTerms}
+use Rattle.sequents.specs.Sequents.{putEnvironment, putHypothesis, putProgram, putSequent}
 use Rattle.sequents.specs.Derivations.{sheetProgram, instanceOf}
+
+-- Another term for each leaf, in a member of a program.
+abbrev pub putEntry : {A B : Type 0} → (A → Term B) → Entry A → Entry B
+putEntry θ m = record { member = m .member; environment = putEnvironment θ (m .environment) }
 
 -- Substituting into a program is substituting into its members.
 pub entries-put : {A B : Type 0} (θ : A → Term B) (P : Program A) → entries (putProgram θ P) ≡ map (putEntry θ) (entries P)

@@ -81,9 +81,6 @@ putHypothesis θ h = record { clause = h .clause; environment = putEnvironment �
 abbrev pub putProgram : {A B : Type 0} → (A → Term B) → Program A → Program B
 putProgram θ P = map (putHypothesis θ) P
 
-abbrev pub putEntry : {A B : Type 0} → (A → Term B) → Entry A → Entry B
-putEntry θ m = record { member = m .member; environment = putEnvironment θ (m .environment) }
-
 abbrev pub putSequent : {A B : Type 0} → (A → Term B) → Sequent A → Sequent B
 putSequent θ g = sequent (g .goal) (putEnvironment θ (g .environment)) (putProgram θ (g .program)) (g .level)
 

@@ -102,7 +102,8 @@ nodeOf symbols nodes (impliesLine n m) =
 nodeOf symbols nodes (someLine v n) =
     Option·map (λ a. record { term = none; goal = Option·map (exists v) (a .goal); clause = none }) (getElem? nodes n)
 nodeOf symbols nodes (everyLine v n) =
-    Option·map (λ a. record { term = none; goal = Option·map (forall v) (a .goal); clause = Option·map (each v) (a .clause) }) (getElem? nodes n)
+    Option·map (λ a. record { term = none; goal = Option·map (forall v) (a .goal); clause = Option·map (each v) (a .clause) })
+    (getElem? nodes n)
 
 -- "A node is neither term, goal nor clause"
 unfoldable pub isSome : {A : Type 0} → Option A → Bool

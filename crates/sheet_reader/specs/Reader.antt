@@ -14,7 +14,8 @@ use Rattle.sheet_format.specs.Sheets.{Read as SheetRead}
 use Rattle.line_parser.specs.declared.lines.NodeLine.{NodeLine}
 use Rattle.line_parser.specs.declared.lines.NodeLine.the-variants.{Variable, Apply, True, And, Or, Implies, Exists, Forall}
 use Rattle.line_parser.specs.declared.lines.Line.{Line}
-use Rattle.line_parser.specs.declared.lines.Line.the-variants.{Declare, Node, Clause, Goal, Malformed}
+use Rattle.line_parser.specs.declared.lines.Line.the-variants.{Declare, Node, Clause, Goal, Refused as RefusedLine}
+use Rattle.line_parser.specs.Fields.{firstName}
 use Rattle.line_parser.specs.Lines.{lineAnswer}
 use Rattle.node_table.specs.Decoding.{decodeSheet}
 use Rattle.node_table.specs.WellMade.{WellMade, Named}
@@ -113,20 +114,29 @@ takeNode t k (Implies n m) = insertImplies t k n m
 takeNode t k (Exists v n) = insertExists t k v n
 takeNode t k (Forall v n) = insertForall t k v n
 
--- The line that starts at `at`: a declared name lies within the sheet.
-unfoldable pub FormedLine : List ℕ → ℕ → Line → Type 0
-FormedLine s at (Declare function n arity) = (at + 2 + n ≤ length s) × (arity ≤ maxArity)
-FormedLine s at (Node l) = FormedNode l
-FormedLine s at (Clause n) = Unit {0}
-FormedLine s at (Goal n) = Unit {0}
-FormedLine s at Malformed = Unit {0}
+-- A declaration from `at` up to `end` with a name of n bytes: the rest after the letter and its tab lies within the sheet, and its first
+-- name is the n bytes there.
+pub record FormedDeclaration (s : List ℕ) (at end n a : ℕ) : Type 0 where
+  pub rest : at + 2 ≤ end
+  pub within : end ≤ length s
+  pub name : firstName (take (end - (at + 2)) (drop (at + 2) s)) ≡ take n (drop (at + 2) s)
+  pub nameWithin : at + 2 + n ≤ length s
+  pub arity : a ≤ maxArity
+
+-- The line from `at` up to `end`.
+unfoldable pub FormedLine : List ℕ → ℕ → ℕ → Line → Type 0
+FormedLine s at end (Declare function n arity) = FormedDeclaration s at end n arity
+FormedLine s at end (Node l) = FormedNode l
+FormedLine s at end (Clause n) = Unit {0}
+FormedLine s at end (Goal n) = Unit {0}
+FormedLine s at end (RefusedLine n) = Unit {0}
 
 unfoldable pub takeLine : List ℕ → List ℕ → Counts → ℕ → Line → Made
 takeLine s t k at (Declare function n arity) = insertDeclaration s t k function (at + 2) n arity
 takeLine s t k at (Node l) = takeNode t k l
 takeLine s t k at (Clause n) = insertClause t k n
 takeLine s t k at (Goal n) = made t (checkGoal t k n)
-takeLine s t k at Malformed = made t (Stop 6)
+takeLine s t k at (RefusedLine n) = made t (Stop n)
 
 -- The line from `at` up to `end`.
 unfoldable pub lineTaken : List ℕ → List ℕ → Counts → ℕ → ℕ → Made

@@ -1,12 +1,13 @@
 // Taking one line of a sheet: it fills the table, or is refused.
 use line_parser::lines::Line;
 use line_parser::lines::NodeLine;
+use line_parser::names::read_name;
 use outcomes::Refusal;
-use outcomes::refusals;
 use table_builder::applications::Arguments;
 use table_builder::applications::insert_application;
 use table_builder::node_info::Counts;
 use table_builder::node_info::Taken;
+use table_builder::symbols::insert_declaration;
 ghost use mathlib.Core.Path.{_≡_};
 ghost use Prim.Native.Nat.{_≤_};
 ghost use lib.ListN.{length};
@@ -60,25 +61,20 @@ fn take_node(t: &mut [u32], k: Counts, l: NodeLine) -> Taken
     }
 }
 
-// The line that starts at `at`; a declared name stands two bytes further on.
-fn take_line(sheet: &[u8], t: &mut [u32], k: Counts, at: usize, l: Line) -> Taken
-    requires { ⌜ (length (now sheet) ≤ maxSheetBytes) × FormedLine (now sheet) at l ⌝ }
+// The line from `at` up to `end`. A declared name stands two bytes further on; the part that the name reader returns is handed on.
+fn take_line(sheet: &[u8], t: &mut [u32], k: Counts, at: usize, end: usize, l: Line) -> Taken
+    requires { ⌜ (length (now sheet) ≤ maxSheetBytes) × FormedLine (now sheet) at end l ⌝ }
     ensures { λ r. ⌜ made (now (t .exit)) r ≡ takeLine (now (sheet .entry)) (now (t .entry)) k at l ⌝ }
 {
     match l {
-        Line::Declare(function, n, arity) => table_builder::symbols::insert_declaration(
-            sheet,
-            t,
-            k,
-            function,
-            at + 2,
-            n,
-            arity,
-        ),
+        Line::Declare(function, _, arity) => {
+            let name = read_name(&sheet[at + 2..end]);
+            insert_declaration(sheet, t, k, function, at + 2, name, arity)
+        }
         Line::Node(node) => take_node(t, k, node),
         Line::Clause(n) => table_builder::node_lines::insert_clause(t, k, n),
         Line::Goal(n) => table_builder::node_lines::check_goal(t, k, n),
-        Line::Malformed => Taken::Stop(refusals::MALFORMED),
+        Line::Refused(number) => Taken::Stop(number),
     }
 }
 
@@ -88,5 +84,5 @@ pub fn read_at(sheet: &[u8], t: &mut [u32], k: Counts, at: usize, end: usize) ->
     ensures { λ r. ⌜ made (now (t .exit)) r ≡ lineTaken (now (sheet .entry)) (now (t .entry)) k at end ⌝ }
 {
     let l = line_parser::read_line(&sheet[at..end]);
-    take_line(sheet, t, k, at, l)
+    take_line(sheet, t, k, at, end, l)
 }

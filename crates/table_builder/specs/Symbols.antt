@@ -1,6 +1,7 @@
 -- What F, P and A lines make in the table: the code's functions on lists. That they agree with the trees of document 01 is proved in
 -- crate table_decoding.
-use Prim.Native.Nat.{ℕ, zero, suc, _+_, _*_}
+use Prim.Native.Nat.{ℕ, zero, suc, _+_, _*_, _≤_}
+use mathlib.Core.Path.{_≡_}
 use mathlib.Core.Bool.{Bool, true, false, cond}
 use mathlib.Core.List.{List, [], _∷_}
 use lib.Bits.{bitOr}
@@ -77,6 +78,10 @@ symbolWritten t i start len word =
 
 unfoldable pub symbolWord : Bool → ℕ → ℕ
 symbolWord function arity = cond function (2 * arity + 1) (2 * arity)
+
+-- The name is a part of the sheet: the bytes from `start` on.
+abbrev pub StandsAt : List ℕ → ℕ → List ℕ → Type 0
+StandsAt sheet start name = (start + length name ≤ length sheet) × (name ≡ take (length name) (drop start sheet))
 
 unfoldable pub insertDeclaration : List ℕ → List ℕ → Counts → Bool → ℕ → ℕ → ℕ → Made
 insertDeclaration sheet t k function start len arity =

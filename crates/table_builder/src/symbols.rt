@@ -15,7 +15,7 @@ ghost use Prim.Native.Nat.{_+_, _*_, _<_, _≤_};
 ghost use lib.ListN.{length, set};
 ghost use Rattle.node_table.specs.Layout.{symbolAt};
 ghost use Rattle.table_builder.specs.Nodes.{made};
-ghost use Rattle.table_builder.specs.Symbols.{symbolWritten, sameAt, nameIs, findName, symbolWord, insertDeclaration};
+ghost use Rattle.table_builder.specs.Symbols.{symbolWritten, sameAt, nameIs, findName, symbolWord, StandsAt, insertDeclaration};
 
 fn put_symbol_field(t: &mut [u32], i: u32, f: usize, x: u32)
     requires { ⌜ f < 3 ⌝ }
@@ -93,28 +93,29 @@ fn to_u32(x: usize) -> u32
     x as u32
 }
 
-// F or P: the name is the `len` bytes of the sheet at `start`.
+// F or P: the name is the part of the sheet that the name reader returned; it stands at `start`.
 pub fn insert_declaration(
     sheet: &[u8],
     t: &mut [u32],
     k: Counts,
     function: bool,
     start: usize,
-    len: usize,
+    name: &[u8],
     arity: u32,
 ) -> Taken
-    requires { ⌜ (start + len ≤ length (now sheet)) × (length (now sheet) ≤ 65535) × (arity ≤ 4) ⌝ }
-    ensures { λ r. ⌜ made (now (t .exit)) r ≡ insertDeclaration (now (sheet .entry)) (now (t .entry)) k function start len arity ⌝ }
+    requires { ⌜ StandsAt (now sheet) start (now name) × (length (now sheet) ≤ 65535) × (arity ≤ 4) ⌝ }
+    ensures { λ r. ⌜ made (now (t .exit)) r
+        ≡ insertDeclaration (now (sheet .entry)) (now (t .entry)) k function start (length (now (name .entry))) arity ⌝ }
 {
     if limits::MAX_SYMBOLS <= k.symbols {
         return Taken::Stop(refusals::TOO_MANY);
     }
     let i = k.symbols;
-    if find_name(sheet, t, i, &sheet[start..start + len]) {
+    if find_name(sheet, t, i, name) {
         return Taken::Stop(refusals::UNKNOWN);
     }
     let word = symbol_word(function, arity);
-    put_symbol(t, i, to_u32(start), to_u32(len), word);
+    put_symbol(t, i, to_u32(start), to_u32(name.len()), word);
     Taken::Next(Counts {
         symbols: i + 1,
         nodes: k.nodes,

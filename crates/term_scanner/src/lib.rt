@@ -1,11 +1,19 @@
 // Terms of an answer text, read in place.
+pub mod delimiters;
 pub mod ranges;
 pub mod symbol_names;
 pub mod tokens;
 
+use delimiters::BRACKET;
+use delimiters::DelimiterStack;
+use delimiters::push_arguments;
+use delimiters::refilled;
+use delimiters::room;
 use memory::byte;
+use memory::widen;
 use node_table::arity;
 use node_table::is_function;
+use ranges::monus;
 use scanning::Number;
 use scanning::Scan;
 use symbol_names::symbol_from;
@@ -13,11 +21,46 @@ use tokens::name_end;
 use tokens::scan_number;
 ghost use mathlib.Core.Path.{_≡_};
 ghost use mathlib.Core.Bool.{true, false, cond};
-ghost use Prim.Native.Nat.{_+_, _-_, _<_};
+ghost use Prim.Native.Nat.{ℕ, _+_, _<_, _≤_};
+ghost use mathlib.Core.List.{List, []};
 ghost use lib.Dec.{eqb, ltb};
-ghost use lib.ListN.{getD};
+ghost use lib.ListN.{length};
 ghost use Rattle.node_table.specs.Layout.{isFunctionBit};
 ghost use Rattle.scanning.specs.Scanning.{scanLevel, scanAt, scanSymbol, higher, scanTerm};
+ghost use Rattle.term_scanner.specs.Delimiters.{Fits};
+ghost use Rattle.term_scanner.specs.Heads.{openAt, headAt};
+ghost use Rattle.term_scanner.specs.Steps.{Advances, Reaches, outcome};
+
+// Stages of a scan: what is due (specs/Steps.antt).
+const BEGIN: u32 = 0;
+
+const AFTER: u32 = 1;
+
+const ENDED: u32 = 2;
+
+const MALFORMED: u32 = 3;
+
+const FULL: u32 = 4;
+
+// With so many words all delimiters of a text of 65,535 bytes have room.
+const MOST_WORDS: usize = 1023;
+
+// What a term begins with: a symbol without arguments, where it ends, and its level; or a symbol with arguments, where the first one
+// begins, and how many there are.
+pub enum Head {
+    Leaf(usize, u32),
+    Open(usize, u32),
+    Absent,
+}
+
+// A scan between two steps: the position, the highest level so far, how many brackets are open, what is due, the delimiters to come.
+pub struct TermScan {
+    pub at: usize,
+    pub level: u32,
+    pub depth: usize,
+    pub stage: u32,
+    pub stack: DelimiterStack,
+}
 
 // Whether symbol k, of so many symbols, is a function symbol.
 fn is_applied(t: &[u32], symbols: u32, k: u32) -> bool
@@ -79,50 +122,211 @@ fn is_sigil(b: u8) -> bool
     b == b'_'
 }
 
-// The bracket after the last argument, with the highest level in the arguments.
-fn scan_close(text: &[u8], i: usize, level: u32) -> Scan
-    ensures { λ r. ⌜ r ≡ cond (eqb (getD (now (text .entry)) i 0) 41) (Scan.Term (i + 1) level) Scan.Malformed ⌝ }
+// After a name that ends at i, of a symbol with n arguments.
+fn scan_open(text: &[u8], i: usize, n: u32) -> Head
+    ensures { λ r. ⌜ r ≡ openAt n (now (text .entry)) i ⌝ }
 {
-    if byte(text, i) == b')' {
-        return Scan::Term(i + 1, level);
+    if n == 0 {
+        return Head::Leaf(i, 0);
+    }
+    if byte(text, i) == b'(' {
+        return Head::Open(i + 1, n);
+    }
+    Head::Absent
+}
+
+// What begins at position i.
+fn scan_head(sheet: &[u8], t: &[u32], symbols: u32, text: &[u8], i: usize) -> Head
+    ensures { λ r. ⌜ r ≡ headAt (now (sheet .entry)) (now (t .entry)) symbols (now (text .entry)) i ⌝ }
+{
+    if is_sigil(byte(text, i)) {
+        let Scan::Term(e, k) = scan_symbol(text, i + 1) else {
+            return Head::Absent;
+        };
+        return Head::Leaf(e, k);
+    }
+    let at = name_end(text, i);
+    let k = symbol_from(symbols, sheet, t, text, i, at);
+    if is_applied(t, symbols, k) {
+        return scan_open(text, at, arity(t, k));
+    }
+    Head::Absent
+}
+
+// A term is to begin: without arguments it ends at once, otherwise its first argument is to begin.
+fn begin_term(
+    lent: &mut [u64],
+    rank: usize,
+    sheet: &[u8],
+    t: &[u32],
+    symbols: u32,
+    text: &[u8],
+    s: TermScan,
+) -> TermScan
+    requires { ⌜ Fits (now lent) (s .stack) × (length (now lent) ≤ 1023) × (s .stage ≡ 0) ⌝ }
+    ensures { λ r. ⌜ Advances rank (now (sheet .entry)) (now (t .entry)) symbols (now (text .entry)) (now (lent .entry)) s
+        (now (lent .exit)) r ⌝ }
+{
+    let mut r = s;
+    if rank <= s.depth {
+        r.stage = MALFORMED;
+        return r;
+    }
+    match scan_head(sheet, t, symbols, text, s.at) {
+        Head::Leaf(e, k) => {
+            r.at = e;
+            r.level = higher_of(s.level, k);
+            r.stage = AFTER;
+            return r;
+        }
+        Head::Open(e, n) => {
+            let stack = s.stack;
+            if room(lent, stack) < widen(n) {
+                r.stage = FULL;
+                return r;
+            }
+            return TermScan {
+                at: e,
+                level: s.level,
+                depth: s.depth + 1,
+                stage: BEGIN,
+                stack: push_arguments(lent, stack, n),
+            };
+        }
+        Head::Absent => {
+            r.stage = MALFORMED;
+            return r;
+        }
+    }
+}
+
+// A term has ended: the nearest delimiter must follow, or the whole term has ended.
+fn take_delimiter(lent: &[u64], text: &[u8], s: TermScan) -> TermScan
+    requires { ⌜ Fits (now lent) (s .stack) × (s .stage ≡ 1) ⌝ }
+    ensures { λ r. ⌜ ((rank : ℕ) (b t : List ℕ) (symbols : ℕ) → Advances rank b t symbols (now (text .entry)) (now (lent .entry)) s
+        (now (lent .entry)) r) ⌝ }
+{
+    let stack = refilled(lent, s.stack);
+    let mut r = s;
+    if stack.count == 0 {
+        r.stage = ENDED;
+        return r;
+    }
+    let rest = DelimiterStack {
+        top: stack.top / 2,
+        count: stack.count - 1,
+        words: stack.words,
+    };
+    let b = byte(text, s.at);
+    if stack.top % 2 == BRACKET {
+        if b == b')' {
+            return TermScan {
+                at: s.at + 1,
+                level: s.level,
+                depth: monus(s.depth, 1),
+                stage: AFTER,
+                stack: rest,
+            };
+        }
+        r.stage = MALFORMED;
+        return r;
+    }
+    if b == b',' {
+        return TermScan {
+            at: s.at + 1,
+            level: s.level,
+            depth: s.depth,
+            stage: BEGIN,
+            stack: rest,
+        };
+    }
+    r.stage = MALFORMED;
+    r
+}
+
+// What is due.
+fn step(
+    lent: &mut [u64],
+    rank: usize,
+    sheet: &[u8],
+    t: &[u32],
+    symbols: u32,
+    text: &[u8],
+    s: TermScan,
+) -> TermScan
+    requires { ⌜ Fits (now lent) (s .stack) × (length (now lent) ≤ 1023) × (s .stage < 2) ⌝ }
+    ensures { λ r. ⌜ Advances rank (now (sheet .entry)) (now (t .entry)) symbols (now (text .entry)) (now (lent .entry)) s
+        (now (lent .exit)) r ⌝ }
+{
+    if s.stage == BEGIN {
+        return begin_term(lent, rank, sheet, t, symbols, text, s);
+    }
+    take_delimiter(lent, text, s)
+}
+
+// All steps from s on, with room for 64 delimiters in each lent word, and 64 more.
+fn scan_within(
+    lent: &mut [u64],
+    rank: usize,
+    sheet: &[u8],
+    t: &[u32],
+    symbols: u32,
+    text: &[u8],
+    from: TermScan,
+) -> TermScan
+    requires { ⌜ Fits (now lent) (from .stack) × (length (now lent) ≤ 1023) × (from .stage ≡ 0) ⌝ }
+    ensures { λ r. ⌜ Reaches rank (now (sheet .entry)) (now (t .entry)) symbols (now (text .entry)) (now (lent .entry)) from
+        (now (lent .exit)) r × (1 < r .stage) ⌝ }
+{
+    let mut s = from;
+    while s.stage < ENDED {
+        s = step(lent, rank, sheet, t, symbols, text, s);
+    }
+    s
+}
+
+// What a scan has found.
+fn found(s: TermScan) -> Scan
+    ensures { λ r. ⌜ r ≡ cond (eqb (s .stage) 2) (Scan.Term (s .at) (s .level)) Scan.Malformed ⌝ }
+{
+    if s.stage == ENDED {
+        return Scan::Term(s.at, s.level);
     }
     Scan::Malformed
 }
 
-// A term at position i, nested less deep than the rank says: where it ends, and the highest level in it. A text of 65,535 bytes nests
-// up to 21,844 deep, so the frame of this function is kept small.
+// The rest of a scan that has stopped for want of room, with room for every delimiter of a text.
+fn scan_deep(rank: usize, sheet: &[u8], t: &[u32], symbols: u32, text: &[u8], s: TermScan) -> Scan
+    requires { ⌜ (length (now text) ≤ 65535) × Fits [] (s .stack) × (s .stage ≡ 4) ⌝ }
+    ensures { λ r. ⌜ r ≡ outcome rank (now (sheet .entry)) (now (t .entry)) symbols (now (text .entry)) [] s ⌝ }
+{
+    let mut lent = [0u64; MOST_WORDS];
+    let mut from = s;
+    from.stage = BEGIN;
+    found(scan_within(&mut lent, rank, sheet, t, symbols, text, from))
+}
+
+// A term at position i, nested less deep than the rank says: where it ends, and the highest level in it. The delimiters of most
+// terms need no memory but the top of the stack.
 pub fn scan_term(rank: usize, sheet: &[u8], t: &[u32], symbols: u32, text: &[u8], i: usize) -> Scan
+    requires { ⌜ length (now text) ≤ 65535 ⌝ }
     ensures { λ r. ⌜ r ≡ scanTerm rank (now (sheet .entry)) (now (t .entry)) symbols (now (text .entry)) i ⌝ }
 {
-    if rank == 0 {
-        return Scan::Malformed;
+    let from = TermScan {
+        at: i,
+        level: 0,
+        depth: 0,
+        stage: BEGIN,
+        stack: DelimiterStack {
+            top: 0,
+            count: 0,
+            words: 0,
+        },
+    };
+    let mut lent = [0u64; 0];
+    let s = scan_within(&mut lent, rank, sheet, t, symbols, text, from);
+    if s.stage == FULL {
+        return scan_deep(rank, sheet, t, symbols, text, s);
     }
-    if is_sigil(byte(text, i)) {
-        return scan_symbol(text, i + 1);
-    }
-    let mut at = name_end(text, i);
-    let k = symbol_from(symbols, sheet, t, text, i, at);
-    if is_applied(t, symbols, k) {
-        let mut left = arity(t, k);
-        if left == 0 {
-            return Scan::Term(at, 0);
-        }
-        let mut mark = b'(';
-        let mut level: u32 = 0;
-        while 0 < left {
-            if byte(text, at) == mark {
-                let Scan::Term(e, j) = scan_term(rank - 1, sheet, t, symbols, text, at + 1) else {
-                    return Scan::Malformed;
-                };
-                at = e;
-                level = higher_of(level, j);
-                mark = b',';
-                left -= 1;
-            } else {
-                return Scan::Malformed;
-            }
-        }
-        return scan_close(text, at, level);
-    }
-    Scan::Malformed
+    found(s)
 }

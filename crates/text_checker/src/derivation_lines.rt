@@ -13,7 +13,7 @@ use line_rules::quantifier_rules::some_line;
 use node_table::kind;
 use node_table::kinds;
 ghost use mathlib.Core.Path.{_≡_};
-ghost use Prim.Native.Nat.{_+_, _<_};
+ghost use Prim.Native.Nat.{_+_, _<_, _≤_};
 ghost use lib.ListN.{length};
 ghost use Rattle.line_checking.specs.Sequents.{made};
 ghost use Rattle.line_checking.specs.Judging.{quantifierLine, connectiveLine, sequentLine};
@@ -28,7 +28,7 @@ pub fn quantifier_line(
     r: Registers,
     line: Line,
 ) -> Registers
-    requires { ⌜ (line .at + 7 < 4294967296) × (line .end < 4294967296) ⌝ }
+    requires { ⌜ (length (now text) ≤ 65535) × (line .at + 7 < 4294967296) × (line .end < 4294967296) ⌝ }
     ensures { λ s. ⌜ made (now (w .exit)) s ≡ quantifierLine (now (sheet .entry)) (now (t .entry)) (shape .symbols) (now (text .entry))
         (now (w .entry)) r (line .number) (line .at) (line .end) ⌝ }
 {
@@ -48,7 +48,7 @@ pub fn connective_line(
     r: Registers,
     line: Line,
 ) -> Registers
-    requires { ⌜ (line .number + 1 < 4294967296) × (line .at + 7 < 4294967296) × (line .end < 4294967296) ⌝ }
+    requires { ⌜ (length (now text) ≤ 65535) × (line .number + 1 < 4294967296) × (line .at + 7 < 4294967296) × (line .end < 4294967296) ⌝ }
     ensures { λ s. ⌜ made (now (w .exit)) s ≡ connectiveLine (now (sheet .entry)) (now (t .entry)) (shape .symbols) (now (text .entry))
         (now (w .entry)) r (line .number) (line .at) (line .end) ⌝ }
 {
@@ -75,7 +75,7 @@ pub fn sequent_line(
     r: Registers,
     line: Line,
 ) -> Registers
-    requires { ⌜ (length (now text) < 4294967296) × (line .number + 1 < 4294967296) × (line .at + 7 < 4294967296)
+    requires { ⌜ (length (now text) ≤ 65535) × (line .number + 1 < 4294967296) × (line .at + 7 < 4294967296)
         × (line .end < 4294967296) ⌝ }
     ensures { λ s. ⌜ made (now (w .exit)) s ≡ sequentLine (now (sheet .entry)) (now (t .entry)) (shape .symbols) (shape .clauses)
         (now (text .entry)) (now (w .entry)) r (line .number) (line .at) (line .end) ⌝ }

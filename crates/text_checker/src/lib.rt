@@ -32,7 +32,7 @@ pub fn stage_line(
     r: Registers,
     line: Line,
 ) -> Registers
-    requires { ⌜ (length (now text) < 4294967296) × (line .number + 1 < 4294967296) × (line .at + 7 < 4294967296)
+    requires { ⌜ (length (now text) ≤ 65535) × (line .number + 1 < 4294967296) × (line .at + 7 < 4294967296)
         × (line .end < 4294967296) ⌝ }
     ensures { λ s. ⌜ made (now (w .exit)) s ≡ stageLine (now (sheet .entry)) (now (t .entry)) (shape .symbols) (shape .clauses)
         (shape .goal) (now (text .entry)) (now (w .entry)) r (line .number) (line .at) (line .end) ⌝ }
@@ -81,7 +81,7 @@ pub fn judge_line(
     r: Registers,
     line: Line,
 ) -> Registers
-    requires { ⌜ (length (now text) < 4294967296) × (line .number + 1 < 4294967296) × (line .at + 7 < 4294967296)
+    requires { ⌜ (length (now text) ≤ 65535) × (line .number + 1 < 4294967296) × (line .at + 7 < 4294967296)
         × (line .end < 4294967296) ⌝ }
     ensures { λ s. ⌜ made (now (w .exit)) s ≡ judgeLine (now (sheet .entry)) (now (t .entry)) (shape .symbols) (shape .clauses)
         (shape .goal) (now (text .entry)) (now (w .entry)) r (line .number) (line .at) (line .end) ⌝ }
@@ -106,7 +106,7 @@ pub fn end_verdict(text: &[u8], r: Registers, q: u32, i: usize) -> u32
 
 // The verdict on the whole text: 0 for valid, or the number of the line that breaks, counted from 1.
 pub fn judge_text(sheet: &[u8], t: &[u32], shape: Shape, text: &[u8], w: &mut [u32]) -> u32
-    requires { ⌜ length (now text) + 7 ≤ 4294967296 ⌝ }
+    requires { ⌜ length (now text) ≤ 65535 ⌝ }
     ensures { λ v. ⌜ judged (now (w .exit)) v ≡ judgeText (now (sheet .entry)) (now (t .entry)) (shape .symbols) (shape .clauses)
         (shape .goal) (now (text .entry)) (now (w .entry)) ⌝ }
 {

@@ -15,8 +15,10 @@ use Rattle.formulas.proofs.Free.{and-parts, or-left, or-right}
 use Rattle.sequents.specs.Symbols.{Symbol, made, leftover, symbolLevel}
 use Rattle.sequents.specs.Renamings.{rename}
 use Rattle.answer_texts.specs.Numbering.{sameSymbol, isMade, madeOnly, leftoverOnly, firsts, indexOf, numberingOf}
-use Rattle.answer_texts.proofs.FirstShowings.{and-both, sameSymbol-true, sameSymbol-refl, has, fresh, has-firsts, firsts-snoc, firsts-append}
-use Rattle.answer_texts.proofs.FirstShowings.{index-append, index-new, index-old, madeOnly-append, leftoverOnly-append, mem-made, mem-leftover}
+use Rattle.answer_texts.proofs.FirstShowings.{and-both, sameSymbol-true, sameSymbol-refl, has, fresh, has-firsts, firsts-snoc}
+use Rattle.answer_texts.proofs.FirstShowings.{firsts-append}
+use Rattle.answer_texts.proofs.FirstShowings.{index-append, index-new, index-old, madeOnly-append, leftoverOnly-append, mem-made}
+use Rattle.answer_texts.proofs.FirstShowings.{mem-leftover}
 use Rattle.text_judging.specs.Judging.{Seen, showNumber, showSymbol, showSymbols}
 use Rattle.text_judging.proofs.Infer.{guarded, nothing, mapped}
 

@@ -4,13 +4,39 @@ use calls::generate::{CheckCall, RunCall};
 use calls::perform::After;
 use reference::interface;
 
+/// The library on the caller's stack. A test's thread has 8 MB (.cargo/config.toml), more than any call needs;
+/// tests/depth.rs gives it less.
+pub fn library_run(
+    sheet: &[u8],
+    budget: u32,
+    table: &mut [u32],
+    work: &mut [u32],
+    answer: &mut [u8],
+    result: &mut [u32],
+) -> u32 {
+    unsafe { rules::raw::run(sheet, budget, table, work, answer, result) }
+}
+
+pub fn library_check(sheet: &[u8], text: &[u8], table: &mut [u32], work: &mut [u32], result: &mut [u32]) -> u32 {
+    unsafe { rules::raw::check(sheet, text, table, work, result) }
+}
+
 /// What the library leaves, if it is what the independent implementation leaves; otherwise what differs.
 pub fn compare_run(call: &RunCall) -> Result<After, String> {
-    agreed(call.perform(rules::raw::run), call.perform(interface::run))
+    compare_run_by(library_run, call)
 }
 
 pub fn compare_check(call: &CheckCall) -> Result<After, String> {
-    agreed(call.perform(rules::raw::check), call.perform(interface::check))
+    compare_check_by(library_check, call)
+}
+
+/// The same of a function that calls the library.
+pub fn compare_run_by(run: impl Run, call: &RunCall) -> Result<After, String> {
+    agreed(call.perform(run), call.perform(interface::run))
+}
+
+pub fn compare_check_by(check: impl Check, call: &CheckCall) -> Result<After, String> {
+    agreed(call.perform(check), call.perform(interface::check))
 }
 
 fn agreed(got: After, wanted: After) -> Result<After, String> {

@@ -5,6 +5,7 @@ use calls::perform::After;
 use calls::random::Random;
 use reference::{answer, interface};
 
+use crate::compare::{library_check, library_run};
 use crate::guard::{Against, Guarded};
 
 const MOST_UNITS: usize = 1_200;
@@ -144,7 +145,7 @@ pub fn guarded_run(call: &RunCall, place: Against, rooms: &mut Rooms) -> After {
     let answer = lend(&mut rooms.answer, &before.answer, place);
     let result = lend(&mut rooms.result, &before.result, place);
     let code = rooms.sheet.lend_fixed(&call.sheet, place, |sheet| {
-        rules::raw::run(sheet, call.budget, table, work, answer, result)
+        library_run(sheet, call.budget, table, work, answer, result)
     });
     After {
         code,
@@ -163,7 +164,7 @@ pub fn guarded_check(call: &CheckCall, place: Against, rooms: &mut Rooms) -> Aft
     let text_room = &mut rooms.text;
     let code = rooms.sheet.lend_fixed(&call.sheet, place, |sheet| {
         text_room.lend_fixed(&call.text, place, |text| {
-            rules::raw::check(sheet, text, table, work, result)
+            library_check(sheet, text, table, work, result)
         })
     });
     After {

@@ -16,15 +16,63 @@ pub fn searches() -> Vec<Named> {
     ]
 }
 
+/// A sheet from its lines, parted by semicolons, their fields by spaces.
+fn lines(short: &str) -> Vec<u8> {
+    let lines: Vec<String> = short
+        .split(';')
+        .map(|line| line.trim().replace(' ', "\t") + "\n")
+        .collect();
+    lines.concat().into_bytes()
+}
+
+/// The searches of 50,000 units that take the longest of those that are known.
+pub fn worst() -> Vec<Named> {
+    vec![
+        ("a chain of 8,192 variables", variable_chain()),
+        ("128 clauses of 950 quantifiers, one name", idle_quantifiers(1)),
+        ("128 clauses of 950 quantifiers, eight names", idle_quantifiers(8)),
+    ]
+}
+
+/// q(a, b, c, d) for all terms, and the goal q(x, x, x, x) two thousand times: each pair of arguments goes from x to the end of its
+/// chain, and makes it longer by one. Then the goal again, q(x, x, x, x) being assumed: each pair goes there on both sides.
+fn variable_chain() -> Vec<u8> {
+    let mut b = Builder::new(true);
+    let q = b.predicate("q", 4);
+    let variables = [1, 2, 3, 4].map(|variable| b.variable(variable));
+    let fact = b.apply(q, &variables);
+    add_clause(&mut b, &[1, 2, 3, 4], fact);
+    let x = b.variable(0);
+    let atom = b.apply(q, &[x; 4]);
+    let mut often = vec![atom];
+    for doubling in 0..12 {
+        often.push(b.and(often[doubling], often[doubling]));
+    }
+    let again = b.implies(atom, often[12]);
+    let goal = b.and(often[11], again);
+    let goal = b.some(0, goal);
+    b.goal(goal)
+}
+
+/// 127 clauses for p, each behind 950 quantifiers that bind so many names in turn and stand free in nothing; and q if q, the goal.
+fn idle_quantifiers(names: u8) -> Vec<u8> {
+    let mut b = Builder::new(true);
+    let (p, q) = (b.predicate("p", 0), b.predicate("q", 0));
+    let mut clause = b.apply(p, &[]);
+    for level in 0..950 {
+        clause = b.every((level % u32::from(names)) as u8, clause);
+    }
+    for _ in 0..127 {
+        b.clause(clause);
+    }
+    let goal = b.apply(q, &[]);
+    let rule = b.implies(goal, goal);
+    b.clause(rule);
+    b.goal(goal)
+}
+
 /// Searches that never end, each growing something.
 pub fn endless() -> Vec<Named> {
-    let lines = |short: &str| {
-        let lines: Vec<String> = short
-            .split(';')
-            .map(|line| line.trim().replace(' ', "\t") + "\n")
-            .collect();
-        lines.concat().into_bytes()
-    };
     vec![
         ("p if p: nothing grows", lines("P p 0; A 0; > 0 0; C 1; Q 0")),
         ("p if p and p: open goals", lines("P p 0; A 0; & 0 0; > 1 0; C 2; Q 0")),

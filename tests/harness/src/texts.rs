@@ -95,6 +95,20 @@ fn late_showings(bytes: usize) -> Hard {
     witness("late showings, one line", "F g 2; F a 0", &list(elements))
 }
 
+/// The slowest text that is known: names full of `_`, then a leftover variable again and again. Its first showing is looked for from the
+/// start of the text.
+pub fn showings_after_names(bytes: usize) -> Hard {
+    let name = format!("a{}", "_".repeat(15));
+    let half = (bytes - AROUND_WITNESS) / 2;
+    let names = (0..half / (name.len() + 4)).map(|_| name.clone());
+    let showings = (0..half / 8).map(|_| "_0@0".to_string());
+    witness(
+        "late showings after names full of `_`",
+        &format!("F g 2; F a 0; F {name} 0"),
+        &list(names.chain(showings)),
+    )
+}
+
 /// The same with a line for each: 2^n goals "some v true".
 fn late_showings_on_lines(bytes: usize) -> Hard {
     // An "and", a "some" and a "true" for each leaf.
@@ -205,9 +219,13 @@ fn levels(bytes: usize) -> Hard {
     }
 }
 
-/// Some v true with a witness of the greatest depth that 65,535 bytes hold.
+/// Some v true with a witness of the greatest depth that so many bytes hold.
+pub fn nested_witness(bytes: usize) -> Hard {
+    deep_term(bytes + AROUND_WITNESS - "R\tproved\t2\nD\tsome\ta\nD\ttrue\n".len())
+}
+
 pub fn deepest_witness() -> Hard {
-    deep_term(65_535 + AROUND_WITNESS - "R\tproved\t2\nD\tsome\ta\nD\ttrue\n".len())
+    nested_witness(65_535)
 }
 
 /// The same without any closing bracket, so that a reader goes deeper still before it breaks at line 2.

@@ -7,7 +7,7 @@ use rules::{check, run, Outcome, Refusal, Run, Verdict};
 fn answer(sheet: &[u8], budget: u32, answer_bytes: usize) -> (Run, Vec<u8>) {
     let (mut table, mut work) = (vec![7; 8_192], vec![7; 64 * budget as usize]);
     let mut answer = vec![7; answer_bytes];
-    let ended = run(sheet, budget, &mut table, &mut work, &mut answer);
+    let ended = run(sheet, budget, &mut table, &mut work, &mut answer).expect("a thread");
     answer.truncate(ended.length);
     (ended, answer)
 }
@@ -15,7 +15,7 @@ fn answer(sheet: &[u8], budget: u32, answer_bytes: usize) -> (Run, Vec<u8>) {
 fn verdict(sheet: &[u8], text: &[u8]) -> Verdict {
     let lines = text.iter().filter(|&&byte| byte == b'\n').count();
     let (mut table, mut work) = (vec![7; 8_192], vec![7; 64 * lines]);
-    check(sheet, text, &mut table, &mut work)
+    check(sheet, text, &mut table, &mut work).expect("a thread")
 }
 
 #[test]

@@ -294,7 +294,8 @@ module _ (b t x w : List ℕ) (g : ℕ) where
                 below
                 ∙ ap (λ (y : Reach). onward (matchOpen (suc (1024 - n)) s (n - 1)) (onward (matchNode (1024 - n) (v + 1)) y))
                 (child-is ∙ head-leaf (1024 - (n + 1)) a q r head p o there opens h)
-                ∙ rest p ∙ sym (ap (λ (y : List ℕ). matchOpen (1024 - n) y n p) second ∙ open-kept n (1024 - n) s₁ n (8 * a) p (omega arith))
+                ∙ rest p
+                ∙ sym (ap (λ (y : List ℕ). matchOpen (1024 - n) y n p) second ∙ open-kept n (1024 - n) s₁ n (8 * a) p (omega arith))
 
             opened : (o ≡ 0 → ⊥) → matchOpen (1024 - n) s n e ≡ matchOpen (1024 - (n + 1)) s₂ (suc n) p
             opened h =

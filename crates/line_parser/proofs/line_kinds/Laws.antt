@@ -6,36 +6,37 @@ use mathlib.Core.Bool.{Bool, true, false, cond}
 use mathlib.Core.Path.{_≡_, refl, sym, ap, _∙_}
 use mathlib.Core.List.{List, [], _∷_}
 use mathlib.Core.Option.{Option, none, some}
-use lib.Dec.{ltb, leb}
+use lib.Dec.{eqb, ltb, leb}
 use lib.ListN.{length, drop, take}
-use borrow.Author.Tests.{lt-ltb, le-ltb, le-leb, lt-leb, ne-eqb}
+use borrow.Author.Tests.{lt-ltb, le-ltb, le-leb, lt-leb, ne-eqb, eqb-true, eqb-false}
 use Rattle.sheet_format.specs.Limits.{maxArity, variableNames}
 use Rattle.sheet_format.specs.Bytes.{fields, isName, number}
 use Rattle.sheet_format.specs.SheetLines.{variableLine, andLine, orLine, impliesLine, someLine, everyLine, SheetLine, declareLine, nodeLine}
 use Rattle.sheet_format.specs.SheetLines.{clauseLine, goalLine, consNumber, numbers, declared, declaration, oneNumber, twoNumbers}
 use Rattle.sheet_format.specs.SheetLines.{withVariable, application}
 use Rattle.line_parser.specs.declared.fields.Number.the-variants.{Value, Bad}
-use Rattle.line_parser.specs.Fields.{fieldLen, firstField, firstNumber, firstName}
+use Rattle.line_parser.specs.Fields.{fieldLen, firstField, firstNumber, firstName, nameAnswer}
+use Rattle.line_parser.specs.declared.names.Name.the-variants.{Of, NotAName}
 use Rattle.line_parser.proofs.fields.Laws.{rest-part}
 use Rattle.line_parser.proofs.fields.Fields.{fields-first, fields-last, fields-more, first-bad, first-last, first-more, first-length}
 use Rattle.line_parser.proofs.fields.Fields.{name-absent, name-present}
 use Rattle.line_parser.specs.declared.lines.Nodes.{Nodes}
 use Rattle.line_parser.specs.declared.lines.NodeLine.the-variants.{Variable, Apply, And, Or, Implies, Exists, Forall}
-use Rattle.line_parser.specs.declared.lines.Line.the-variants.{Declare, Node, Clause, Goal, Malformed}
+use Rattle.line_parser.specs.declared.lines.Line.the-variants.{Declare, Node, Clause, Goal}
 use Rattle.line_parser.specs.declared.lines.One.{One}
-use Rattle.line_parser.specs.declared.lines.One.the-variants.{Only, NotOne}
-use Rattle.line_parser.specs.declared.lines.Two.the-variants.{Both, NotTwo}
-use Rattle.line_parser.specs.Lines.{nodesOf, nodeAnswer, lineAnswer, oneAnswer, twoAnswer, arityAnswer, pushNode, applyOn}
+use Rattle.line_parser.specs.declared.lines.One.the-variants.{Only, Refused as RefusedOne}
+use Rattle.line_parser.specs.declared.lines.Two.the-variants.{Both, Refused as RefusedTwo}
+use Rattle.line_parser.specs.Lines.{malformed, nodesOf, nodeAnswer, lineAnswer, oneAnswer, twoAnswer, arityAnswer, pushNode, applyOn}
 use Rattle.line_parser.specs.Lines.{applyAnswer, connectiveOf, quantifierOf}
 use Rattle.line_parser.proofs.lines.Laws.{alone, cond-same, one-is}
 
--- Where the answer is `NotOne`, there is no line with one number.
-one-none : (l : ℕ → SheetLine) (x : Option (List ℕ)) → oneAnswer x ≡ NotOne → oneNumber l x ≡ none
+-- Where the answer is a refusal, there is no line with one number.
+one-none : (l : ℕ → SheetLine) (x : Option (List ℕ)) (r : ℕ) → oneAnswer x ≡ RefusedOne r → oneNumber l x ≡ none
 unfolding oneAnswer oneNumber
-one-none l none h = refl
-one-none l (some []) h = refl
-one-none l (some (m ∷ [])) h = let z : _≡_ {A = ℕ} 0 1 = cc in absurd (omega arith)
-one-none l (some (m ∷ o ∷ ns)) h = refl
+one-none l none r h = refl
+one-none l (some []) r h = refl
+one-none l (some (m ∷ [])) r h = let z : _≡_ {A = ℕ} 0 1 = cc in absurd (omega arith)
+one-none l (some (m ∷ o ∷ ns)) r h = refl
 
 -- Where the answer is `Both n m`, the numbers are n and m.
 two-is : (x : Option (List ℕ)) (n m : ℕ) → twoAnswer x ≡ Both n m → x ≡ some (n ∷ m ∷ [])
@@ -49,22 +50,22 @@ two-is (some (p ∷ q ∷ [])) n m h =
     rw (y, z)
 two-is (some (p ∷ q ∷ o ∷ ns)) n m h = let z : _≡_ {A = ℕ} 0 1 = cc in absurd (omega arith)
 
--- Where the answer is `NotTwo`, there is no line with two numbers.
-two-none : (l : ℕ → ℕ → SheetLine) (x : Option (List ℕ)) → twoAnswer x ≡ NotTwo → twoNumbers l x ≡ none
+-- Where the answer is a refusal, there is no line with two numbers.
+two-none : (l : ℕ → ℕ → SheetLine) (x : Option (List ℕ)) (r : ℕ) → twoAnswer x ≡ RefusedTwo r → twoNumbers l x ≡ none
 unfolding twoAnswer twoNumbers
-two-none l none h = refl
-two-none l (some []) h = refl
-two-none l (some (p ∷ [])) h = refl
-two-none l (some (p ∷ q ∷ [])) h = let z : _≡_ {A = ℕ} 0 1 = cc in absurd (omega arith)
-two-none l (some (p ∷ q ∷ o ∷ ns)) h = refl
+two-none l none r h = refl
+two-none l (some []) r h = refl
+two-none l (some (p ∷ [])) r h = refl
+two-none l (some (p ∷ q ∷ [])) r h = let z : _≡_ {A = ℕ} 0 1 = cc in absurd (omega arith)
+two-none l (some (p ∷ q ∷ o ∷ ns)) r h = refl
 
 -- C, Q and V
 
 module _ (x : Option (List ℕ)) where
   -- A line that takes one number is malformed where there is not one number.
-  pub single-none : (l : ℕ → SheetLine) → oneAnswer x ≡ NotOne → Malformed ≡ lineAnswer (oneNumber l x)
+  pub single-none : (l : ℕ → SheetLine) (r : ℕ) → oneAnswer x ≡ RefusedOne r → malformed ≡ lineAnswer (oneNumber l x)
   unfolding lineAnswer
-  single-none l h = rw (one-none l x h)
+  single-none l r h = rw (one-none l x r h)
 
   -- One number makes a clause line.
   pub clause-is : (n : ℕ) → oneAnswer x ≡ Only n → Clause n ≡ lineAnswer (oneNumber clauseLine x)
@@ -78,7 +79,7 @@ module _ (x : Option (List ℕ)) where
 
   -- A variable line with a variable from 8 on is malformed.
   pub variable-large : (v : ℕ) → oneAnswer x ≡ Only v → variableNames ≤ v
-      → Malformed ≡ lineAnswer (oneNumber (λ w. nodeLine (variableLine w)) (withVariable x))
+      → malformed ≡ lineAnswer (oneNumber (λ w. nodeLine (variableLine w)) (withVariable x))
   unfolding lineAnswer oneNumber withVariable
   variable-large v h l = rw (one-is x v h) (rw (le-ltb v variableNames l))
 
@@ -89,15 +90,15 @@ module _ (x : Option (List ℕ)) where
   variable-is v h l = rw (one-is x v h) (rw (lt-ltb v variableNames l))
 
 -- A variable line is malformed where there is not one number.
-pub variable-none : (x : Option (List ℕ)) → oneAnswer x ≡ NotOne
-    → Malformed ≡ lineAnswer (oneNumber (λ w. nodeLine (variableLine w)) (withVariable x))
+pub variable-none : (x : Option (List ℕ)) (r : ℕ) → oneAnswer x ≡ RefusedOne r
+    → malformed ≡ lineAnswer (oneNumber (λ w. nodeLine (variableLine w)) (withVariable x))
 unfolding oneAnswer lineAnswer oneNumber withVariable
-variable-none none h = refl
-variable-none (some []) h = refl
-variable-none (some (v ∷ [])) h = let z : _≡_ {A = ℕ} 0 1 = cc in absurd (omega arith)
-variable-none (some (v ∷ w ∷ ns)) h = go (ltb v variableNames)
+variable-none none r h = refl
+variable-none (some []) r h = refl
+variable-none (some (v ∷ [])) r h = let z : _≡_ {A = ℕ} 0 1 = cc in absurd (omega arith)
+variable-none (some (v ∷ w ∷ ns)) r h = go (ltb v variableNames)
   where
-    go : (t : Bool) → Malformed ≡ lineAnswer (oneNumber (λ u. nodeLine (variableLine u)) (cond t (some (v ∷ w ∷ ns)) none))
+    go : (t : Bool) → malformed ≡ lineAnswer (oneNumber (λ u. nodeLine (variableLine u)) (cond t (some (v ∷ w ∷ ns)) none))
     go true = refl
     go false = refl
 
@@ -105,13 +106,13 @@ variable-none (some (v ∷ w ∷ ns)) h = go (ltb v variableNames)
 
 module _ (c : ℕ) (x : Option (List ℕ)) where
   -- A connective line is malformed where there are not two numbers.
-  pub connective-none : twoAnswer x ≡ NotTwo → Malformed ≡ lineAnswer (connectiveOf c x)
+  pub connective-none : (r : ℕ) → twoAnswer x ≡ RefusedTwo r → malformed ≡ lineAnswer (connectiveOf c x)
   unfolding connectiveOf lineAnswer
-  connective-none h =
+  connective-none r h =
       simp (
-        two-none (λ n m. nodeLine (andLine n m)) x h,
-        two-none (λ n m. nodeLine (orLine n m)) x h,
-        two-none (λ n m. nodeLine (impliesLine n m)) x h,
+        two-none (λ n m. nodeLine (andLine n m)) x r h,
+        two-none (λ n m. nodeLine (orLine n m)) x r h,
+        two-none (λ n m. nodeLine (impliesLine n m)) x r h,
         cond-same,
       )
 
@@ -132,24 +133,24 @@ module _ (c : ℕ) (x : Option (List ℕ)) where
     connective-implies e = rw (two-is x n m h, e)
 
   -- A connective line with another letter is malformed.
-  pub connective-other : (c ≡ code "&" → ⊥) → (c ≡ code "|" → ⊥) → (c ≡ code ">" → ⊥) → Malformed ≡ lineAnswer (connectiveOf c x)
+  pub connective-other : (c ≡ code "&" → ⊥) → (c ≡ code "|" → ⊥) → (c ≡ code ">" → ⊥) → malformed ≡ lineAnswer (connectiveOf c x)
   unfolding connectiveOf lineAnswer
   connective-other p q r = rw (ne-eqb c (code "&") p, ne-eqb c (code "|") q, ne-eqb c (code ">") r)
 
 -- E and U
 
 -- There is no quantifier line where there are not two numbers.
-quantified-none : (l : ℕ → ℕ → SheetLine) (x : Option (List ℕ)) → twoAnswer x ≡ NotTwo → twoNumbers l (withVariable x) ≡ none
+quantified-none : (l : ℕ → ℕ → SheetLine) (x : Option (List ℕ)) (r : ℕ) → twoAnswer x ≡ RefusedTwo r → twoNumbers l (withVariable x) ≡ none
 unfolding twoAnswer twoNumbers withVariable
-quantified-none l none h = refl
-quantified-none l (some []) h = refl
-quantified-none l (some (p ∷ [])) h = go (ltb p variableNames)
+quantified-none l none r h = refl
+quantified-none l (some []) r h = refl
+quantified-none l (some (p ∷ [])) r h = go (ltb p variableNames)
   where
     go : (t : Bool) → twoNumbers l (cond t (some (p ∷ [])) none) ≡ none
     go true = refl
     go false = refl
-quantified-none l (some (p ∷ q ∷ [])) h = let z : _≡_ {A = ℕ} 0 1 = cc in absurd (omega arith)
-quantified-none l (some (p ∷ q ∷ o ∷ ns)) h = go (ltb p variableNames)
+quantified-none l (some (p ∷ q ∷ [])) r h = let z : _≡_ {A = ℕ} 0 1 = cc in absurd (omega arith)
+quantified-none l (some (p ∷ q ∷ o ∷ ns)) r h = go (ltb p variableNames)
   where
     go : (t : Bool) → twoNumbers l (cond t (some (p ∷ q ∷ o ∷ ns)) none) ≡ none
     go true = refl
@@ -157,14 +158,14 @@ quantified-none l (some (p ∷ q ∷ o ∷ ns)) h = go (ltb p variableNames)
 
 module _ (c : ℕ) (x : Option (List ℕ)) where
   -- A quantifier line is malformed where there are not two numbers.
-  pub quantifier-none : twoAnswer x ≡ NotTwo → Malformed ≡ lineAnswer (quantifierOf c x)
+  pub quantifier-none : (r : ℕ) → twoAnswer x ≡ RefusedTwo r → malformed ≡ lineAnswer (quantifierOf c x)
   unfolding quantifierOf lineAnswer
-  quantifier-none h =
-      simp (quantified-none (λ v n. nodeLine (someLine v n)) x h, quantified-none (λ v n. nodeLine (everyLine v n)) x h, cond-same)
+  quantifier-none r h =
+      simp (quantified-none (λ v n. nodeLine (someLine v n)) x r h, quantified-none (λ v n. nodeLine (everyLine v n)) x r h, cond-same)
 
   module _ (v n : ℕ) (h : twoAnswer x ≡ Both v n) where
     -- A quantifier line with a variable from 8 on is malformed.
-    pub quantifier-large : variableNames ≤ v → Malformed ≡ lineAnswer (quantifierOf c x)
+    pub quantifier-large : variableNames ≤ v → malformed ≡ lineAnswer (quantifierOf c x)
     unfolding quantifierOf lineAnswer twoNumbers withVariable
     quantifier-large l = rw (two-is x v n h) (simp (le-ltb v variableNames l, cond-same))
 
@@ -179,7 +180,7 @@ module _ (c : ℕ) (x : Option (List ℕ)) where
     quantifier-every l e = rw (two-is x v n h, e) (rw (lt-ltb v variableNames l))
 
   -- A quantifier line with another letter is malformed.
-  pub quantifier-other : (c ≡ code "E" → ⊥) → (c ≡ code "U" → ⊥) → Malformed ≡ lineAnswer (quantifierOf c x)
+  pub quantifier-other : (c ≡ code "E" → ⊥) → (c ≡ code "U" → ⊥) → malformed ≡ lineAnswer (quantifierOf c x)
   unfolding quantifierOf lineAnswer
   quantifier-other p q = rw (ne-eqb c (code "E") p, ne-eqb c (code "U") q)
 
@@ -199,7 +200,7 @@ applied f (p ∷ q ∷ r ∷ t ∷ u ∷ ms) = rw (lt-leb (length (p ∷ q ∷ r
 
 module _ (s : List ℕ) where
   -- An application without a symbol is malformed.
-  pub apply-bad : firstNumber s ≡ Bad → Malformed ≡ lineAnswer (application (numbers (fields s)))
+  pub apply-bad : firstNumber s ≡ Bad → malformed ≡ lineAnswer (application (numbers (fields s)))
   unfolding application lineAnswer
   apply-bad h = rw (first-bad s h)
 
@@ -240,7 +241,7 @@ unfolding declaration declared arityAnswer oneAnswer numbers consNumber lineAnsw
 declare-fields k f [] h = refl
 declare-fields k f (a ∷ []) h = go (number a)
   where
-    bound : (n : ℕ) (t : Bool) → lineAnswer (cond t (some (declareLine k f n)) none) ≡ cond t (Declare k (length f) n) Malformed
+    bound : (n : ℕ) (t : Bool) → lineAnswer (cond t (some (declareLine k f n)) none) ≡ cond t (Declare k (length f) n) malformed
     bound n true = refl
     bound n false = refl
 
@@ -249,45 +250,66 @@ declare-fields k f (a ∷ []) h = go (number a)
     go (some n) = rw h (bound n (leb n maxArity))
 declare-fields k f (a ∷ b ∷ fs) h = go (number a) (number b) (numbers fs)
   where
-    go : (o p : Option ℕ) (x : Option (List ℕ)) → Malformed ≡ arityAnswer k (length f) (oneAnswer (consNumber o (consNumber p x)))
+    go : (o p : Option ℕ) (x : Option (List ℕ)) → malformed ≡ arityAnswer k (length f) (oneAnswer (consNumber o (consNumber p x)))
     go none p x = refl
     go (some n) none x = refl
     go (some n) (some m) none = refl
     go (some n) (some m) (some ns) = refl
 
+-- The length of a part, from what it says.
+name-none : (l : ℕ) → nameAnswer l ≡ NotAName → l ≡ 0
+unfolding nameAnswer
+name-none l h = go (eqb l 0) refl h
+  where
+    go : (b : Bool) → eqb l 0 ≡ b → cond b NotAName (Of l) ≡ NotAName → l ≡ 0
+    go true e h = eqb-true l 0 e
+    go false e h = let z : _≡_ {A = ℕ} 0 1 = cc in absurd (omega arith)
+
+name-some : (l n : ℕ) → nameAnswer l ≡ Of n → (n ≡ l) × (l ≡ 0 → ⊥)
+unfolding nameAnswer
+name-some l n h = go (eqb l 0) refl h
+  where
+    go : (b : Bool) → eqb l 0 ≡ b → cond b NotAName (Of l) ≡ Of n → (n ≡ l) × (l ≡ 0 → ⊥)
+    go true e h = let z : _≡_ {A = ℕ} 0 1 = cc in absurd (omega arith)
+    go false e h = (cc, eqb-false l 0 e)
+
 module _ (s m : List ℕ) (e : m ≡ firstName s) (k : Bool) where
   -- A declaration is malformed where no name comes first.
-  pub declare-absent : length m ≡ 0 → Malformed ≡ lineAnswer (declaration k (fields s))
+  pub declare-absent : nameAnswer (length m) ≡ NotAName → malformed ≡ lineAnswer (declaration k (fields s))
   unfolding lineAnswer
   declare-absent h =
-      let n = name-absent s (ap length (sym e) ∙ h) in
+      let n = name-absent s (ap length (sym e) ∙ name-none (length m) h) in
       sym (ap (λ fs. lineAnswer (declaration k fs)) (fields-first s) ∙ ap lineAnswer (declare-other k (firstField s) _ n))
 
-  -- A declaration is malformed where no field follows the name.
-  pub declare-short : (length m ≡ 0 → ⊥) → length s ≤ length m → Malformed ≡ lineAnswer (declaration k (fields s))
-  unfolding lineAnswer declaration
-  declare-short h l =
-      let n = name-present s (λ z. h (ap length e ∙ z)) in
-      rw (fields-last s (omega (arith, ap length e)))
+  module _ (l : ℕ) (h : nameAnswer (length m) ≡ Of l) where
+    named : (isName (firstField s) ≡ true) × (l ≡ fieldLen s)
+    named =
+        let p = name-some (length m) l h in
+        let n = name-present s (λ z. p .1 (ap length e ∙ z)) in
+        (n .0, p .0 ∙ ap length e ∙ n .1)
 
-  -- Where a name comes first, the rest is read as the arity.
-  pub declare-more : (length m ≡ 0 → ⊥) → length m < length s
-      → arityAnswer k (length m) (oneAnswer (numbers (fields (take (length s - (length m + 1)) (drop (length m + 1) s))))) ≡ lineAnswer
-      (declaration k (fields s))
-  declare-more h l =
-      let n = name-present s (λ z. h (ap length e ∙ z)) in
-      let q : length m ≡ fieldLen s = ap length e ∙ n .1 in
-      rw (rest-part (length m + 1) s, q)
-      (sym (ap (λ fs. lineAnswer (declaration k fs)) (fields-more s (omega arith)) ∙ declare-fields k (firstField s) _ (n .0)
-      ∙ rw (first-length s)))
+    -- A declaration is malformed where no field follows the name.
+    pub declare-short : length s ≤ l → malformed ≡ lineAnswer (declaration k (fields s))
+    unfolding lineAnswer declaration
+    declare-short g = let q = named .1 in rw (fields-last s (omega arith))
+
+    -- Where a name comes first, the rest is read as the arity.
+    pub declare-more : l < length s
+        → arityAnswer k l (oneAnswer (numbers (fields (take (length s - (l + 1)) (drop (l + 1) s))))) ≡ lineAnswer
+        (declaration k (fields s))
+    declare-more g =
+        let q = named .1 in
+        rw (rest-part (l + 1) s, q)
+        (sym (ap (λ fs. lineAnswer (declaration k fs)) (fields-more s (omega arith)) ∙ declare-fields k (firstField s) _ (named .0)
+        ∙ rw (first-length s)))
 
 -- A declaration is malformed where the rest is not one number.
-pub arity-none : (k : Bool) (n : ℕ) (o : One) → o ≡ NotOne → Malformed ≡ arityAnswer k n o
+pub arity-none : (k : Bool) (n : ℕ) (o : One) (r : ℕ) → o ≡ RefusedOne r → malformed ≡ arityAnswer k n o
 unfolding arityAnswer
-arity-none k n o h = rw h
+arity-none k n o r h = rw h
 
 -- A declaration with an arity above 4 is malformed.
-pub arity-large : (k : Bool) (n a : ℕ) (o : One) → o ≡ Only a → maxArity < a → Malformed ≡ arityAnswer k n o
+pub arity-large : (k : Bool) (n a : ℕ) (o : One) → o ≡ Only a → maxArity < a → malformed ≡ arityAnswer k n o
 unfolding arityAnswer
 arity-large k n a o h l = rw h (rw (lt-leb a maxArity l))
 

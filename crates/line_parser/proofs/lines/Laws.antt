@@ -17,10 +17,10 @@ use Rattle.line_parser.proofs.fields.Laws.{rest-part}
 use Rattle.line_parser.proofs.fields.Fields.{first-bad, first-value, first-last, first-more, numbers-some}
 use Rattle.line_parser.specs.declared.lines.Nodes.{Nodes}
 use Rattle.line_parser.specs.declared.lines.NodeLine.the-variants.{Apply}
-use Rattle.line_parser.specs.declared.lines.Line.the-variants.{Node, Malformed}
-use Rattle.line_parser.specs.declared.lines.One.the-variants.{Only, NotOne}
-use Rattle.line_parser.specs.declared.lines.Two.the-variants.{Both, NotTwo}
-use Rattle.line_parser.specs.Lines.{oneAnswer, twoAnswer, pushNode, applyOn, applyAnswer}
+use Rattle.line_parser.specs.declared.lines.Line.the-variants.{Node}
+use Rattle.line_parser.specs.declared.lines.One.the-variants.{Only, Refused as RefusedOne}
+use Rattle.line_parser.specs.declared.lines.Two.the-variants.{Both}
+use Rattle.line_parser.specs.Lines.{malformed, malformedOne, malformedTwo, oneAnswer, twoAnswer, pushNode, applyOn, applyAnswer}
 
 -- A choice between equal values is that value.
 pub cond-same : {A : Type 0} (t : Bool) (a : A) → cond t a a ≡ a
@@ -31,16 +31,16 @@ cond-same false a = refl
 
 module _ (s : List ℕ) where
   -- Where no number comes first, there is not one number.
-  pub one-bad : firstNumber s ≡ Bad → NotOne ≡ oneAnswer (numbers (fields s))
+  pub one-bad : firstNumber s ≡ Bad → malformedOne ≡ oneAnswer (numbers (fields s))
   unfolding oneAnswer
   one-bad h = rw (first-bad s h)
 
   -- Where another field follows, there is not one number.
-  pub one-more : (n e : ℕ) → firstNumber s ≡ Value n e → e < length s → NotOne ≡ oneAnswer (numbers (fields s))
+  pub one-more : (n e : ℕ) → firstNumber s ≡ Value n e → e < length s → malformedOne ≡ oneAnswer (numbers (fields s))
   unfolding oneAnswer consNumber
   one-more n e h l = rw (first-more s n e h l) (go (numbers (fields (drop (e + 1) s))) (numbers-some (drop (e + 1) s)))
     where
-      go : (x : Option (List ℕ)) → (x ≡ some [] → ⊥) → NotOne ≡ oneAnswer (consNumber (some n) x)
+      go : (x : Option (List ℕ)) → (x ≡ some [] → ⊥) → malformedOne ≡ oneAnswer (consNumber (some n) x)
       go none k = refl
       go (some []) k = absurd (k refl)
       go (some (m ∷ ms)) k = refl
@@ -62,12 +62,12 @@ one-is (some (m ∷ o ∷ ns)) n h = let z : _≡_ {A = ℕ} 0 1 = cc in absurd 
 
 module _ (s : List ℕ) where
   -- Where no number comes first, there are not two numbers.
-  pub two-bad : firstNumber s ≡ Bad → NotTwo ≡ twoAnswer (numbers (fields s))
+  pub two-bad : firstNumber s ≡ Bad → malformedTwo ≡ twoAnswer (numbers (fields s))
   unfolding twoAnswer
   two-bad h = rw (first-bad s h)
 
   -- Where no field follows the first number, there are not two numbers.
-  pub two-last : (n e : ℕ) → firstNumber s ≡ Value n e → length s ≤ e → NotTwo ≡ twoAnswer (numbers (fields s))
+  pub two-last : (n e : ℕ) → firstNumber s ≡ Value n e → length s ≤ e → malformedTwo ≡ twoAnswer (numbers (fields s))
   unfolding twoAnswer
   two-last n e h l = rw (first-last s n e h l)
 
@@ -77,12 +77,12 @@ module _ (s : List ℕ) where
   two-more n e h l = rw (rest-part (e + 1) s, first-more s n e h l)
 
 -- Where the rest is not one number, there are not two numbers.
-pub second-none : (n : ℕ) (x : Option (List ℕ)) → oneAnswer x ≡ NotOne → NotTwo ≡ twoAnswer (consNumber (some n) x)
+pub second-none : (n : ℕ) (x : Option (List ℕ)) (r : ℕ) → oneAnswer x ≡ RefusedOne r → malformedTwo ≡ twoAnswer (consNumber (some n) x)
 unfolding oneAnswer twoAnswer consNumber
-second-none n none h = refl
-second-none n (some []) h = refl
-second-none n (some (m ∷ [])) h = let z : _≡_ {A = ℕ} 0 1 = cc in absurd (omega arith)
-second-none n (some (m ∷ o ∷ ns)) h = refl
+second-none n none r h = refl
+second-none n (some []) r h = refl
+second-none n (some (m ∷ [])) r h = let z : _≡_ {A = ℕ} 0 1 = cc in absurd (omega arith)
+second-none n (some (m ∷ o ∷ ns)) r h = refl
 
 -- Where the rest is one number, there are two numbers.
 pub second-is : (n m : ℕ) (x : Option (List ℕ)) → oneAnswer x ≡ Only m → Both n m ≡ twoAnswer (consNumber (some n) x)
@@ -93,16 +93,16 @@ second-is n m x h = rw (one-is x m h)
 
 module _ (s : List ℕ) (f : ℕ) (ns : Nodes) where
   -- The application is malformed where no number comes next.
-  pub nodes-bad : firstNumber s ≡ Bad → Malformed ≡ applyAnswer f ns (numbers (fields s))
+  pub nodes-bad : firstNumber s ≡ Bad → malformed ≡ applyAnswer f ns (numbers (fields s))
   unfolding applyAnswer
   nodes-bad h = rw (first-bad s h)
 
   -- The application is malformed where four nodes were read already.
-  pub nodes-full : (n e : ℕ) → firstNumber s ≡ Value n e → maxArity ≤ ns .count → Malformed ≡ applyAnswer f ns (numbers (fields s))
+  pub nodes-full : (n e : ℕ) → firstNumber s ≡ Value n e → maxArity ≤ ns .count → malformed ≡ applyAnswer f ns (numbers (fields s))
   unfolding applyAnswer applyOn consNumber
   nodes-full n e h l = rw (first-value s n e h) (go (numbers (cond (ltb (fieldLen s) (length s)) (fields (drop (fieldLen s + 1) s)) [])))
     where
-      go : (x : Option (List ℕ)) → Malformed ≡ applyAnswer f ns (consNumber (some n) x)
+      go : (x : Option (List ℕ)) → malformed ≡ applyAnswer f ns (consNumber (some n) x)
       go none = refl
       go (some ms) = rw (le-ltb (ns .count) maxArity l)
 

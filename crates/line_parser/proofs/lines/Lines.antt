@@ -3,7 +3,7 @@ use Prim.Native.Nat.{ℕ, _+_, _≤_}
 use Prim.Native.Char.{code}
 use native.Mathlib.Omega.{arith}
 use mathlib.Core.Bool.{Bool, true, false, _&&_, cond}
-use mathlib.Core.Path.{_≡_, refl, sym, ap, _∙_}
+use mathlib.Core.Path.{_≡_, refl, sym, ap, _∙_, subst}
 use mathlib.Core.List.{List, [], _∷_}
 use mathlib.Core.Option.{Option, none, some}
 use lib.Dec.{ltb, leb, eqb}
@@ -17,7 +17,7 @@ use Rattle.sheet_format.specs.SheetLines.{twoNumbers, withVariable, application
 use Rattle.sheet_format.proofs.Options.{some-is}
 use Rattle.sheet_format.proofs.Bytes.{name-short, name-length}
 use Rattle.sheet_format.proofs.SheetLines.{FormedLine, parseLine-some}
-use Rattle.line_parser.specs.Fields.{fieldLen, firstField}
+use Rattle.line_parser.specs.Fields.{fieldLen, firstField, firstName}
 use Rattle.line_parser.proofs.fields.Fields.{fields-first, first-length}
 use Rattle.line_parser.specs.declared.lines.Nodes.{Nodes}
 use Rattle.line_parser.specs.declared.lines.NodeLine.the-variants.{Apply}
@@ -42,35 +42,83 @@ nodes-back (p ∷ q ∷ r ∷ t ∷ u ∷ ns) h = absurd (omega arith)
 abbrev Back : List ℕ → Option SheetLine → Type 0
 Back s o = lineBack s (lineAnswer o) ≡ o
 
+-- A line that is neither a declaration nor an application.
+abbrev Plain : SheetLine → Type 0
+Plain (declareLine k n a) = ⊥
+Plain (nodeLine (variableLine v)) = Unit {0}
+Plain (nodeLine (applyLine f ns)) = ⊥
+Plain (nodeLine trueLine) = Unit {0}
+Plain (nodeLine (andLine n m)) = Unit {0}
+Plain (nodeLine (orLine n m)) = Unit {0}
+Plain (nodeLine (impliesLine n m)) = Unit {0}
+Plain (nodeLine (someLine v n)) = Unit {0}
+Plain (nodeLine (everyLine v n)) = Unit {0}
+Plain (clauseLine n) = Unit {0}
+Plain (goalLine n) = Unit {0}
+
+-- What holds of no line and of every plain line holds of the lines of each form that are plain.
+module _ (P : Option SheetLine → Type 0) (absent : P none) (plain : (l : SheetLine) → Plain l → P (some l)) where
+  -- Of a choice if it holds of both sides.
+  cond-holds : (t : Bool) (x y : Option SheetLine) → P x → P y → P (cond t x y)
+  cond-holds true x y h k = h
+  cond-holds false x y h k = k
+
+  -- Of a line without numbers.
+  no-holds : (l : SheetLine) → Plain l → (x : Option (List ℕ)) → P (noNumber l x)
+  unfolding noNumber
+  no-holds l h none = absent
+  no-holds l h (some []) = plain l h
+  no-holds l h (some (n ∷ ns)) = absent
+
+  -- Of a line with one number.
+  one-holds : (l : ℕ → SheetLine) → ((n : ℕ) → Plain (l n)) → (x : Option (List ℕ)) → P (oneNumber l x)
+  unfolding oneNumber
+  one-holds l h none = absent
+  one-holds l h (some []) = absent
+  one-holds l h (some (n ∷ [])) = plain (l n) (h n)
+  one-holds l h (some (n ∷ m ∷ ns)) = absent
+
+  -- Of a line with two numbers.
+  two-holds : (l : ℕ → ℕ → SheetLine) → ((n m : ℕ) → Plain (l n m)) → (x : Option (List ℕ)) → P (twoNumbers l x)
+  unfolding twoNumbers
+  two-holds l h none = absent
+  two-holds l h (some []) = absent
+  two-holds l h (some (n ∷ [])) = absent
+  two-holds l h (some (n ∷ m ∷ [])) = plain (l n m) (h n m)
+  two-holds l h (some (n ∷ m ∷ o ∷ ns)) = absent
+
+  -- Of a line with any letter, if it holds of applications and of declarations.
+  letter-holds : (c : ℕ) (fs : List (List ℕ)) → P (application (numbers fs)) → ((k : Bool) → P (declaration k fs)) → P (lineOf c fs)
+  unfolding lineOf
+  letter-holds c fs a h =
+      cond-holds (eqb c (code "F")) _ _ (h true)
+      (cond-holds (eqb c (code "P")) _ _ (h false)
+      (cond-holds (eqb c (code "V")) _ _ (one-holds (λ v. nodeLine (variableLine v)) (λ v. tt) (withVariable (numbers fs)))
+      (cond-holds (eqb c (code "A")) _ _ a
+      (cond-holds (eqb c (code "Y")) _ _ (no-holds (nodeLine trueLine) tt (numbers fs))
+      (cond-holds (eqb c (code "&")) _ _ (two-holds (λ n m. nodeLine (andLine n m)) (λ n m. tt) (numbers fs))
+      (cond-holds (eqb c (code "|")) _ _ (two-holds (λ n m. nodeLine (orLine n m)) (λ n m. tt) (numbers fs))
+      (cond-holds (eqb c (code ">")) _ _ (two-holds (λ n m. nodeLine (impliesLine n m)) (λ n m. tt) (numbers fs))
+      (cond-holds (eqb c (code "E")) _ _ (two-holds (λ v n. nodeLine (someLine v n)) (λ v n. tt) (withVariable (numbers fs)))
+      (cond-holds (eqb c (code "U")) _ _ (two-holds (λ v n. nodeLine (everyLine v n)) (λ v n. tt) (withVariable (numbers fs)))
+      (cond-holds (eqb c (code "C")) _ _ (one-holds clauseLine (λ n. tt) (numbers fs))
+      (cond-holds (eqb c (code "Q")) _ _ (one-holds goalLine (λ n. tt) (numbers fs)) absent)))))))))))
+
 module _ (s : List ℕ) where
-  -- A choice comes back if both sides do.
-  cond-back : (t : Bool) (x y : Option SheetLine) → Back s x → Back s y → Back s (cond t x y)
-  cond-back true x y h k = h
-  cond-back false x y h k = k
-
-  -- A line without numbers comes back.
-  no-back : (l : SheetLine) → Back s (some l) → (x : Option (List ℕ)) → Back s (noNumber l x)
-  unfolding noNumber lineAnswer lineBack
-  no-back l h none = refl
-  no-back l h (some []) = h
-  no-back l h (some (n ∷ ns)) = refl
-
-  -- A line with one number comes back.
-  one-back : (l : ℕ → SheetLine) → ((n : ℕ) → Back s (some (l n))) → (x : Option (List ℕ)) → Back s (oneNumber l x)
-  unfolding oneNumber lineAnswer lineBack
-  one-back l h none = refl
-  one-back l h (some []) = refl
-  one-back l h (some (n ∷ [])) = h n
-  one-back l h (some (n ∷ m ∷ ns)) = refl
-
-  -- A line with two numbers comes back.
-  two-back : (l : ℕ → ℕ → SheetLine) → ((n m : ℕ) → Back s (some (l n m))) → (x : Option (List ℕ)) → Back s (twoNumbers l x)
-  unfolding twoNumbers lineAnswer lineBack
-  two-back l h none = refl
-  two-back l h (some []) = refl
-  two-back l h (some (n ∷ [])) = refl
-  two-back l h (some (n ∷ m ∷ [])) = h n m
-  two-back l h (some (n ∷ m ∷ o ∷ ns)) = refl
+  -- A plain line comes back.
+  plain-back : (l : SheetLine) → Plain l → Back s (some l)
+  unfolding lineAnswer nodeAnswer lineBack nodeBack
+  plain-back (declareLine k n a) h = absurd h
+  plain-back (nodeLine (variableLine v)) h = refl
+  plain-back (nodeLine (applyLine f ns)) h = absurd h
+  plain-back (nodeLine trueLine) h = refl
+  plain-back (nodeLine (andLine n m)) h = refl
+  plain-back (nodeLine (orLine n m)) h = refl
+  plain-back (nodeLine (impliesLine n m)) h = refl
+  plain-back (nodeLine (someLine v n)) h = refl
+  plain-back (nodeLine (everyLine v n)) h = refl
+  plain-back (clauseLine n) h = refl
+  plain-back (goalLine n) h = refl
 
   -- An application comes back.
   apply-back : (x : Option (List ℕ)) → Back s (application x)
@@ -92,25 +140,14 @@ module _ (s : List ℕ) where
       go : (o : Option ℕ) → Back s (declared k f o)
       go none = refl
       go (some n) =
-          cond-back (isName f && leb n maxArity) (some (declareLine k f n)) none (ap (λ (m : List ℕ). some (declareLine k m n)) h) refl
+          cond-holds (Back s) refl plain-back (isName f && leb n maxArity) (some (declareLine k f n)) none
+          (ap (λ (m : List ℕ). some (declareLine k m n)) h) refl
   declare-back k f (a ∷ b ∷ fs) h = refl
 
   -- A line with any letter comes back, if declarations do.
   letter-back : (c : ℕ) (fs : List (List ℕ)) → ((k : Bool) → Back s (declaration k fs)) → Back s (lineOf c fs)
-  unfolding lineOf lineAnswer nodeAnswer lineBack nodeBack
-  letter-back c fs h =
-      cond-back (eqb c (code "F")) _ _ (h true)
-      (cond-back (eqb c (code "P")) _ _ (h false)
-      (cond-back (eqb c (code "V")) _ _ (one-back (λ v. nodeLine (variableLine v)) (λ v. refl) (withVariable (numbers fs)))
-      (cond-back (eqb c (code "A")) _ _ (apply-back (numbers fs))
-      (cond-back (eqb c (code "Y")) _ _ (no-back (nodeLine trueLine) refl (numbers fs))
-      (cond-back (eqb c (code "&")) _ _ (two-back (λ n m. nodeLine (andLine n m)) (λ n m. refl) (numbers fs))
-      (cond-back (eqb c (code "|")) _ _ (two-back (λ n m. nodeLine (orLine n m)) (λ n m. refl) (numbers fs))
-      (cond-back (eqb c (code ">")) _ _ (two-back (λ n m. nodeLine (impliesLine n m)) (λ n m. refl) (numbers fs))
-      (cond-back (eqb c (code "E")) _ _ (two-back (λ v n. nodeLine (someLine v n)) (λ v n. refl) (withVariable (numbers fs)))
-      (cond-back (eqb c (code "U")) _ _ (two-back (λ v n. nodeLine (everyLine v n)) (λ v n. refl) (withVariable (numbers fs)))
-      (cond-back (eqb c (code "C")) _ _ (one-back clauseLine (λ n. refl) (numbers fs))
-      (cond-back (eqb c (code "Q")) _ _ (one-back goalLine (λ n. refl) (numbers fs)) refl)))))))))))
+  unfolding lineAnswer lineBack
+  letter-back c fs h = letter-holds (Back s) refl plain-back c fs (apply-back (numbers fs)) h
 
 -- A text begins with its first field.
 first-taken : (ds : List ℕ) → take (length (firstField ds)) ds ≡ firstField ds
@@ -137,6 +174,68 @@ line-back (c ∷ d ∷ ds) = go (eqb d tab) refl
         (letter-back (c ∷ tab ∷ ds) c (fields ds) (λ k. first-back (c ∷ tab ∷ ds) k ds refl)))
     go false e = rw (long c d ds e)
 
+-- the declared name
+
+-- A declared name is those bytes.
+unfoldable Named : List ℕ → Option SheetLine → Type 0
+Named f none = Unit {0}
+Named f (some (declareLine k n a)) = n ≡ f
+Named f (some (nodeLine l)) = Unit {0}
+Named f (some (clauseLine n)) = Unit {0}
+Named f (some (goalLine n)) = Unit {0}
+
+module _ (f : List ℕ) where
+  plain-named : (l : SheetLine) → Plain l → Named f (some l)
+  unfolding Named
+  plain-named (declareLine k n a) h = absurd h
+  plain-named (nodeLine l) h = tt
+  plain-named (clauseLine n) h = tt
+  plain-named (goalLine n) h = tt
+
+  apply-named : (x : Option (List ℕ)) → Named f (application x)
+  unfolding Named application
+  apply-named none = tt
+  apply-named (some []) = tt
+  apply-named (some (g ∷ ns)) =
+      cond-holds (Named f) tt plain-named (leb (length ns) maxArity) (some (nodeLine (applyLine g ns))) none tt tt
+
+  -- A declaration has its first field as its name.
+  declare-named : (k : Bool) (fs : List (List ℕ)) → Named f (declaration k (f ∷ fs))
+  unfolding Named declaration declared
+  declare-named k [] = tt
+  declare-named k (a ∷ []) = go (number a)
+    where
+      go : (o : Option ℕ) → Named f (declared k f o)
+      go none = tt
+      go (some n) = cond-holds (Named f) tt plain-named (isName f && leb n maxArity) (some (declareLine k f n)) none refl tt
+  declare-named k (a ∷ b ∷ fs) = tt
+
+  letter-named : (c : ℕ) (fs : List (List ℕ)) → ((k : Bool) → Named f (declaration k fs)) → Named f (lineOf c fs)
+  unfolding Named
+  letter-named c fs h = letter-holds (Named f) tt plain-named c fs (apply-named (numbers fs)) h
+
+first-named : (k : Bool) (ds : List ℕ) → Named (firstField ds) (declaration k (fields ds))
+first-named k ds =
+    rw (fields-first ds)
+    (declare-named (firstField ds) k (cond (ltb (fieldLen ds) (length ds)) (fields (drop (fieldLen ds + 1) ds)) []))
+
+-- The name that a line declares is the first field of the rest after its letter.
+line-named : (s : List ℕ) → Named (firstField (drop 2 s)) (parseLine s)
+unfolding parseLine ofFields fields declaration Named
+line-named [] = tt
+line-named (c ∷ []) = rw (alone c) (letter-named (firstField []) c [] (λ k. tt))
+line-named (c ∷ d ∷ ds) = go (eqb d tab) refl
+  where
+    go : (t : Bool) → eqb d tab ≡ t → Named (firstField ds) (parseLine (c ∷ d ∷ ds))
+    go true e =
+        rw (eqb-true d tab e) (rw (lettered c ds) (letter-named (firstField ds) c (fields ds) (λ k. first-named k ds)))
+    go false e = rw (long c d ds e) tt
+
+-- A first field that is a name is the first name.
+first-name : (s n : List ℕ) → n ≡ firstField s → isName n ≡ true → firstName s ≡ n
+unfolding firstName
+first-name s n h e = rw (← h) (rw e)
+
 -- what an answer says
 
 -- The line that was read.
@@ -153,9 +252,10 @@ pub declare-is : (s : List ℕ) (k : Bool) (n a : ℕ) → Declare k n a ≡ lin
 unfolding lineBack
 declare-is s k n a e = line-is s (Declare k n a) e
 
--- It lies within the line and is a name; its arity is at most 4.
+-- It lies within the line, is a name, and is what the name reader returns for the rest after the letter; its arity is at most 4.
 pub record DeclareBounds (s : List ℕ) (n a : ℕ) : Type 0 where
   pub named : isName (take n (drop 2 s)) ≡ true
+  pub first : firstName (drop 2 s) ≡ take n (drop 2 s)
   pub some-byte : 1 ≤ n
   pub short : n ≤ maxName
   pub within : 2 + n ≤ length s
@@ -163,7 +263,7 @@ pub record DeclareBounds (s : List ℕ) (n a : ℕ) : Type 0 where
 
 -- The bounds hold of every declaration that is read.
 pub declare-bounds : (s : List ℕ) (k : Bool) (n a : ℕ) → Declare k n a ≡ lineAnswer (parseLine s) → DeclareBounds s n a
-unfolding lineAnswer
+unfolding lineAnswer Named
 declare-bounds s k n a e =
     let p = declare-is s k n a e in
     let f = some-is FormedLine (parseLine s) (declareLine k (take n (drop 2 s)) a) (parseLine-some s) p in
@@ -173,7 +273,14 @@ declare-bounds s k n a e =
     let m = name-short (take n (drop 2 s)) (f .0) in
     let w = length-take n (drop 2 s) in
     let d = length-drop 2 s in
-    record { named = f .0; some-byte = omega arith; short = omega arith; within = omega arith; arity = f .1 }
+    record {
+      named = f .0;
+      first = first-name (drop 2 s) (take n (drop 2 s)) (subst (Named (firstField (drop 2 s))) p (line-named s)) (f .0);
+      some-byte = omega arith;
+      short = omega arith;
+      within = omega arith;
+      arity = f .1;
+    }
 
 -- An application has at most four nodes.
 pub apply-count : (s : List ℕ) (f : ℕ) (ns : Nodes) → Node (Apply f ns) ≡ lineAnswer (parseLine s) → ns .count ≤ maxArity

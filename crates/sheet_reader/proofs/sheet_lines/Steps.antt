@@ -3,12 +3,12 @@
 use Prim.Native.Nat.{ℕ, zero, suc, _+_, _-_, _≤_}
 use native.Mathlib.Omega.{arith}
 use mathlib.Core.Bool.{Bool, true, false, not, cond}
-use mathlib.Core.Path.{_≡_, refl, sym, ap, subst}
+use mathlib.Core.Path.{_≡_, refl, sym, ap, _∙_, subst}
 use mathlib.Core.List.{List, [], _∷_, _++_}
 use mathlib.Core.Option.{Option, none, some}
 use lib.Dec.{ltb, leb, eqb}
 use lib.ListN.{length, take, drop, getElem?, length-take, length-drop, length-append}
-use lib.Seq.{take-take, drop-drop}
+use lib.Seq.{take-take, drop-drop, length-take-le}
 use Rattle.formulas.specs.Formulas.{Goal, Clause}
 use Rattle.sheet_format.specs.Limits.{variableNames, maxSymbols, maxNodes, maxClauses}
 use Rattle.sheet_format.specs.SheetLines.{SheetLine, declareLine, nodeLine, clauseLine, goalLine, parseLine}
@@ -22,21 +22,52 @@ use Rattle.sheet_format.proofs.SheetLines.{FormedNodeLine}
 use Rattle.line_parser.specs.declared.lines.NodeLine.{NodeLine}
 use Rattle.line_parser.specs.declared.lines.NodeLine.the-variants.{Variable, Apply, True, And, Or, Implies, Exists, Forall}
 use Rattle.line_parser.specs.declared.lines.Line.{Line}
-use Rattle.line_parser.specs.declared.lines.Line.the-variants.{Declare, Node, Clause as ClauseLine, Goal as GoalLine, Malformed}
+use Rattle.line_parser.specs.declared.lines.Line.the-variants.{Declare, Node, Clause as ClauseLine, Goal as GoalLine}
+use Rattle.line_parser.specs.declared.lines.Line.the-variants.{Refused as RefusedLine}
+use Rattle.line_parser.specs.Fields.{firstName}
 use Rattle.line_parser.specs.Lines.{lineAnswer, nodeList, nodeBack, lineBack}
 use Rattle.line_parser.proofs.lines.Lines.{line-is, line-formed, declare-bounds, apply-count}
 use Rattle.node_table.specs.Layout.{goalBit}
 use Rattle.table_builder.specs.declared.node_info.Counts.{Counts}
 use Rattle.table_builder.specs.declared.node_info.Taken.the-variants.{Stop, Last}
 use Rattle.table_builder.specs.Nodes.{Made, made, checkGoal}
+use Rattle.table_builder.specs.Symbols.{StandsAt, insertDeclaration}
 use Rattle.table_decoding.specs.Decoding.{tableOf, Decodes, Agrees, Follows}
 use Rattle.table_decoding.proofs.Lines.{follows-variable, follows-true, follows-and, follows-or, follows-implies, follows-exists}
 use Rattle.table_decoding.proofs.Lines.{follows-forall, follows-application, follows-clause, follows-goal, follows-declaration}
-use Rattle.sheet_reader.specs.Reader.{nodesIn, goalOr, FormedNode, FormedLine, takeNode, takeLine, lineTaken}
+use Rattle.sheet_reader.specs.Reader.{nodesIn, goalOr, FormedNode, FormedDeclaration, FormedLine, takeNode, takeLine, lineTaken}
 
 -- The bytes from `at` up to `end`.
 abbrev pub between : List ℕ → ℕ → ℕ → List ℕ
 between s at end = take (end - at) (drop at s)
+
+-- parts of a line
+
+-- Bytes taken from no bytes are no bytes.
+part-nil : (n : ℕ) → _≡_ {A = List ℕ} [] (take n [])
+part-nil zero = refl
+part-nil (suc n) = refl
+
+drop-part : (n : ℕ) (l : List ℕ) → drop 2 (take (suc (suc n)) l) ≡ take n (drop 2 l)
+drop-part n [] = part-nil n
+drop-part n (c ∷ []) = part-nil n
+drop-part n (c ∷ d ∷ l) = refl
+
+-- The rest after the letter and its tab has the same bytes in the line as on the sheet.
+rest-at : (s : List ℕ) (at end : ℕ) → at + 2 ≤ end → drop 2 (between s at end) ≡ between s (at + 2) end
+rest-at s at end h =
+    let z : end - at ≡ suc (suc (end - (at + 2))) = omega arith in
+    rw (z, drop-part (end - (at + 2)) (drop at s), drop-drop 2 at s)
+
+-- A declared name has the same bytes in its line as on the sheet.
+named-at : (s : List ℕ) (at end n : ℕ) → at ≤ end → end ≤ length s → 2 + n ≤ length (between s at end)
+    → take n (drop 2 (between s at end)) ≡ take n (drop (at + 2) s)
+named-at s at end n h k i =
+    let w = length-take (end - at) (drop at s) in
+    let d = length-drop at s in
+    let r : at + 2 ≤ end = omega arith in
+    let y : n ≤ end - (at + 2) = omega arith in
+    rw (rest-at s at end r) (take-take n (end - (at + 2)) (drop (at + 2) s) y)
 
 -- what is required
 
@@ -54,41 +85,49 @@ node-formed s (Forall v n) e h = h
 
 -- Any line that is read satisfies what the table's functions require.
 pub line-fits : (s : List ℕ) (at end : ℕ) → at ≤ end → end ≤ length s → (r : Line) → r ≡ lineAnswer (parseLine (between s at end))
-    → FormedLine s at r
+    → FormedLine s at end r
 unfolding FormedLine lineBack
 line-fits s at end h k (Declare function n arity) e =
     let b = declare-bounds (between s at end) function n arity e in
     let w = length-take (end - at) (drop at s) in
     let d = length-drop at s in
     let i = b .within in
-    (omega arith, b .arity)
+    let r : at + 2 ≤ end = omega arith in
+    record {
+      rest = r;
+      within = k;
+      name = ap firstName (sym (rest-at s at end r)) ∙ b .first ∙ named-at s at end n h k i;
+      nameWithin = omega arith;
+      arity = b .arity;
+    }
 line-fits s at end h k (Node l) e =
     node-formed (between s at end) l e (line-formed (between s at end) (Node l) (nodeLine (nodeBack l)) e refl)
 line-fits s at end h k (ClauseLine n) e = tt
 line-fits s at end h k (GoalLine n) e = tt
-line-fits s at end h k Malformed e = tt
+line-fits s at end h k (RefusedLine n) e = tt
 
--- what is answered
+-- the declared name
 
--- Bytes taken from no bytes are no bytes.
-part-nil : (n : ℕ) → _≡_ {A = List ℕ} [] (take n [])
-part-nil zero = refl
-part-nil (suc n) = refl
+-- What the name reader returns for the rest of a declaration is the declared name on the sheet.
+module _ (s : List ℕ) (at end n arity : ℕ) (name : List ℕ) (f : FormedDeclaration s at end n arity)
+    (e : name ≡ firstName (between s (at + 2) end)) where
+  name-length : length name ≡ n
+  name-length =
+      let d = length-drop (at + 2) s in
+      let i = f .nameWithin in
+      let y : n ≤ length (drop (at + 2) s) = omega arith in
+      ap length (e ∙ f .name) ∙ length-take-le n (drop (at + 2) s) y
 
-drop-part : (n : ℕ) (l : List ℕ) → drop 2 (take (suc (suc n)) l) ≡ take n (drop 2 l)
-drop-part n [] = part-nil n
-drop-part n (c ∷ []) = part-nil n
-drop-part n (c ∷ d ∷ l) = refl
+  pub name-stands : StandsAt s (at + 2) name
+  name-stands =
+      let l = name-length in
+      let i = f .nameWithin in
+      (omega arith, e ∙ f .name ∙ ap (λ (m : ℕ). take m (drop (at + 2) s)) (sym l))
 
--- A declared name has the same bytes in its line as on the sheet.
-named-at : (s : List ℕ) (at end n : ℕ) → at ≤ end → end ≤ length s → 2 + n ≤ length (between s at end)
-    → take n (drop 2 (between s at end)) ≡ take n (drop (at + 2) s)
-named-at s at end n h k i =
-    let w = length-take (end - at) (drop at s) in
-    let d = length-drop at s in
-    let z : end - at ≡ suc (suc (end - at - 2)) = omega arith in
-    let y : n ≤ end - at - 2 = omega arith in
-    rw (z, drop-part (end - at - 2) (drop at s), take-take n (end - at - 2) (drop 2 (drop at s)) y, drop-drop 2 at s)
+  -- Its length is the one that the line reader answers.
+  pub name-inserted : (t : List ℕ) (k : Counts) (function : Bool) (m : Made)
+      → m ≡ insertDeclaration s t k function (at + 2) (length name) arity → m ≡ insertDeclaration s t k function (at + 2) n arity
+  name-inserted t k function m h = h ∙ ap (λ (l : ℕ). insertDeclaration s t k function (at + 2) l arity) name-length
 
 -- what a line adds
 
@@ -179,6 +218,15 @@ goal-number t k n goal e = go (leb (k .nodes) n) (eqb (goalBit t n) 1) e
     go false true e = cc
     go false false e = absurd (let z : _≡_ {A = ℕ} 0 1 = cc in omega arith)
 
+-- The line reader refuses with 6.
+refused-number : (o : Option SheetLine) (n : ℕ) → RefusedLine n ≡ lineAnswer o → n ≡ 6
+unfolding lineAnswer
+refused-number none n e = cc
+refused-number (some (declareLine f m a)) n e = absurd (let z : _≡_ {A = ℕ} 0 1 = cc in omega arith)
+refused-number (some (nodeLine l)) n e = absurd (let z : _≡_ {A = ℕ} 0 1 = cc in omega arith)
+refused-number (some (clauseLine m)) n e = absurd (let z : _≡_ {A = ℕ} 0 1 = cc in omega arith)
+refused-number (some (goalLine m)) n e = absurd (let z : _≡_ {A = ℕ} 0 1 = cc in omega arith)
+
 module _ (bytes t : List ℕ) (k : Counts) (h : Decodes bytes t k) where
   -- A line that makes a node is answered as document 01's definitions say.
   node-follows : (l : NodeLine) → FormedNodeLine (nodeBack l) → FormedNode l
@@ -219,7 +267,7 @@ module _ (bytes t : List ℕ) (k : Counts) (h : Decodes bytes t k) where
         node-follows l f (node-formed (between bytes at end) l e f)
     answer-follows (ClauseLine n) e = follows-clause bytes t k h n
     answer-follows (GoalLine n) e = follows-goal bytes t k h n
-    answer-follows Malformed e = malformed-follows
+    answer-follows (RefusedLine n) e = rw (refused-number (parseLine (between bytes at end)) n e) malformed-follows
 
     -- The line as it is read is answered as document 01's definitions say.
     pub line-follows : Follows bytes t k (lineTaken bytes t k at end) (sheetLine (tableOf bytes t k) (parseLine (between bytes at end)))
@@ -255,7 +303,7 @@ module _ (bytes t : List ℕ) (k : Counts) (h : Decodes bytes t k) where
           same = ap (λ (m : Made). m .table) q;
           named = ap (λ (m : ℕ). some (goalLine m)) (goal-number t k n goal (ap (λ (m : Made). m .answer) q));
         }
-    answer-last Malformed e t′ goal q = other-line _ _ t′ goal (answer-follows Malformed e) q (λ i. i)
+    answer-last (RefusedLine n) e t′ goal q = other-line _ _ t′ goal (answer-follows (RefusedLine n) e) q (λ i. i)
 
     -- The line as it is read, if it ends the sheet, leaves the table and names the goal's node.
     pub line-last : (t′ : List ℕ) (goal : ℕ) → made t′ (Last goal) ≡ lineTaken bytes t k at end

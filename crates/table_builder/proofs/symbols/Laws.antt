@@ -4,7 +4,7 @@ use native.Mathlib.Numerals.{add-one}
 use native.Mathlib.Nat.{add-assoc}
 use native.Mathlib.Omega.{arith}
 use mathlib.Core.Bool.{Bool, true, false, cond}
-use mathlib.Core.Path.{_≡_, sym, ap, _∙_}
+use mathlib.Core.Path.{_≡_, sym, _∙_}
 use mathlib.Core.List.{List, [], _∷_}
 use lib.Dec.{eqb}
 use lib.ListN.{length, take, drop, getD, set, drop-of-length-le}
@@ -79,25 +79,16 @@ find-first s t n name =
 pub first-length : (n count a b c d : ℕ) → count ≤ 4 → n ≡ count → n ≡ length (firstOf n a b c d)
 first-length n count a b c d h e = sym (length-take-le n (a ∷ b ∷ c ∷ d ∷ []) (omega arith))
 
--- The name is found in the bytes that the code lends exactly if it is found in its bytes on the sheet.
-named-part : (s t : List ℕ) (n start len : ℕ)
-    → findName s t n (take (start + len - start) (drop start s)) ≡ findName s t n (take len (drop start s))
-named-part s t n start len =
-    let e : start + len - start ≡ len = omega arith in
-    ap (λ (z : ℕ). findName s t n (take z (drop start s))) e
+-- A name found among the declared ones, and a name that is new. The name is that part of the sheet.
+module _ (s t : List ℕ) (k : Counts) (function : Bool) (start : ℕ) (name : List ℕ) (arity : ℕ)
+    (part : name ≡ take (length name) (drop start s)) (h : k .symbols < 256)
+    (found : Bool) (e : found ≡ findName s t (k .symbols) name) where
+  pub declaration-found : found ≡ true → made t (Stop 8) ≡ insertDeclaration s t k function start (length name) arity
+  unfolding insertDeclaration
+  declaration-found f = rw (lt-leb 256 (k .symbols) h, ← part, ← e, f)
 
-pub declaration-found : (s t : List ℕ) (k : Counts) (function : Bool) (start len arity : ℕ) (found : Bool) → k .symbols < 256
-    → found ≡ findName s t (k .symbols) (take (start + len - start) (drop start s)) → found ≡ true
-    → made t (Stop 8) ≡ insertDeclaration s t k function start len arity
-unfolding insertDeclaration
-declaration-found s t k function start len arity found h e f =
-    rw (lt-leb 256 (k .symbols) h, ← named-part s t (k .symbols) start len, ← e, f)
-
-pub declaration-taken : (s t t′ : List ℕ) (k : Counts) (function : Bool) (start len arity word a b : ℕ) (found : Bool) → k .symbols < 256
-    → found ≡ findName s t (k .symbols) (take (start + len - start) (drop start s)) → found ≡ false → word ≡ symbolWord function arity
-    → a ≡ start → b ≡ len
-    → t′ ≡ symbolWritten t (k .symbols) a b word
-    → made t′ (Next (counts (k .symbols + 1) (k .nodes) (k .clauses))) ≡ insertDeclaration s t k function start len arity
-unfolding insertDeclaration
-declaration-taken s t t′ k function start len arity word a b found h e f w x y z =
-    rw (lt-leb 256 (k .symbols) h, ← named-part s t (k .symbols) start len, ← e, f, z, w, x, y)
+  pub declaration-taken : (t′ : List ℕ) (word a b : ℕ) → found ≡ false → word ≡ symbolWord function arity → a ≡ start → b ≡ length name
+      → t′ ≡ symbolWritten t (k .symbols) a b word
+      → made t′ (Next (counts (k .symbols + 1) (k .nodes) (k .clauses))) ≡ insertDeclaration s t k function start (length name) arity
+  unfolding insertDeclaration
+  declaration-taken t′ word a b f w x y z = rw (lt-leb 256 (k .symbols) h, ← part, ← e, f, z, w, x, y)

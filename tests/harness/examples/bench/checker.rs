@@ -1,7 +1,7 @@
 //! The checker: on proofs, and on its worst cases with their growth.
 
 use harness::sheets;
-use harness::texts::hard_texts as hard;
+use harness::texts::{hard_texts as hard, showings_after_names};
 use rules::{Outcome, Verdict};
 
 use crate::lent::Lent;
@@ -56,4 +56,14 @@ pub fn hard_texts() {
             reference * 1e3
         );
     }
+}
+
+/// The longest call that is known.
+pub fn worst() {
+    println!("Worst time of a check:");
+    let lent = &mut Lent::new();
+    let hard = showings_after_names(65_535);
+    assert_eq!(lent.check(&hard.sheet, &hard.text), Verdict::Valid);
+    let [time] = in_turn(|_| _ = lent.check(&hard.sheet, &hard.text));
+    println!("  {}, {} bytes: {:.2} s", hard.name, hard.text.len(), time);
 }

@@ -89,6 +89,16 @@ pub fn growth() {
     }
 }
 
+/// The longest calls that are known.
+pub fn worst() {
+    println!("Worst times, 50,000 units:");
+    let lent = &mut Lent::new();
+    for (name, sheet) in sheets::worst() {
+        let [time] = in_turn(|_| _ = lent.run(&sheet, 50_000));
+        println!("  {name}, {} bytes: {:.2} s", sheet.len(), time);
+    }
+}
+
 /// Bytes per second of the reader, on a full sheet and on one of half the size.
 pub fn reader() {
     let (full, half, trivial) = (full_sheet(1), full_sheet(2), trivial());

@@ -1,6 +1,6 @@
 //! Lent buffers, made once.
 
-use rules::{check, run, Run, Verdict};
+use rules::{check_here, run_here, Run, Verdict};
 
 pub struct Lent {
     table: Vec<u32>,
@@ -20,7 +20,8 @@ impl Lent {
     /// A run with a work buffer for the budget.
     pub fn run(&mut self, sheet: &[u8], budget: u32) -> Run {
         let work = &mut self.work[..64 * budget as usize];
-        run(sheet, budget, &mut self.table, work, &mut self.answer)
+        // SAFETY: a main thread has 8 MB of stack; `memory` tries less in processes of their own.
+        unsafe { run_here(sheet, budget, &mut self.table, work, &mut self.answer) }
     }
 
     /// The text of the run before.
@@ -30,6 +31,7 @@ impl Lent {
 
     pub fn check(&mut self, sheet: &[u8], text: &[u8]) -> Verdict {
         let lines = text.iter().filter(|&&byte| byte == b'\n').count();
-        check(sheet, text, &mut self.table, &mut self.work[..64 * lines])
+        // SAFETY: a main thread has 8 MB of stack; `memory` tries less in processes of their own.
+        unsafe { check_here(sheet, text, &mut self.table, &mut self.work[..64 * lines]) }
     }
 }

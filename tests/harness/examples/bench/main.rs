@@ -23,5 +23,7 @@ fn main() {
     engine::reader();
     checker::proofs();
     checker::hard_texts();
+    engine::worst();
+    checker::worst();
     memory::figures();
 }

@@ -1,6 +1,7 @@
 use Prim.Native.Nat.{_+_, _-_, _<_, _≤_}
 use Rattle.instances.proofs.instance_ranges.match_children.Statement.{statement}
-use Rattle.instances.proofs.instance_ranges.OpenNodes.{matchOpen, head-forward, open-first, open-none, open-other, open-end, open-deep, open-differs, open-child}
+use Rattle.instances.proofs.instance_ranges.OpenNodes.{matchOpen, head-forward, open-first, open-none, open-other, open-end}
+use Rattle.instances.proofs.instance_ranges.OpenNodes.{open-deep, open-differs, open-child}
 use Rattle.instances.specs.OpenNodes.{matchChildren}
 use Rattle.term_scanner.proofs.ranges.Laws.{inside}
 use borrow.Author.Needs.{needs}
@@ -35,8 +36,9 @@ returns c =
     let at-loop = at-get .before .before .before in
     sym (at-loop .loop .inv .2
     ∙ open-deep _ _ _ _ _ _ _ _ _ _ _ _ (at-get .before .before .loop-test .taken) (at-loop .loop .inv .1) (at-get .get .ensures)
-    (at-if1 .before .before .before .argument-count .ensures .0) (at-if1 .before .before .byte .ensures) (at-if1 .before .mark-before .ensures .0) (at-if1 .if1 .taken)
-    (c .before .if2 .taken) (c .if3 .taken))
+    (at-if1 .before .before .before .argument-count .ensures .0) (at-if1 .before .before .byte .ensures)
+    (at-if1 .before .mark-before .ensures .0)
+    (at-if1 .if1 .taken) (c .before .if2 .taken) (c .if3 .taken))
 
 returns-2 : tie.Need-returns-2 Inv-loop μ-loop
 returns-2 c =
@@ -46,12 +48,17 @@ returns-2 c =
     let at-loop = at-get .before .before .before in
     sym (at-loop .loop .inv .2
     ∙ open-differs _ _ _ _ _ _ _ _ _ _ _ _ (at-get .before .before .loop-test .taken) (at-loop .loop .inv .1) (at-get .get .ensures)
-    (at-if1 .before .before .before .argument-count .ensures .0) (at-if1 .before .before .byte .ensures) (at-if1 .before .mark-before .ensures .0) (at-if1 .if1 .taken)
-    (at-argument-of .before .before .if2 .taken) (at-argument-of .before .if3 .left) _ _ refl _ (at-argument-of .argument-of .ensures .0)
+    (at-if1 .before .before .before .argument-count .ensures .0) (at-if1 .before .before .byte .ensures)
+    (at-if1 .before .mark-before .ensures .0)
+    (at-if1 .if1 .taken) (at-argument-of .before .before .if2 .taken) (at-argument-of .before .if3 .left) _ _ refl _
+    (at-argument-of .argument-of .ensures .0)
     (c .before .before .match-head .ensures) (c .enum-told .given .1))
 
 add-put : tie.Need-add-put Inv-loop μ-loop
-add-put c = let k = c .before .before .before .before .before .before .before .before .before .before .before .argument-count .ensures .1 in omega (arith, c .before .before .before .before .before .before .before .if2 .taken)
+add-put c =
+    let at-if2 = c .before .before .before .before .before .before .before in
+    let k = at-if2 .before .before .before .before .argument-count .ensures .1 in
+    omega (arith, at-if2 .if2 .taken)
 
 loop-less : tie.Need-loop-less Inv-loop μ-loop
 loop-less c =
@@ -60,7 +67,8 @@ loop-less c =
     let start = at-byte .before .before .before .before .before .before .before .before .before .before .before .before .before .before in
     let l = inside (start .args .text .now) _ _ _ (at-byte .byte .ensures) (at-match-head .before .before .before .before .if1 .taken)
     (at-match-head .before .before .before .before .before .mark-before .ensures .1) in
-    omega (arith, head-forward _ _ _ _ _ _ _ _ _ (at-match-head .match-head .ensures) (c .before .before .before .before .before .before .before .before .before .e .given .1))
+    let at-e = c .before .before .before .before .before .before .before .before .before in
+    omega (arith, head-forward _ _ _ _ _ _ _ _ _ (at-match-head .match-head .ensures) (at-e .e .given .1))
 
 loop-again : tie.Need-loop-again Inv-loop μ-loop
 loop-again c =
@@ -68,15 +76,18 @@ loop-again c =
     let at-if1 = at-match-head .before .before .before .before in
     let at-get = at-if1 .before .before .before .before in
     let at-loop = at-get .before .before .before in
+    let at-put2 = c .before .before .before .before .before .before in
     let o = c .opens .ensures .1 in (
       search needs,
       (let k = at-match-head .before .before .if3 .left in let l = at-loop .loop .inv .1 in omega arith),
       at-loop .loop .inv .2
           ∙ open-child _ _ _ _ _ _ _ _ _ _ _ _ (at-get .before .before .loop-test .taken) (at-loop .loop .inv .1) (at-get .get .ensures)
-          (at-if1 .before .before .before .argument-count .ensures .0) (at-if1 .before .before .byte .ensures) (at-if1 .before .mark-before .ensures .0)
-          (at-if1 .if1 .taken) (at-match-head .before .before .before .if2 .taken) (at-match-head .before .before .if3 .left) _ _ refl _
+          (at-if1 .before .before .before .argument-count .ensures .0) (at-if1 .before .before .byte .ensures)
+          (at-if1 .before .mark-before .ensures .0) (at-if1 .if1 .taken) (at-match-head .before .before .before .if2 .taken)
+          (at-match-head .before .before .if3 .left) _ _ refl _
           (at-match-head .before .argument-of .ensures .0) (at-match-head .match-head .ensures) (at-loop .loop .inv .0) _ _
-          (c .before .before .before .before .before .before .before .before .before .e .given .1) (c .opens .ensures .0) _ _ (c .before .before .before .before .before .before .put2 .ensures) (c .before .before .put3 .ensures),
+          (at-put2 .before .before .before .e .given .1) (c .opens .ensures .0) _ _ (at-put2 .put2 .ensures)
+          (c .before .before .put3 .ensures),
     )
 
 loop-less-2 : tie.Need-loop-less-2 Inv-loop μ-loop
@@ -98,8 +109,8 @@ loop-again-2 c =
       (let l = at-loop .loop .inv .1 in omega arith),
       at-loop .loop .inv .2
           ∙ open-end _ _ _ _ _ _ _ _ _ _ _ _ (at-get .before .before .loop-test .taken) (at-loop .loop .inv .1) (at-get .get .ensures)
-          (at-if1 .before .before .before .argument-count .ensures .0) (at-if1 .before .before .byte .ensures) (at-if1 .before .mark-before .ensures .0)
-          (at-if1 .if1 .taken) (c .if2 .left),
+          (at-if1 .before .before .before .argument-count .ensures .0) (at-if1 .before .before .byte .ensures)
+          (at-if1 .before .mark-before .ensures .0) (at-if1 .if1 .taken) (c .if2 .left),
     )
 
 returns-3 : tie.Need-returns-3 Inv-loop μ-loop
@@ -108,7 +119,8 @@ returns-3 c =
     let at-loop = at-get .before .before .before in
     sym (at-loop .loop .inv .2
     ∙ open-other _ _ _ _ _ _ _ _ _ _ _ _ (at-get .before .before .loop-test .taken) (at-loop .loop .inv .1) (at-get .get .ensures)
-    (c .before .before .before .argument-count .ensures .0) (c .before .before .byte .ensures) (c .before .mark-before .ensures .0) (c .if1 .left))
+    (c .before .before .before .argument-count .ensures .0) (c .before .before .byte .ensures) (c .before .mark-before .ensures .0)
+    (c .if1 .left))
 
 returns-4 : tie.Need-returns-4 Inv-loop μ-loop
 returns-4 c = sym (c .before .loop .inv .2 ∙ open-none _ _ _ _ _ _ _ _ _ (c .loop-test .left))

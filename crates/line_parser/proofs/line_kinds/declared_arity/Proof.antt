@@ -5,7 +5,7 @@ use Rattle.line_parser.proofs.line_kinds.declared_arity.Statement.{stat
 use Rattle.line_parser.proofs.line_kinds.declared_arity.Tie as tie
 
 returns : tie.Need-returns
-returns c = arity-none _ _ _ (sym (c .before .before .one-number .ensures) ∙ c .enum-told .given .1)
+returns c = arity-none _ _ _ _ (sym (c .before .before .one-number .ensures) ∙ c .enum-told .given .1)
 
 returns-2 : tie.Need-returns-2
 returns-2 c =

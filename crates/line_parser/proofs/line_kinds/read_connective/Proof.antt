@@ -5,7 +5,7 @@ use Rattle.line_parser.proofs.line_kinds.read_connective.Statement.{sta
 use Rattle.line_parser.proofs.line_kinds.read_connective.Tie as tie
 
 returns : tie.Need-returns
-returns c = connective-none _ _ (sym (c .before .before .two-numbers .ensures) ∙ c .enum-told .given .1)
+returns c = connective-none _ _ _ (sym (c .before .before .two-numbers .ensures) ∙ c .enum-told .given .1)
 
 returns-2 : tie.Need-returns-2
 returns-2 c =

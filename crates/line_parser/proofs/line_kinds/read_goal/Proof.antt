@@ -6,7 +6,7 @@ use Rattle.line_parser.proofs.line_kinds.read_goal.Statement.{statement
 use Rattle.line_parser.proofs.line_kinds.read_goal.Tie as tie
 
 returns : tie.Need-returns
-returns c = single-none _ goalLine (sym (c .before .before .one-number .ensures) ∙ c .enum-told .given .1)
+returns c = single-none _ goalLine _ (sym (c .before .before .one-number .ensures) ∙ c .enum-told .given .1)
 
 returns-2 : tie.Need-returns-2
 returns-2 c = goal-is _ _ (sym (c .before .before .before .one-number .ensures) ∙ c .before .n .given .1)

@@ -6,7 +6,7 @@ use Rattle.line_parser.proofs.line_kinds.read_quantifier.Statement.{sta
 use Rattle.line_parser.proofs.line_kinds.read_quantifier.Tie as tie
 
 returns : tie.Need-returns
-returns c = quantifier-none _ _ (sym (c .before .before .two-numbers .ensures) ∙ c .enum-told .given .1)
+returns c = quantifier-none _ _ _ (sym (c .before .before .two-numbers .ensures) ∙ c .enum-told .given .1)
 
 returns-2 : tie.Need-returns-2
 returns-2 c =

@@ -5,7 +5,7 @@ use Rattle.line_parser.proofs.line_kinds.read_variable.Statement.{state
 use Rattle.line_parser.proofs.line_kinds.read_variable.Tie as tie
 
 returns : tie.Need-returns
-returns c = variable-none _ (sym (c .before .before .one-number .ensures) ∙ c .enum-told .given .1)
+returns c = variable-none _ _ (sym (c .before .before .one-number .ensures) ∙ c .enum-told .given .1)
 
 returns-2 : tie.Need-returns-2
 returns-2 c =

@@ -5,7 +5,7 @@ use Rattle.line_parser.proofs.lines.second_number.Statement.{statement}
 use Rattle.line_parser.proofs.lines.second_number.Tie as tie
 
 returns : tie.Need-returns
-returns c = second-none _ _ (sym (c .before .before .one-number .ensures) ∙ c .enum-told .given .1)
+returns c = second-none _ _ _ (sym (c .before .before .one-number .ensures) ∙ c .enum-told .given .1)
 
 returns-2 : tie.Need-returns-2
 returns-2 c = second-is _ _ _ (sym (c .before .before .before .one-number .ensures) ∙ c .before .m .given .1)

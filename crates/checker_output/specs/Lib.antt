@@ -1,0 +1,3 @@
+-- What the answer checker prints.
+pub mod CheckerOutput
+pub mod Promises

@@ -1,0 +1,3 @@
+-- What the sheet runner prints.
+pub mod RunnerOutput
+pub mod Promises

@@ -1,0 +1,4 @@
+-- Scanning a term without recursion: what is held between two steps, and what it stands for.
+pub mod Delimiters
+pub mod Heads
+pub mod Steps
