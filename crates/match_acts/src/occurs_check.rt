@@ -11,11 +11,15 @@ use machine_memory::trail::effect;
 use machine_memory::words::increment;
 use machine_memory::words::name_of;
 use memory::field;
+use memory::widen;
 ghost use mathlib.Core.Path.{_≡_};
-ghost use Prim.Native.Nat.{min};
+ghost use Prim.Native.Nat.{_-_, min};
 ghost use Rattle.machine.specs.Records.{made};
 ghost use Rattle.machine.specs.Matching.{bindValue, passNode, visitVariable, visitConstant};
 ghost use Rattle.memory.specs.Records.{field};
+
+// 2^32, the bit above a level.
+const BIT_32: usize = 4294967296;
 
 // The range check has passed: lowers z to k, binds, goes on with the pairs.
 pub fn bind_value(w: &mut [u32], r: Registers, z: u32, k: u32) -> Registers
@@ -40,14 +44,20 @@ pub fn pass_node(w: &mut [u32], r: Registers, z: u32, k: u32, e: u32) -> Registe
     with_nodes(with_trail(r, entry), e)
 }
 
-// The lower of two levels.
+// Document 02, W-205: a difference that is cut at zero (saturating subtraction), with no branch. 2^32 + a - b has the bit of 2^32
+// exactly if b is at most a, and below that bit it is then the difference.
+fn saturating_sub(a: u32, b: u32) -> u32
+    ensures { λ r. ⌜ r ≡ a - b ⌝ }
+{
+    let s = BIT_32 + widen(a) - widen(b);
+    (s % BIT_32 * (s / BIT_32)) as u32
+}
+
+// The lower of two levels: how far the first is above the second, taken from the first.
 fn min(a: u32, b: u32) -> u32
     ensures { λ r. ⌜ r ≡ min a b ⌝ }
 {
-    if a <= b {
-        return a;
-    }
-    b
+    a - saturating_sub(a, b)
 }
 
 // The node is a variable: not the one to be bound; lowered to its level.
