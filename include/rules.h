@@ -72,7 +72,7 @@ enum rules_refusal {
     RULES_WORK_TOO_SHORT = 5,
     RULES_MALFORMED = 6,     /* letter, field count, number, name, arity, variable, or no LF */
     RULES_TOO_MANY = 7,      /* symbol 257, node 1,025 or clause 129 */
-    RULES_UNKNOWN = 8,       /* a symbol or node not yet there, or a name declared again */
+    RULES_UNKNOWN = 8,       /* a symbol or node not yet there, or a name declared again, in the same case or another */
     RULES_WRONG_KIND = 9,    /* neither term, goal nor clause; an arity; the wrong kind on a C or Q line */
     RULES_FREE_VARIABLE = 10, /* in the clause of a C line */
     RULES_NO_GOAL = 11,      /* no Q line, or bytes after it */
@@ -92,7 +92,8 @@ uint32_t rules_run(const uint8_t *sheet, size_t sheet_len, uint32_t budget, uint
                    size_t result_len);
 
 /* Checks an answer text against a sheet, and trusts neither: valid means that the text spells a derivation of an
- * instance of the sheet's goal. The text of a run that came to no or spent is not valid, at line 1.
+ * instance of the sheet's goal. The text of a run that came to no or spent is not valid, at line 1. A text may spell
+ * names in capitals or small letters, whichever the sheet has; rules_run writes them as the sheet declares them.
  *
  * Returns one of enum rules_verdict and puts RULES_CHECK_RESULTS numbers into `result`, as far as it is long; further
  * numbers of `result` are untouched. `table` and `work` are left as rules_run leaves them, the work numbers being

@@ -9,7 +9,7 @@ import sys
 
 ROOT = os.path.join(os.path.dirname(os.path.abspath(__file__)), "..", "crates")
 STATEMENTS = [
-    ("engine_spec", "Promises", ["RunContract", "CallersTold", "ToldAgain", "Retry", "BuffersDoNotMatter"]),
+    ("engine_spec", "Promises", ["RunContract", "AnswersAsBefore", "CallersTold", "ToldAgain", "Retry", "BuffersDoNotMatter"]),
     ("checker_spec", "Promises", ["CheckContract", "CallersJudged", "BuffersDoNotMatter"]),
     ("promises", "Accepted", ["RunChecks"]),
     ("engine_spec", "Handed", ["handed"]),

@@ -1,5 +1,5 @@
 #!/usr/bin/env bash
-# The answer checker on the stored cases: tests/checker.sh PROGRAM
+# The answer checker on the stored cases and the stored texts: tests/checker.sh PROGRAM
 # A text that says proved is valid. Without its last LF its last line breaks; without its last line the line after the others is missing; one
 # line more is surplus. A text of no or spent breaks at its first line. A refused sheet is refused with the stored number and line.
 set -euo pipefail
@@ -41,6 +41,16 @@ for sheet in "$cases"/*.sheet; do
 done
 if ((compared < 100)); then
     echo "checker: only $compared texts compared" >&2
+    exit 1
+fi
+
+# The texts with a verdict of their own.
+of_cases=$compared
+for sheet in "$cases"/checks/*.sheet; do
+    expect "$sheet" "${sheet%.sheet}.text" "$(cat "${sheet%.sheet}.verdict")"
+done
+if ((compared < of_cases + 20)); then
+    echo "checker: only $((compared - of_cases)) stored texts found" >&2
     exit 1
 fi
 

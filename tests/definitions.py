@@ -4,8 +4,8 @@
 The definitions are what a reader must believe, so they are run on outside vectors too: each case becomes an equation that the prover must
 accept by computation, in a copy of the repository (the crates below `promises` as rt ci proved them). Of a run: outcome, units and text, or
 refusal and line. Of a check: valid, or the line that breaks, or refusal and line, for the text of each case, for that text without its
-last LF, without its last line and with a line more (document 01 says which line breaks), and for damaged texts, as the independent
-implementation judges them (tests/reference)."""
+last LF, without its last line and with a line more (document 01 says which line breaks), for the stored texts with their verdicts, and for
+damaged texts, as the independent implementation judges them (tests/reference)."""
 import glob
 import os
 import random
@@ -71,6 +71,14 @@ def checked(sheet, text, verdict):
     return f"computeCheck {byte_list(sheet)} {byte_list(text)} 8192 {WORK} ≡ {right}", "computeCheck"
 
 
+def verdict_of(printed):
+    """The verdict that a checker's line tells: None for valid, a line, or a pair of refusal and line."""
+    word, *numbers = printed.strip().split("\t")
+    if word == "valid":
+        return None
+    return int(numbers[0]) if word == "not valid" else (int(numbers[0]), int(numbers[1]))
+
+
 def by_document(sheet, text):
     """Texts of a case with the verdicts that document 01 gives them."""
     if text.startswith(b"R\tproved"):
@@ -89,7 +97,7 @@ def by_document(sheet, text):
 def damaged(text, choose):
     """One byte changed, taken out or put in."""
     place = choose.randrange(len(text))
-    byte = bytes([choose.choice(b"01279_!@(),\tDRBabz\n\x00\xff")])
+    byte = bytes([choose.choice(b"01279_!@(),\tDRBAZabz\n\x00\xff")])
     return choose.choice([text[:place] + byte + text[place + 1 :], text[:place] + text[place + 1 :], text[:place] + byte + text[place:]])
 
 
@@ -99,22 +107,22 @@ def reference(program, folder, sheet, text):
     for name, data in zip(names, (sheet, text)):
         with open(name, "wb") as f:
             f.write(data)
-    said = subprocess.run([program, *names], capture_output=True, text=True).stdout.split("\t")
-    if said[0].strip() == "valid":
-        return None
-    if said[0] == "not valid":
-        return int(said[1])
-    return (int(said[1]), int(said[2]))
+    return verdict_of(subprocess.run([program, *names], capture_output=True, text=True).stdout)
+
+
+def stored(path, ending):
+    with open(path[: -len("sheet")] + ending, "rb") as f:
+        return f.read()
 
 
 def equations():
     choose = random.Random(14)
+    cases = os.path.join(ROOT, "tests", "cases")
     subprocess.run(["cargo", "build", "--release", "--offline", "--quiet", "-p", "reference"], cwd=os.path.join(ROOT, "tests"), check=True)
     program = os.path.join(ROOT, "tests", "target", "release", "check")
     with tempfile.TemporaryDirectory() as folder:
-        for path in sorted(glob.glob(os.path.join(ROOT, "tests", "cases", "*.sheet"))):
-            with open(path, "rb") as f, open(path[: -len("sheet")] + "256", "rb") as g:
-                sheet, expected = f.read(), g.read()
+        for path in sorted(glob.glob(os.path.join(cases, "*.sheet"))):
+            sheet, expected = stored(path, "sheet"), stored(path, "256")
             yield ran(sheet, expected)
             for text, verdict in by_document(sheet, expected):
                 yield checked(sheet, text, verdict)
@@ -122,6 +130,8 @@ def equations():
                 for _ in range(3):
                     text = damaged(expected, choose)
                     yield checked(sheet, text, reference(program, folder, sheet, text))
+    for path in sorted(glob.glob(os.path.join(cases, "checks", "*.sheet"))):
+        yield checked(stored(path, "sheet"), stored(path, "text"), verdict_of(stored(path, "verdict").decode()))
 
 
 def main():

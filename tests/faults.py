@@ -27,8 +27,8 @@ SECONDS = 300
 # showing. So document 01 cannot tell this program from the right one.
 NOT_TOLD_APART = {"engine_sides_exchanged"}
 
-# The wrong programs of document 01 itself ("What a hurried programmer would do", "What the desk may rely on", c), and two that show in
-# the text alone: the stored cases must tell them apart too.
+# The wrong programs of document 01 itself ("What a hurried programmer would do", "What the desk may rely on", c), two that show in the
+# text alone, and those of W-201: the stored cases or texts must tell them apart too.
 LISTED = {
     "engine_spent_at_once",
     "engine_units_off_by_one",
@@ -41,6 +41,23 @@ LISTED = {
     "engine_no_occurs_check",
     "engine_places_among_matching",
     "engine_numbering_per_level",
+    "all_or_nothing_folded",
+    "capital_not_first",
+    "capitals_refused",
+    "checker_line_letters_folded",
+    "checker_names_exact",
+    "checker_outcome_folded",
+    "checker_spellings_apart",
+    "checker_words_folded",
+    "count_after_repeated",
+    "digits_folded",
+    "engine_names_in_small_letters",
+    "first_letter_folded",
+    "last_capital_not_folded",
+    "line_letters_folded",
+    "names_exact",
+    "repeated_names_exact",
+    "underscore_folded",
 }
 
 # These find proofs where there are none, and the checker must turn them down. Without the occurs check a false proof holds an endless
@@ -110,7 +127,7 @@ def tried(path):
         if file in SEARCH:
             ways.append("proofs")
     if not name.startswith("engine_"):
-        ways.append("checks")
+        ways += ["checks", "texts"]
     seeds = SEEDS // 4 if name in NOT_TOLD_APART else SEEDS
     with tempfile.TemporaryDirectory() as copy:
         program = build(file, pairs, copy)
@@ -132,8 +149,8 @@ def judge(path):
     for way in ("runs", "checks"):
         if told.get(way) == "":
             raise Failure(f"is not told apart by the {way} of {SEEDS} seeds")
-    if name in LISTED and not told["cases"]:
-        raise Failure("is not told apart by the stored cases")
+    if name in LISTED and not (told.get("cases") or told.get("texts")):
+        raise Failure("is not told apart by the stored cases and texts")
     if name in UNSOUND and not told["proofs"]:
         raise Failure("finds no false proof")
     return f"{name}: " + ", ".join(f"{way} {value}" for way, value in told.items() if value)

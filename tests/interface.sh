@@ -48,7 +48,7 @@ members() {
     printf 'C\t%d\nQ\t0\n' $(($1 - 1))
 }
 
-# Document 01, "Rehearsed sheets": budgets, the answer buffer, limits. The others are stored cases.
+# Document 01, "Rehearsed sheets": budgets, the answer buffer, limits; an example of docs/SHEETS.md. The others are stored cases.
 strobe=examples/strobe.sheet
 proved='R\tproved\t3\nD\tclause\t1\nvalid\n'
 expect_text "$proved" $strobe 3
@@ -60,6 +60,7 @@ expect_text 'X\t3\t0\n' $strobe 50001
 expect_text 'X\t3\t0\n' $strobe 0
 : >"$work/empty"
 expect_text 'X\t11\t1\n' "$work/empty"
+expect_text 'R\tproved\t11\nB\t0\tSTROBE\nB\t1\tOld_Vic\nD\tclause\t1\tOld_Vic\nD\tclause\t2\nvalid\n' examples/capitals.sheet
 members 64 >"$work/members64"
 expect_text 'R\tproved\t2\nD\tclause\t1\nvalid\n' "$work/members64"
 members 65 >"$work/members65"

@@ -6,3 +6,4 @@ pub mod SoundNumbers
 pub mod SoundWritable
 pub mod TextSound
 pub mod Promises
+pub mod Capitals

@@ -3,6 +3,7 @@
 pub mod TextLines
 pub mod Numbering
 pub mod Spelling
+pub mod Capitals
 pub mod Spelled
 pub mod Judgements
 pub mod Promises

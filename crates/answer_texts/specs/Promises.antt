@@ -14,19 +14,19 @@ use Rattle.sheet_format.specs.Limits.{maxBudget, maxTextBytes}
 use Rattle.sheet_format.specs.Sheets.{Sheet, sheet, readSheet}
 use Rattle.answer_texts.specs.TextLines.{answerLines}
 use Rattle.answer_texts.specs.Spelling.{proofText}
-use Rattle.answer_texts.specs.Spelled.{SpellsDerivation}
+use Rattle.answer_texts.specs.Spelled.{SpellsAsDeclared}
 
 -- The text of a proved search.
 unfoldable pub searchText : Sheet → Store → List (Line Leaf) → ℕ → List ℕ
 searchText s store path units =
     proofText (s .symbols) (answerLines units (freeVariables (s .goal)) (finalEnvironment store) (finalLines store path))
 
--- T5: within document 01's limits it spells a derivation of an instance of the goal.
+-- T5: within document 01's limits it spells a derivation of an instance of the goal. Request W-201: names "are written as declared".
 abbrev pub TextSound : Type 0
 TextSound = (bytes : List ℕ) (s : Sheet) → readSheet bytes ≡ sheet s
     → (budget n : ℕ) (store : Store) (path : List (Line Leaf)) → budget ≤ maxBudget
     → search budget (s .clauses) (s .goal) ≡ ends (proved store path) n
-    → length (searchText s store path n) ≤ maxTextBytes → SpellsDerivation s (searchText s store path n)
+    → length (searchText s store path n) ≤ maxTextBytes → SpellsAsDeclared s (searchText s store path n)
 
 -- T4 at the level of bytes: a derivation sequence of CS-1992-17, definitions 6 to 8, from the goal's first state to one without goals.
 -- The text's D lines are its lines, with final bindings and levels, and its B lines are the answer substitution.

@@ -21,6 +21,7 @@ use Rattle.sheet_format.specs.Sheets.{Sheet}
 use Rattle.answer_texts.specs.TextLines.{TextLine, resultLine, bindingLine, derivationLine, answerLines}
 use Rattle.answer_texts.specs.Numbering.{numbered}
 use Rattle.answer_texts.specs.Spelling.{spell, proofText}
+use Rattle.answer_texts.specs.Capitals.{SameText}
 
 -- What can be written: terms over the function symbols that the sheet declares, each applied to its arity of terms; "Numbers
 -- are ... up to 65,535", which is for places, for numbers and for levels.
@@ -52,8 +53,9 @@ Writable ds (resultLine n) = n ≤ maxNumber
 Writable ds (bindingLine v t) = (v ≤ maxNumber) × WritableTerm t ds
 Writable ds (derivationLine x) = WritableLine ds x
 
--- The text of a derivation of an instance: any derivation, with numbering by first showing and "units from 1 to 50,000".
-pub record SpellsDerivation (s : Sheet) (text : List ℕ) : Type 0 where
+-- The text of a derivation of an instance: any derivation, with numbering by first showing and "units from 1 to 50,000". Texts are the same
+-- by the relation that is the first parameter.
+pub record SpellsBy (same : List ℕ → List ℕ → Type 0) (s : Sheet) (text : List ℕ) : Type 0 where
   pub units : ℕ
   pub least : 1 ≤ units
   pub most : units ≤ maxBudget
@@ -61,7 +63,15 @@ pub record SpellsDerivation (s : Sheet) (text : List ℕ) : Type 0 where
   pub proof : InstanceDerivation (s .clauses) (s .goal) environment
   pub writable : All (Writable (s .symbols))
       (numbered (answerLines units (freeVariables (s .goal)) environment (lines (proof .derivation))))
-  pub spelled : text ≡ proofText (s .symbols) (answerLines units (freeVariables (s .goal)) environment (lines (proof .derivation)))
+  pub spelled : same text (proofText (s .symbols) (answerLines units (freeVariables (s .goal)) environment (lines (proof .derivation))))
+
+-- With the names as declared, byte for byte.
+abbrev pub SpellsAsDeclared : Sheet → List ℕ → Type 0
+SpellsAsDeclared s text = SpellsBy (λ a b. a ≡ b) s text
+
+-- Request W-201: "a text may spell a name in either case".
+abbrev pub SpellsDerivation : Sheet → List ℕ → Type 0
+SpellsDerivation s text = SpellsBy SameText s text
 
 -- How far a text has come: before its R line; with B lines due for the variables, those before having their terms; with
 -- sequents left to derive.
@@ -100,12 +110,12 @@ Proceeds s [] a b = a ≡ b
 Proceeds s (x ∷ xs) a b = Allowed s x a (λ c. Proceeds s xs c b)
 
 -- The bytes are whole lines with which a text can begin: each is right after the ones before it.
-pub record Beginning (s : Sheet) (bytes : List ℕ) : Type 0 where
+pub record BeginsBy (same : List ℕ → List ℕ → Type 0) (s : Sheet) (bytes : List ℕ) : Type 0 where
   pub textLines : List TextLine
   pub stage : Stage
   pub writable : All (Writable (s .symbols)) textLines
   pub inOrder : numbered textLines ≡ textLines
-  pub spelled : bytes ≡ spell (s .symbols) textLines
+  pub spelled : same bytes (spell (s .symbols) textLines)
   pub proceeds : Proceeds s textLines opening stage
 
 -- The first n lines of a text, each with its LF.
@@ -118,7 +128,11 @@ firstLines n text = unlines (take n (linesOf text .whole))
 
 -- Line n + 1 breaks: the n lines before it are a beginning, and with it they are none. Past the last whole line it is the line
 -- without LF, or the one that is missing.
-pub record BreaksAfter (s : Sheet) (text : List ℕ) (n : ℕ) : Type 0 where
+pub record BreaksBy (same : List ℕ → List ℕ → Type 0) (s : Sheet) (text : List ℕ) (n : ℕ) : Type 0 where
   pub there : n ≤ length (linesOf text .whole)
-  pub before : Beginning s (firstLines n text)
-  pub breaks : suc n ≤ length (linesOf text .whole) → Beginning s (firstLines (suc n) text) → ⊥
+  pub before : BeginsBy same s (firstLines n text)
+  pub breaks : suc n ≤ length (linesOf text .whole) → BeginsBy same s (firstLines (suc n) text) → ⊥
+
+-- A line with a name in another case does not break by it.
+abbrev pub BreaksAfter : Sheet → List ℕ → ℕ → Type 0
+BreaksAfter s text n = BreaksBy SameText s text n

@@ -15,7 +15,7 @@ use Rattle.search.specs.Search.{search}
 use Rattle.sheet_format.specs.Limits.{maxSheetBytes, tableNumbers, maxBudget, maxTextBytes, numbersPerUnit}
 use Rattle.sheet_format.specs.Buffers.{demanded, zeroed}
 use Rattle.sheet_format.specs.Sheets.{refusal, Read, sheet, refused, readSheet, turnBackIf}
-use Rattle.engine_spec.specs.EngineRun.{Answer, Result, answered, turnedBack, answerTo, fit, runSheet, engineRun, isEarly}
+use Rattle.engine_spec.specs.EngineRun.{Answer, Result, answered, turnedBack, answerTo, fit, runSheet, engineRun, engineRunBy, isEarly}
 use Rattle.engine_spec.specs.EngineRun.{tableAfter, workAfter, answerAfter}
 use Rattle.engine_spec.specs.Promises.{handedBack, RunContract}
 use Rattle.engine_spec.specs.Handed.{handed}
@@ -62,7 +62,7 @@ early-passed bytes budget t w q =
 
 passed-runs : (bytes : List ℕ) (budget t w a : ℕ) → Passed bytes budget t w
     → engineRun bytes budget t w a ≡ runSheet budget a (readSheet bytes)
-unfolding engineRun turnBackIf
+unfolding engineRun engineRunBy turnBackIf
 passed-runs bytes budget t w a p =
     let z = p .least in
     rw (
@@ -92,7 +92,7 @@ late bytes budget a = reads (readSheet bytes) refl
 pub run-refused : (bytes : List ℕ) (budget : ℕ) (table work answer : List ℕ) (n : ℕ) (r : Run)
     → n ≡ runRefusal (length bytes) budget (length table) (length work) → (n ≡ 0 → ⊥) → r ≡ refusedRun n 0
     → RunContract bytes budget table work answer table work answer (handed r)
-unfolding runRefusal engineRun handed handedBack outcomeCode refusalNumber refusalLine tableAfter workAfter answerAfter isEarly
+unfolding runRefusal engineRun engineRunBy handed handedBack outcomeCode refusalNumber refusalLine tableAfter workAfter answerAfter isEarly
 run-refused bytes budget table work answer n r q h e =
     let g = shut (ltb maxSheetBytes (length bytes)) (ltb (length table) tableNumbers) (eqb budget 0) (ltb maxBudget budget)
     (ltb (length work) (demanded budget)) (runSheet budget (length answer) (readSheet bytes)) n q h in

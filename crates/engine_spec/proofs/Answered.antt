@@ -12,7 +12,7 @@ use Rattle.search.specs.Search.{SearchOutcome, search}
 use Rattle.sheet_format.specs.Limits.{maxSheetBytes, tableNumbers, maxBudget, maxTextBytes}
 use Rattle.sheet_format.specs.Sheets.{Sheet, Refusal, refusal, Read, sheet, refused, readSheet, turnBackIf}
 use Rattle.sheet_format.specs.Buffers.{demanded}
-use Rattle.engine_spec.specs.EngineRun.{Answer, Result, answered, turnedBack, answerTo, fit, runSheet, engineRun}
+use Rattle.engine_spec.specs.EngineRun.{Answer, Result, answered, turnedBack, answerTo, fit, runSheet, engineRun, engineRunBy}
 
 -- The tests of refusals 1, 2, 3 and 5 all fail.
 pub record Passed (bytes : List ℕ) (budget t w : ℕ) : Type 0 where
@@ -64,7 +64,7 @@ runSheet-answered budget a (sheet s) x e = (s, refl, e)
 -- A run that answers x has passed the size checks, read a sheet and answered what the search comes to.
 pub answered-answers : (bytes : List ℕ) (budget t w a : ℕ) (x : Answer) → engineRun bytes budget t w a ≡ answered x
     → Answers bytes budget t w a x
-unfolding engineRun
+unfolding engineRun engineRunBy
 answered-answers bytes budget t w a x e =
     let g1 = passed-gate _ _ _ x e in
     let g2 = passed-gate _ _ _ x (g1 .1) in
@@ -93,7 +93,7 @@ pub passes : (bytes : List ℕ) (budget t w a : ℕ) (s : Sheet) → length byte
     → readSheet bytes ≡ sheet s
     → (engineRun bytes budget t w a ≡ answered (answerTo s budget (search budget (s .clauses) (s .goal))))
     ⊎ ((r : Refusal) × (engineRun bytes budget t w a ≡ turnedBack r) × ((r .number ≡ 2) ⊎ ((r .number ≡ 5) ⊎ (r .number ≡ 12))))
-unfolding engineRun turnBackIf runSheet fit
+unfolding engineRun engineRunBy turnBackIf runSheet fit
 passes bytes budget t w a s short least most read =
     rw (le-ltb maxSheetBytes (length bytes) short, ne-eqb budget 0 (λ q. omega arith), le-ltb maxBudget budget most, read)
     (table (ltb t tableNumbers))
@@ -121,7 +121,7 @@ pub passes-all : (bytes : List ℕ) (budget t w a : ℕ) (s : Sheet) → Passed 
     → length (answerTo s budget (search budget (s .clauses) (s .goal)) .text) ≤ maxTextBytes
     → length (answerTo s budget (search budget (s .clauses) (s .goal)) .text) ≤ a
     → engineRun bytes budget t w a ≡ answered (answerTo s budget (search budget (s .clauses) (s .goal)))
-unfolding engineRun turnBackIf runSheet fit
+unfolding engineRun engineRunBy turnBackIf runSheet fit
 passes-all bytes budget t w a s p read small room =
     let z = p .least in
     rw (

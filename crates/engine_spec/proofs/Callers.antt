@@ -8,7 +8,7 @@ use lib.ListN.{length, take}
 use Rattle.search.specs.Search.{Verdict, proved, noProof, ComesTo, ends}
 use Rattle.search.proofs.Promises.{derivationSteps}
 use Rattle.sheet_format.specs.Sheets.{Sheet, Refusal, sheet, readSheet}
-use Rattle.answer_texts.specs.Spelled.{SpellsDerivation}
+use Rattle.answer_texts.specs.Spelled.{SpellsAsDeclared}
 use Rattle.engine_spec.specs.EngineRun.{Reported, reportedProved, reportedNo, reportedSpent, Answer, Result, answered, turnedBack}
 use Rattle.engine_spec.specs.EngineRun.{answerTo, engineRun, answerAfter}
 use Rattle.engine_spec.specs.Promises.{HandedBack, outcomeNumber, handedBack, RunContract, RunSound, AllDemand2, AllDemand3}
@@ -104,7 +104,7 @@ module _ (bytes : List ℕ) (budget : ℕ) (table work answer table′ work′ a
         let q = the-answer (omega arith) in
         let p = sound bytes budget (length table) (length work) (length answer) (q .0) (q .1) (proved-number _ (sym (q .2 .outcome) ∙ h)) in
         let e : p .0 ≡ s = same-sheet (p .0) s (p .1) read in
-        rw (q .2 .text) (subst (λ (y : Sheet). SpellsDerivation y (q .0 .text)) e (p .2));
+        rw (q .2 .text) (subst (λ (y : Sheet). SpellsAsDeclared y (q .0 .text)) e (p .2));
     neverNo = λ s read h e d.
         let q = the-answer (omega arith) in
         demand bytes s read .neverNo e d budget (length table) (length work) (length answer) (q .0) (q .1)

@@ -11,10 +11,10 @@ use Rattle.answer_texts.specs.Promises.{searchText}
 use Rattle.answer_texts.proofs.Computing.{computeText}
 use Rattle.sheet_format.specs.Buffers.{demanded}
 use Rattle.sheet_format.specs.Sheets.{turnBackIf}
-use Rattle.engine_spec.specs.EngineRun.{Result, answerTo, fit, runSheet, engineRun}
+use Rattle.engine_spec.specs.EngineRun.{Result, answerTo, fit, runSheet, engineRun, engineRunBy}
 
 unfoldable pub computeRun : List ℕ → ℕ → ℕ → ℕ → ℕ → Result
-unfolding engineRun turnBackIf runSheet fit answerTo demanded searchText noText spentText finalLines finalEnvironment final symbolUnder
+unfolding engineRun engineRunBy turnBackIf runSheet fit answerTo demanded searchText noText spentText finalLines finalEnvironment final symbolUnder
     solution solved solve1 onlyAt at boundTo
     freeVariables freeFrom computeSheet computeSearch computeText
 computeRun bytes budget t w a = engineRun bytes budget t w a

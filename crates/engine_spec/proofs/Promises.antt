@@ -8,11 +8,14 @@ use Rattle.search.specs.Search.{SearchOutcome, ends, spent, proved, noProof, se
 use Rattle.sheet_format.specs.Limits.{maxBudget, maxTextBytes}
 use Rattle.sheet_format.specs.Sheets.{Sheet, Read, sheet, readSheet}
 use Rattle.sheet_format.proofs.Good.{good}
-use Rattle.answer_texts.specs.Spelled.{SpellsDerivation}
+use Rattle.sheet_format.proofs.FormerNames.{readsAsBefore}
+use Rattle.answer_texts.specs.Spelled.{SpellsAsDeclared}
 use Rattle.answer_texts.specs.Promises.{searchText}
 use Rattle.answer_texts.proofs.Promises.{textSound}
-use Rattle.engine_spec.specs.EngineRun.{Reported, reportedProved, reportedNo, reportedSpent, Answer, answered, answerTo, engineRun}
-use Rattle.engine_spec.specs.Promises.{RunSound, AllDemand2, AllDemand3, BuffersDoNotMatter, CallersTold, ToldAgain, Retry}
+use Rattle.engine_spec.specs.EngineRun.{Reported, reportedProved, reportedNo, reportedSpent, Answer, Result, answered, answerTo, engineRunBy}
+use Rattle.engine_spec.specs.EngineRun.{engineRun, tableAfter, workAfter, answerAfter}
+use Rattle.engine_spec.specs.Promises.{handedBack, RunsAsBefore, AnswersAsBefore, RunSound, AllDemand2, AllDemand3}
+use Rattle.engine_spec.specs.Promises.{BuffersDoNotMatter, CallersTold, ToldAgain, Retry}
 use Rattle.engine_spec.proofs.Answered.{answered-answers}
 use Rattle.engine_spec.proofs.Demand3.{demand2, demand3}
 use Rattle.engine_spec.proofs.Buffers as Buffers
@@ -21,11 +24,11 @@ use Rattle.engine_spec.proofs.Callers.{callers-told, told-again, told-r
 -- The text of an answer that tells proved spells a derivation of an instance of the goal.
 spells : (bytes : List ℕ) (s : Sheet) (budget : ℕ) (o : SearchOutcome) (x : Answer) → readSheet bytes ≡ sheet s → budget ≤ maxBudget
     → search budget (s .clauses) (s .goal) ≡ o
-    → x ≡ answerTo s budget o → x .outcome ≡ reportedProved → length (x .text) ≤ maxTextBytes → SpellsDerivation s (x .text)
+    → x ≡ answerTo s budget o → x .outcome ≡ reportedProved → length (x .text) ≤ maxTextBytes → SpellsAsDeclared s (x .text)
 unfolding answerTo
 spells bytes s budget (ends (proved store path) n) x read few q e h short =
     let t : x .text ≡ searchText s store path n = ap (λ (y : Answer). y .text) e in
-    subst (SpellsDerivation s) (sym t)
+    subst (SpellsAsDeclared s) (sym t)
     (textSound bytes s read budget n store path few q (subst (λ (b : List ℕ). length b ≤ maxTextBytes) t short))
 spells bytes s budget (ends noProof n) x read few q e h short =
     absurd (let p = sym (ap (λ (y : Answer). y .outcome) e) ∙ h in let z : _≡_ {A = ℕ} 0 1 = cc in omega arith)
@@ -40,6 +43,21 @@ runSound bytes budget t w a x e h =
       r .read,
       spells bytes (r .s) budget (search budget (r .s .clauses) (r .s .goal)) x (r .read) (r .passed .most) refl (r .is) h
           (r .textFits),
+    )
+
+-- Request W-201: the run on a sheet with small names is as before.
+pub runsAsBefore : RunsAsBefore
+unfolding engineRun engineRunBy
+runsAsBefore bytes h budget t w a = rw (readsAsBefore bytes h)
+
+-- So are what is handed back and the lent buffers.
+pub answersAsBefore : AnswersAsBefore
+answersAsBefore bytes h budget table work answer table′ work′ answer′ r c =
+    let e = runsAsBefore bytes h budget (length table) (length work) (length answer) in (
+      c .value ∙ ap handedBack e,
+      c .tableEnd ∙ ap (λ (x : Result). tableAfter x table) e,
+      c .workEnd ∙ ap (λ (x : Result). workAfter x budget work) e,
+      c .answerEnd ∙ ap (λ (x : Result). answerAfter x answer) e,
     )
 
 -- T4: the run follows the derivation steps of CS-1992-17, for every sheet.

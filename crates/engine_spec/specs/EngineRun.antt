@@ -42,14 +42,17 @@ unfoldable pub runSheet : ℕ → ℕ → Read → Result
 runSheet budget answerLength (refused r) = turnedBack r
 runSheet budget answerLength (sheet s) = fit answerLength (answerTo s budget (search budget (s .clauses) (s .goal)))
 
--- The sheet's bytes, the budget, the lengths of table, work buffer and answer buffer.
-unfoldable pub engineRun : List ℕ → ℕ → ℕ → ℕ → ℕ → Result
-engineRun bytes budget tableLength workLength answerLength =
+-- How sheets are read, the sheet's bytes, the budget, the lengths of table, work buffer and answer buffer.
+unfoldable pub engineRunBy : (List ℕ → Read) → List ℕ → ℕ → ℕ → ℕ → ℕ → Result
+engineRunBy reads bytes budget tableLength workLength answerLength =
     turnBackIf turnedBack (ltb maxSheetBytes (length bytes)) 1
     (turnBackIf turnedBack (ltb tableLength tableNumbers) 2
     (turnBackIf turnedBack (eqb budget 0 || ltb maxBudget budget) 3
     (turnBackIf turnedBack (ltb workLength (demanded budget)) 5
-    (runSheet budget answerLength (readSheet bytes)))))
+    (runSheet budget answerLength (reads bytes)))))
+
+unfoldable pub engineRun : List ℕ → ℕ → ℕ → ℕ → ℕ → Result
+engineRun bytes budget tableLength workLength answerLength = engineRunBy readSheet bytes budget tableLength workLength answerLength
 
 -- "On 1 to 5 no buffer changes. Past 5, refused or not, the first 8,192 numbers of the table and the demanded part of the work
 -- buffer are zero at the end, the rest of both unchanged."

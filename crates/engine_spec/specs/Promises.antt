@@ -1,4 +1,4 @@
--- Promises T1, T5, T8 and T10 about the engine's run (demands 1 to 3).
+-- Promises T1, T5, T8 and T10 about the engine's run (demands 1 to 3), and request W-201 of the run.
 use Prim.Native.Nat.{ℕ, _≤_, _<_}
 use mathlib.Core.Path.{_≡_}
 use mathlib.Core.List.{List}
@@ -13,12 +13,13 @@ use Rattle.search.specs.Search.{after, Verdict, proved, noProof, verdictOf, Com
 use Rattle.search.specs.Promises.{WellFormed, FollowsSteps}
 use Rattle.sheet_format.specs.Limits.{tableNumbers, maxBudget}
 use Rattle.sheet_format.specs.Buffers.{demanded}
-use Rattle.sheet_format.specs.Sheets.{Sheet, Refusal, Read, sheet, readSheet}
+use Rattle.sheet_format.specs.Sheets.{Sheet, Refusal, Read, sheet, readSheetBy, readSheet}
+use Rattle.sheet_format.specs.FormerNames.{formerForm, SmallNames}
 use Rattle.answer_texts.specs.Spelling.{spentText}
-use Rattle.answer_texts.specs.Spelled.{SpellsDerivation}
+use Rattle.answer_texts.specs.Spelled.{SpellsAsDeclared}
 use Rattle.answer_texts.specs.Promises.{DerivesText}
 use Rattle.engine_spec.specs.EngineRun.{Reported, reportedProved, reportedNo, reportedSpent, Answer, Result, answered, turnedBack}
-use Rattle.engine_spec.specs.EngineRun.{answerTo, engineRun, tableAfter, workAfter, answerAfter}
+use Rattle.engine_spec.specs.EngineRun.{answerTo, engineRunBy, engineRun, tableAfter, workAfter, answerAfter}
 
 -- What the run hands back, in document 01's numbers: 0 proved, 1 no, 2 spent, 3 refused; units and text length, both 0 where it
 -- is refused; refusal number and line, both 0 where it is not.
@@ -45,10 +46,24 @@ pub record RunContract (bytes : List ℕ) (budget : ℕ) (table work answer tabl
   pub workEnd : work′ ≡ workAfter (engineRun bytes budget (length table) (length work) (length answer)) budget work
   pub answerEnd : answer′ ≡ answerAfter (engineRun bytes budget (length table) (length work) (length answer)) answer
 
--- T5 of the run: what is told as proved spells a derivation of an instance of the goal.
+-- Request W-201: "The engine answers sheets with names all in small letters as before." The run is the same.
+abbrev pub RunsAsBefore : Type 0
+RunsAsBefore = (bytes : List ℕ) → SmallNames bytes → (budget t w a : ℕ)
+    → engineRun bytes budget t w a ≡ engineRunBy (readSheetBy formerForm) bytes budget t w a
+
+-- So is what a caller is handed back, and what each lent buffer then holds.
+abbrev pub AnswersAsBefore : Type 0
+AnswersAsBefore =
+    (bytes : List ℕ) → SmallNames bytes → (budget : ℕ) (table work answer table′ work′ answer′ : List ℕ) (r : HandedBack)
+    → RunContract bytes budget table work answer table′ work′ answer′ r
+    → let former = engineRunBy (readSheetBy formerForm) bytes budget (length table) (length work) (length answer) in
+    (r ≡ handedBack former) × (table′ ≡ tableAfter former table) × (work′ ≡ workAfter former budget work)
+    × (answer′ ≡ answerAfter former answer)
+
+-- T5 of the run: what is told as proved spells a derivation of an instance of the goal, names as declared (request W-201).
 abbrev pub RunSound : Type 0
 RunSound = (bytes : List ℕ) (budget t w a : ℕ) (x : Answer) → engineRun bytes budget t w a ≡ answered x → x .outcome ≡ reportedProved
-    → (s : Sheet) × (readSheet bytes ≡ sheet s) × SpellsDerivation s (x .text)
+    → (s : Sheet) × (readSheet bytes ≡ sheet s) × SpellsAsDeclared s (x .text)
 
 -- T4 of the run: what is told as proved is a derivation by CS-1992-17, its lines and its answer substitution being the text's; where
 -- spent is told, after as many acts as the budget another is due.
@@ -106,8 +121,8 @@ reportedVerdict noProof = 1
 pub record CallerTold (bytes : List ℕ) (budget : ℕ) (answer answer′ : List ℕ) (r : HandedBack) : Type 0 where
   -- If an outcome is told, the bytes are a sheet.
   pub isSheet : r .outcome ≤ 2 → (s : Sheet) × (readSheet bytes ≡ sheet s)
-  -- If proved is told, the text in the answer buffer spells a derivation of an instance of the goal.
-  pub spells : (s : Sheet) → readSheet bytes ≡ sheet s → r .outcome ≡ 0 → SpellsDerivation s (take (r .length) answer′)
+  -- If proved is told, the text in the answer buffer spells a derivation of an instance of the goal, names as declared.
+  pub spells : (s : Sheet) → readSheet bytes ≡ sheet s → r .outcome ≡ 0 → SpellsAsDeclared s (take (r .length) answer′)
   -- If no is told, no instance of the goal has a derivation.
   pub neverNo : (s : Sheet) → readSheet bytes ≡ sheet s → r .outcome ≡ 1 → (e : Environment Symbol)
       → InstanceDerivation (s .clauses) (s .goal) e → ⊥

@@ -15,6 +15,7 @@ use node_table::label;
 use node_table::name_start;
 use scanning::Reach;
 use sheet_format::limits;
+use term_scanner::folded_ranges::same_folded;
 use term_scanner::ranges::monus;
 use term_scanner::ranges::same_range;
 use term_scanner::symbol_names::name_size;
@@ -35,7 +36,7 @@ pub struct Range {
     pub end: usize,
 }
 
-// Whether the terms in two ranges of the text are the same.
+// Whether the terms in two ranges of the text are the same. Their bytes mostly are, so these are compared first.
 pub fn same_slots(text: &[u8], a: Range, b: Range) -> bool
     ensures { λ r. ⌜ r ≡ sameSlots (now (text .entry)) (a .start) (a .end) (b .start) (b .end) ⌝ }
 {
@@ -44,7 +45,10 @@ pub fn same_slots(text: &[u8], a: Range, b: Range) -> bool
     }
     let n = monus(a.end, a.start);
     if n == monus(b.end, b.start) {
-        return same_range(n, text, a.start, text, b.start);
+        if same_range(n, text, a.start, text, b.start) {
+            return true;
+        }
+        return same_folded(n, text, a.start, text, b.start);
     }
     false
 }
@@ -55,6 +59,9 @@ fn match_range(n: usize, a: &[u8], s: usize, text: &[u8], i: usize) -> Reach
 {
     if n <= monus(text.len(), i) {
         if same_range(n, a, s, text, i) {
+            return Reach::To(i + n);
+        }
+        if same_folded(n, a, s, text, i) {
             return Reach::To(i + n);
         }
         return Reach::Differs;

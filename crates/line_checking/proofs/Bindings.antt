@@ -4,13 +4,13 @@ use native.Mathlib.Omega.{arith}
 use native.Mathlib.Numerals.{add-one}
 use mathlib.Core.Path.{_≡_, refl, sym, ap, _∙_, subst}
 use mathlib.Core.Bool.{Bool, true, false, _&&_, cond, true≢false}
-use mathlib.Core.List.{List, [], _∷_, _++_, append-assoc, append-nil, append-cancel-left}
+use mathlib.Core.List.{List, [], _∷_, _++_, append-nil, append-cancel-left}
 use mathlib.Core.Option.{none, some}
 use lib.Dec.{eqb, leb, ltb}
 use lib.ListN.{length, getD, drop, length-append}
 use mathlib.Core.Logic.{_⊎_, inl, inr}
 use borrow.Author.Tests.{le-leb, lt-leb, eqb-true, eqb-false, eq-eqb, ne-eqb, ltb-true, lt-ltb}
-use Rattle.formulas.specs.Formulas.{Goal, freeG, freeFrom, freeVariables}
+use Rattle.formulas.specs.Formulas.{variableNames, Goal, freeG, freeFrom, freeVariables}
 use Rattle.formulas.proofs.Free.{and-parts}
 use Rattle.terms.specs.Lists.{update}
 use Rattle.sequents.specs.Symbols.{Symbol, Ground, level}
@@ -19,7 +19,7 @@ use Rattle.sequents.specs.Derivations.{sheetProgram, instanceOf}
 use Rattle.node_table.specs.Layout.{maskOf}
 use Rattle.node_table.specs.Decoding.{goalAt, decodeSheet}
 use Rattle.sheet_format.specs.Limits.{maxNumber, maxBudget}
-use Rattle.sheet_format.specs.Bytes.{ascii, decimal, lf, isDigit}
+use Rattle.sheet_format.specs.Bytes.{ascii, decimal, lf, isDigit, isLetter, isSmall, isCapital, foldedName}
 use Rattle.answer_texts.specs.TextLines.{TextLine, resultLine, bindingLine, derivationLine}
 use Rattle.sheet_format.specs.Nodes.{Declaration}
 use Rattle.sheet_format.proofs.Names.{Names}
@@ -37,6 +37,9 @@ use Rattle.scanning.specs.Frames.{bindFrame}
 use Rattle.scanning.proofs.Positions.{byte-is, drop-next, drop-past}
 use Rattle.scanning.proofs.Ranges.{begins}
 use Rattle.scanning.proofs.TermsInText.{SpelledAt, spelling-injective}
+use Rattle.answer_texts.specs.Capitals.{smallFrom}
+use Rattle.text_judging.proofs.SmallLines.{smallLine}
+use Rattle.scanning.proofs.Folding.{number-folded}
 use Rattle.scanning.proofs.Records.{Room}
 use Rattle.scanning.proofs.Frames.{frame-bind}
 use Rattle.scanning.proofs.SymbolsInText.{read-decimal}
@@ -47,10 +50,11 @@ use Rattle.line_checking.specs.Sequents.{brokenStage}
 use Rattle.line_checking.specs.Bindings.{beginsWith, checkResultWith, checkUnits, checkResult, bindWith, bindTerm, bindsVariable}
 use Rattle.line_checking.specs.Bindings.{bindLine}
 use Rattle.line_checking.proofs.Lines.{bytes-result, bytes-binding, decimal-one, isWord, wordByte}
-use Rattle.line_checking.proofs.Representation.{Setting, declared, sheetOf, Filled, names-of, HypothesesAt, SequentsAt, BindingAt}
+use Rattle.line_checking.proofs.Representation.{Setting, folds, declared, sheetOf, Filled, names-of, HypothesesAt, SequentsAt, BindingAt}
 use Rattle.line_checking.proofs.Representation.{Holds}
-use Rattle.line_checking.proofs.Results.{Result, is-wrong, either-side, begins-with, word-there, word-absent, no-more, ReadsNumber}
+use Rattle.line_checking.proofs.Results.{Result, is-wrong, either-side, begins-with, word-there, no-more, ReadsNumber}
 use Rattle.line_checking.proofs.Results.{number-there}
+use Rattle.line_checking.proofs.FoldedLines.{LineAt, isExact, begins-exactly, part-there, word-folded, word-missing}
 use Rattle.line_checking.proofs.Terms.{scanAt, TermCase, is-term, no-term, term-case}
 
 -- registers after B lines
@@ -84,7 +88,7 @@ module _ (c : Setting) (filled : Filled c) where
   Before v u = freeG G u && ltb u v
 
   -- The goal is due where all its free variables have their terms.
-  goal-due : (k : ℕ) (w : List ℕ) (r : Registers) (f : ℕ) (e : Environment Symbol) → f < k → Frame (declared c) (c .text) w f e (Before 8)
+  goal-due : (k : ℕ) (w : List ℕ) (r : Registers) (f : ℕ) (e : Environment Symbol) → f < k → Frame (declared c) (folds c) w f e (Before 8)
       → Holds c k w (withSequent r (c .goal) f 0 0 0) (boundStage (sheetOf c) [] e)
   unfolding Holds boundStage withSequent SequentsAt HypothesesAt sheetOf decodeSheet instanceOf sheetProgram
   goal-due k w r f e l h = (
@@ -104,12 +108,12 @@ module _ (c : Setting) (filled : Filled c) where
 
   -- Of n variables from v on, B lines are due for those that stand free in the goal.
   bound-from : (n v : ℕ) (k : ℕ) (w : List ℕ) (r : Registers) (f : ℕ) (e : Environment Symbol) → v + n ≡ 8 → f < k
-      → Frame (declared c) (c .text) w f e (Before v)
+      → Frame (declared c) (folds c) w f e (Before v)
       → Holds c k w (boundFrom (c .goal) r (nextFree n (maskOf (c .table) (c .goal)) v) f) (boundStage (sheetOf c) (freeFrom n v G) e)
   unfolding boundFrom nextFree freeFrom boundStage Holds withBinding
   bound-from zero v k w r f e s l h =
       let q : v ≡ 8 = omega arith in
-      rw q (goal-due k w r f e l (subst (λ (z : ℕ). Frame (declared c) (c .text) w f e (Before z)) q h))
+      rw q (goal-due k w r f e l (subst (λ (z : ℕ). Frame (declared c) (folds c) w f e (Before z)) q h))
   bound-from (suc n) v k w r f e s l h =
       let m = filled .wellMade .goalNode (c .goal) (filled .wellMade .goal-there) (filled .wellMade .goal-is) .free v (omega arith) in
       rw m (go (freeG G v) refl (bound-from n (suc v) k w r f e (omega arith) l))
@@ -118,7 +122,7 @@ module _ (c : Setting) (filled : Filled c) where
       R u a = Holds c k w (boundFrom (c .goal) r u f) a
 
       go : (z : Bool) → freeG G v ≡ z
-          → (Frame (declared c) (c .text) w f e (Before (suc v))
+          → (Frame (declared c) (folds c) w f e (Before (suc v))
           → R (nextFree n (maskOf (c .table) (c .goal)) (suc v)) (boundStage (sheetOf c) (freeFrom n (suc v) G) e))
           → R (cond z v (nextFree n (maskOf (c .table) (c .goal)) (v + 1)))
           (boundStage (sheetOf c) (elim z as (λ b. List ℕ) [ true ↦ v ∷ freeFrom n (suc v) G | false ↦ freeFrom n (suc v) G ]) e)
@@ -132,7 +136,7 @@ module _ (c : Setting) (filled : Filled c) where
             frame = h;
           })
       go false p ih =
-          rw (add-one v) (ih (frame-fewer (declared c) (c .text) w f e (Before v) (Before (suc v)) fewer h))
+          rw (add-one v) (ih (frame-fewer (declared c) (folds c) w f e (Before v) (Before (suc v)) fewer h))
         where
           fewer : (u : ℕ) → Before (suc v) u ≡ true → Before v u ≡ true
           fewer u g =
@@ -145,7 +149,7 @@ module _ (c : Setting) (filled : Filled c) where
 
   -- The stage after B lines for the variables below v.
   pub bound-holds : (n v : ℕ) (k : ℕ) (w : List ℕ) (r : Registers) (f : ℕ) (e : Environment Symbol) → v + n ≡ 8 → f < k
-      → Frame (declared c) (c .text) w f e (Before v)
+      → Frame (declared c) (folds c) w f e (Before v)
       → Holds c k w (bound (c .table) (c .goal) r v f) (boundStage (sheetOf c) (freeFrom n v G) e)
   unfolding bound
   bound-holds n v k w r f e s l h =
@@ -164,14 +168,14 @@ module _ (c : Setting) (filled : Filled c) where
   only-result l h (derivationLine d) e w = refl
 
   -- `resultLine` finds whether the first line is right or wrong.
-  pub open-result : (q : ℕ) (w l rest : List ℕ) (i e : ℕ) (r : Registers) → drop i (c .text) ≡ l ++ (lf ∷ rest) → e ≡ i + length l
+  pub open-result : (q : ℕ) (w l rest : List ℕ) (i e : ℕ) (r : Registers) → LineAt (c .text) i l rest → e ≡ i + length l
       → Result c q l opening r (checkResult (c .table) (c .goal) (c .text) w r i e)
-  unfolding checkResult checkUnits checkResultWith allow ascii isWord wordByte isDigit Holds boundStage bound boundFrom withBinding
+  unfolding checkResult checkUnits checkResultWith allow ascii isWord wordByte isExact smallFrom isLetter isSmall isCapital isDigit Holds boundStage bound boundFrom withBinding
       withSequent freeVariables Writable sheetOf decodeSheet
   open-result q w l rest i e r d k =
       either-side R (beginsWith word (c .text) i) (checkUnits (c .table) (c .goal) (c .text) (i + 9) w r e) (broken w r)
-      (λ b. let s = word-there word (c .text) i l rest refl d b in units (s .0) (s .1) (s .2))
-      (λ b. is-wrong c q l opening w r r (only-result l (λ n p u. absurd (word-absent word (c .text) i l rest (decimal n) refl d b p))))
+      (λ b. let s = word-folded (c .text) i l rest d word refl (λ m. refl) b in units (s .0) (s .1) (s .2))
+      (λ b. is-wrong c q l opening w r r (only-result l (λ n p u. absurd (word-missing (c .text) i l rest d word (decimal n) refl refl b p))))
     where
       word : List ℕ
       word = ascii "R\tproved\t"
@@ -182,10 +186,10 @@ module _ (c : Setting) (filled : Filled c) where
       -- An R line with the number n is read as that number up to its end.
       reading : (n : ℕ) → l ≡ word ++ decimal n → n ≤ maxNumber → scanNumber (c .text) (i + 9) ≡ Value n e
       reading n p u =
-          let y : drop (i + 9) (c .text) ≡ decimal n ++ (lf ∷ rest) =
-          drop-past (c .text) i word (decimal n ++ (lf ∷ rest)) (d ∙ ap (_++ (lf ∷ rest)) p ∙ append-assoc word (decimal n) (lf ∷ rest)) in
+          let y : drop (i + 9) (folds c) ≡ decimal n ++ (lf ∷ rest) =
+          part-there (c .text) i l rest d word (decimal n) refl (λ m. refl) p in
           let z : i + 9 + length (decimal n) ≡ e = (let a = ap length p ∙ length-append word (decimal n) in omega arith) in
-          read-decimal (c .text) (i + 9) n (lf ∷ rest) y u refl ∙ ap (Value n) z
+          sym (number-folded (c .text) (i + 9)) ∙ read-decimal (folds c) (i + 9) n (lf ∷ rest) y u refl ∙ ap (Value n) z
 
       -- A line whose number does not end with the line, or is out of range, is wrong.
       wrong : (n j : ℕ) → scanNumber (c .text) (i + 9) ≡ Value n j → (eqb j e ≡ false) ⊎ ((leb 1 n && leb n maxBudget) ≡ false)
@@ -219,14 +223,14 @@ module _ (c : Setting) (filled : Filled c) where
           nobody v g = let y = ltb-true v 0 (and-parts (freeG G v) (ltb v 0) g .1) in omega arith
 
       -- The number is all that is left of the line.
-      whole : (m : List ℕ) (n j : ℕ) → ReadsNumber (c .text) (i + 9) m rest n j → l ≡ word ++ m → j ≡ e → m ≡ decimal n
+      whole : (m : List ℕ) (n j : ℕ) → ReadsNumber (folds c) (i + 9) m rest n j → l ≡ word ++ m → j ≡ e → m ≡ decimal n
       whole m n j s p f =
           let a = s .end in
           let b = ap length p ∙ length-append word m in
           let o = ap length (s .spelled) in
           s .spelled ∙ ap (decimal n ++_) (no-more (decimal n) (s .more) (i + 9) e (omega arith) (omega arith)) ∙ append-nil (decimal n)
 
-      units : (m : List ℕ) → l ≡ word ++ m → drop (i + 9) (c .text) ≡ m ++ (lf ∷ rest)
+      units : (m : List ℕ) → l ≡ word ++ m → drop (i + 9) (folds c) ≡ m ++ (lf ∷ rest)
           → R (checkUnits (c .table) (c .goal) (c .text) (i + 9) w r e)
       units m p y = go (scanNumber (c .text) (i + 9)) refl
         where
@@ -237,7 +241,7 @@ module _ (c : Setting) (filled : Filled c) where
               (only-result l (λ n o u. absurd (let z : Missing ≡ Value n e = sym h
               ∙ reading n o u in let v : _≡_ {A = ℕ} 0 1 = cc in omega arith)))
           go (Value n j) h =
-              let s = number-there (c .text) (i + 9) m rest n j y h in
+              let s = number-there (folds c) (i + 9) m rest n j y (number-folded (c .text) (i + 9) ∙ h) in
               either-side R (eqb j e) _ (broken w r)
               (λ a. either-side R (leb 1 n) _ (broken w r)
               (λ b. either-side R (leb n maxBudget) _ (broken w r)
@@ -251,7 +255,7 @@ module _ (c : Setting) (filled : Filled c) where
 -- If `bindsVariable` is true, the line begins with `B`, the variable and tabs.
 pub binds-there : (x : List ℕ) (i v : ℕ) (l r : List ℕ) → drop i x ≡ l ++ (lf ∷ r) → bindsVariable x i v ≡ true
     → (m : List ℕ) × (l ≡ ascii "B\t" ++ ((48 + v) ∷ 9 ∷ m)) × (drop (i + 4) x ≡ m ++ (lf ∷ r))
-unfolding bindsVariable ascii isWord wordByte
+unfolding bindsVariable ascii isWord wordByte isExact smallFrom isLetter isSmall isCapital
 binds-there x i v l r d h = go (beginsWith (ascii "B\t") x i) refl h
   where
     R : Type 0
@@ -291,7 +295,7 @@ binds-there x i v l r d h = go (beginsWith (ascii "B\t") x i) refl h
 -- If `bindsVariable` is false, the line does not begin with `B`, the variable and tabs.
 pub binds-absent : (x : List ℕ) (i v : ℕ) (l r m : List ℕ) → drop i x ≡ l ++ (lf ∷ r) → bindsVariable x i v ≡ false
     → l ≡ ascii "B\t" ++ ((48 + v) ∷ 9 ∷ m) → ⊥
-unfolding bindsVariable ascii isWord wordByte begins
+unfolding bindsVariable ascii isWord wordByte isExact smallFrom isLetter isSmall isCapital begins
 binds-absent x i v l r m d h p =
     let a : drop i x ≡ 66 ∷ 9 ∷ (48 + v) ∷ 9 ∷ (m ++ (lf ∷ r)) = d ∙ ap (_++ (lf ∷ r)) p in
     let b : drop (i + 2) x ≡ (48 + v) ∷ 9 ∷ (m ++ (lf ∷ r)) = drop-past x i (ascii "B\t") ((48 + v) ∷ 9 ∷ (m ++ (lf ∷ r))) a in
@@ -307,9 +311,35 @@ binds-absent x i v l r m d h p =
       byte-is x (i + 3) 9 (m ++ (lf ∷ r)) e,
     )) ∙ h)
 
+-- The beginning of a B line stays, and what stands after it is folded.
+binds-small : (v : ℕ) → v < variableNames → (m : List ℕ) → smallLine (66 ∷ 9 ∷ (48 + v) ∷ 9 ∷ m) ≡ 66 ∷ 9 ∷ (48 + v) ∷ 9 ∷ smallFrom 2 m
+unfolding smallFrom
+binds-small v h m = rw (ne-eqb (48 + v) 10 (λ e. omega arith), ne-eqb (48 + v) 9 (λ e. omega arith))
+
+-- The beginning of a B line has no letters after its first tab.
+binds-exact : (v : ℕ) → v < variableNames → isExact 0 (66 ∷ 9 ∷ (48 + v) ∷ 9 ∷ []) ≡ true
+unfolding isExact
+binds-exact v h = rw (ne-eqb (48 + v) 9 (λ e. omega arith))
+
+-- So the same of a line with its names folded.
+binds-folded : (x : List ℕ) (i v : ℕ) (l r : List ℕ) → LineAt x i l r → v < variableNames → bindsVariable x i v ≡ true
+    → (m : List ℕ) × (l ≡ ascii "B\t" ++ ((48 + v) ∷ 9 ∷ m)) × (drop (i + 4) (foldedName x) ≡ m ++ (lf ∷ r))
+unfolding ascii
+binds-folded x i v l r here h b =
+    let s = binds-there x i v (here .raw) (here .after) (here .stands) b in
+    let p : l ≡ 66 ∷ 9 ∷ (48 + v) ∷ 9 ∷ smallFrom 2 (s .0) = here .line-is ∙ ap smallLine (s .1) ∙ binds-small v h (s .0) in
+    (smallFrom 2 (s .0), p, part-there x i l r here (66 ∷ 9 ∷ (48 + v) ∷ 9 ∷ []) (smallFrom 2 (s .0)) (binds-exact v h) (binds-small v h) p)
+
+binds-missing : (x : List ℕ) (i v : ℕ) (l r m : List ℕ) → LineAt x i l r → v < variableNames → bindsVariable x i v ≡ false
+    → l ≡ ascii "B\t" ++ ((48 + v) ∷ 9 ∷ m) → ⊥
+unfolding ascii
+binds-missing x i v l r m here h b p =
+    let s = begins-exactly 0 (66 ∷ 9 ∷ (48 + v) ∷ 9 ∷ []) (here .raw) m (here .whole) (binds-exact v h) (sym (here .line-is) ∙ p) in
+    binds-absent x i v (here .raw) (here .after) (s .0) (here .stands) b (s .1)
+
 module _ (c : Setting) (filled : Filled c) (q : ℕ) (w : List ℕ) (room : Room q w) (r : Registers) (v : ℕ) (vs : List ℕ)
     (f : Environment Symbol) (at : BindingAt c q w r v vs f)
-    (l rest : List ℕ) (i e : ℕ) (here : drop i (c .text) ≡ l ++ (lf ∷ rest)) (end : e ≡ i + length l) where
+    (l rest : List ℕ) (i e : ℕ) (here : LineAt (c .text) i l rest) (end : e ≡ i + length l) where
   -- The declared symbols are those of the table.
   abbrev ds : List Declaration
   ds = declared c
@@ -340,7 +370,7 @@ module _ (c : Setting) (filled : Filled c) (q : ℕ) (w : List ℕ) (room : Room
           ∙ decimal-one v (at .small))) (y .1)
 
   -- A line whose term has level 0 is right.
-  fits : (t : Ground) (m : List ℕ) → l ≡ ascii "B\t" ++ ((48 + v) ∷ 9 ∷ m) → m ≡ spellTerm t ds → SpelledAt ds (c .text) (i + 4) e t
+  fits : (t : Ground) (m : List ℕ) → l ≡ ascii "B\t" ++ ((48 + v) ∷ 9 ∷ m) → m ≡ spellTerm t ds → SpelledAt ds (folds c) (i + 4) e t
       → level t ≡ 0
       → Result c q l a r (made (bindFrame w q (r .frame) (r .node) (i + 4) e) (bound (c .table) (c .goal) r (r .node + 1) q))
   unfolding allow Writable
@@ -361,7 +391,7 @@ module _ (c : Setting) (filled : Filled c) (q : ℕ) (w : List ℕ) (room : Room
             subst (λ (us : List ℕ). Holds c (suc q) w′ (bound (c .table) (c .goal) r (suc v) q) (boundStage (sheetOf c) us (update f v t)))
             (sym (at .later (7 - v) (let u = at .small in omega arith)))
             (bound-holds c filled (7 - v) (suc v) (suc q) w′ r q (update f v t) (let u = at .small in omega arith) (omega arith)
-            (frame-bind ds (c .text) q (r .frame) v (i + 4) e t w f (Before c filled v) (Before c filled (suc v)) room
+            (frame-bind ds (folds c) q (r .frame) v (i + 4) e t w f (Before c filled v) (Before c filled (suc v)) room
             (λ u. let o = at .older in omega arith) (at .small) s fewer (at .frame)));
         goes-on = bound-stage (c .table) (c .goal) r (suc v) q;
         same-made = bound-made (c .table) (c .goal) r (suc v) q;
@@ -378,7 +408,7 @@ module _ (c : Setting) (filled : Filled c) (q : ℕ) (w : List ℕ) (room : Room
           and-both (freeG (G c filled) z) (ltb z v) (b .0) (lt-ltb z v (let o : (z ≡ v → ⊥) = d in omega arith))
 
   -- `bindTerm` finds whether the line is right or wrong by its term m, the rest of the line.
-  bind-term : (m : List ℕ) → l ≡ ascii "B\t" ++ ((48 + v) ∷ 9 ∷ m) → drop (i + 4) (c .text) ≡ m ++ (lf ∷ rest)
+  bind-term : (m : List ℕ) → l ≡ ascii "B\t" ++ ((48 + v) ∷ 9 ∷ m) → drop (i + 4) (folds c) ≡ m ++ (lf ∷ rest)
       → Result c q l a r (bindTerm (c .bytes) (c .table) (c .symbols) (c .goal) (c .text) w r q (i + 4) e)
   unfolding bindTerm bindWith allow ascii
   bind-term m p y = go (term-case c names (i + 4) e m rest y (let z = ap length p in let o = end in omega arith))
@@ -418,9 +448,9 @@ module _ (c : Setting) (filled : Filled c) (q : ℕ) (w : List ℕ) (room : Room
   bind-result =
       either-side (Result c q l a r) (bindsVariable (c .text) i (r .node))
       (bindTerm (c .bytes) (c .table) (c .symbols) (c .goal) (c .text) w r q (i + 4) e) (broken w r)
-      (λ b. let s = binds-there (c .text) i v l rest here (ap (bindsVariable (c .text) i) (sym (at .variable)) ∙ b) in
+      (λ b. let s = binds-folded (c .text) i v l rest here (at .small) (ap (bindsVariable (c .text) i) (sym (at .variable)) ∙ b) in
       bind-term (s .0) (s .1) (s .2))
       (λ b. is-wrong c q l a w r r
       (only-binding
-      (λ t p y. absurd (binds-absent (c .text) i v l rest (spellTerm t ds) here (ap (bindsVariable (c .text) i) (sym (at .variable))
+      (λ t p y. absurd (binds-missing (c .text) i v l rest (spellTerm t ds) here (at .small) (ap (bindsVariable (c .text) i) (sym (at .variable))
       ∙ b) p))))

@@ -17,7 +17,7 @@ use Rattle.formulas.proofs.Free.{or-left, or-right, and-parts, Within, members-
 use Rattle.sequents.specs.Symbols.{Symbol, Ground}
 use Rattle.sequents.specs.Sequents.{Environment, Entry, entry, entries, Sequent, assign, bodySequent, Line, plain, Dsome, Dall, Dclause}
 use Rattle.sheet_format.specs.Limits.{maxNumber}
-use Rattle.sheet_format.specs.Bytes.{ascii, decimal, lf}
+use Rattle.sheet_format.specs.Bytes.{ascii, decimal, lf, isLetter, isSmall, isCapital, foldedName}
 use Rattle.sheet_format.specs.Nodes.{Declaration}
 use Rattle.sheet_format.proofs.Names.{Names}
 use Rattle.sheet_format.proofs.Indexing.{at-all}
@@ -37,12 +37,13 @@ use Rattle.scanning.specs.declared.Scan.{Scan}
 use Rattle.scanning.specs.declared.Scan.the-variants.{Term as Scanned, Malformed}
 use Rattle.scanning.specs.Ranges.{scanNumber}
 use Rattle.scanning.specs.Frames.{copyRanges}
-use Rattle.scanning.proofs.Positions.{drop-past}
 use Rattle.scanning.proofs.InstanceSpelling.{Frame, frame-fewer}
 use Rattle.scanning.proofs.Instances.{AtomIn, same-atoms}
 use Rattle.scanning.proofs.SymbolsInText.{read-decimal}
 use Rattle.scanning.proofs.Records.{Room, Kept, kept-then, kept-room, copy-kept}
 use Rattle.scanning.proofs.Frames.{frame-kept, frame-copy}
+use Rattle.answer_texts.specs.Capitals.{smallFrom}
+use Rattle.scanning.proofs.Folding.{folded-both, number-folded, atoms-folded}
 use Rattle.line_checking.specs.declared.Registers.{Registers}
 use Rattle.line_checking.specs.declared.Place.{Place}
 use Rattle.line_checking.specs.declared.Place.the-variants.{At, Nowhere}
@@ -52,9 +53,10 @@ use Rattle.line_checking.specs.Bindings.{beginsWith}
 use Rattle.line_checking.specs.Clauses.{Read, prefixFrom, withBody, useMember, useTerms, useFound, usePlace, usePlaceAt, clauseFields}
 use Rattle.line_checking.specs.Clauses.{clauseLine}
 use Rattle.line_checking.proofs.Lines.{tabbed, tabbed-stops, bytes-clause, isWord, wordByte}
-use Rattle.line_checking.proofs.Representation.{Setting, declared, Filled, names-of, SequentAt, SequentsAt, Holds}
+use Rattle.line_checking.proofs.Representation.{Setting, folds, declared, Filled, names-of, SequentAt, SequentsAt, Holds}
 use Rattle.line_checking.proofs.Preservation.{program-on, sequents-on}
-use Rattle.line_checking.proofs.Results.{Result, either-side, word-there, word-absent, number-there}
+use Rattle.line_checking.proofs.Results.{Result, either-side, number-there}
+use Rattle.line_checking.proofs.FoldedLines.{LineAt, isExact, part-there, word-folded, word-missing}
 use Rattle.line_checking.proofs.Derivations.{proceed-holds, proceed-stage, proceed-made, proceed-leftover, inferred, wrong-line}
 use Rattle.line_checking.proofs.Derivations.{right-line}
 use Rattle.line_checking.proofs.Programs.{EntryIs, PlaceIs, place-is}
@@ -69,7 +71,7 @@ module _ (c : Setting) (filled : Filled c) (q : ℕ) (w : List ℕ) (room : Room
     (gs : List (Sequent Symbol))
     (at : SequentAt c q w (r .node) (r .frame) (r .hypotheses) (r .level) g) (others : SequentsAt c q w (r .rest) gs) (l rest : List ℕ)
     (i e : ℕ)
-    (here : drop i (c .text) ≡ l ++ (lf ∷ rest)) (end : e ≡ i + length l) (kind : kindOf (c .table) (r .node) ≡ atomKind) where
+    (here : LineAt (c .text) i l rest) (end : e ≡ i + length l) (kind : kindOf (c .table) (r .node) ≡ atomKind) where
   -- This is the table.
   abbrev t : List ℕ
   t = c .table
@@ -134,18 +136,18 @@ module _ (c : Setting) (filled : Filled c) (q : ℕ) (w : List ℕ) (room : Room
   -- The place in a line that uses a member is read.
   reading : (a : ℕ) (ts : List Ground) → l ≡ ascii "D\tclause\t" ++ (decimal a ++ tabbed ts ds) → a ≤ maxNumber
       → scanNumber (c .text) (i + 9) ≡ Value a (i + 9 + length (decimal a))
-  unfolding ascii
+  unfolding ascii isExact smallFrom isLetter isSmall isCapital
   reading a ts p y =
-      let d : drop i (c .text) ≡ ascii "D\tclause\t" ++ (decimal a ++ (tabbed ts ds ++ (lf ∷ rest))) =
-      here ∙ ap (_++ (lf ∷ rest)) p ∙ ap (ascii "D\tclause\t" ++_) (append-assoc (decimal a) (tabbed ts ds) (lf ∷ rest)) in
-      read-decimal (c .text) (i + 9) a (tabbed ts ds ++ (lf ∷ rest))
-      (drop-past (c .text) i (ascii "D\tclause\t") (decimal a ++ (tabbed ts ds ++ (lf ∷ rest))) d) y
+      let d : drop (i + 9) (folds c) ≡ decimal a ++ (tabbed ts ds ++ (lf ∷ rest)) =
+      part-there (c .text) i l rest here (ascii "D\tclause\t") (decimal a ++ tabbed ts ds) refl (λ m. refl) p
+      ∙ append-assoc (decimal a) (tabbed ts ds) (lf ∷ rest) in
+      sym (number-folded (c .text) (i + 9)) ∙ read-decimal (folds c) (i + 9) a (tabbed ts ds ++ (lf ∷ rest)) d y
       (stops-digit (tabbed ts ds ++ (lf ∷ rest)) (tabbed-stops ts ds rest))
 
   -- The place k is read and ends at j; m is the rest of the line.
   module _ (k j : ℕ) (m : List ℕ) (read-is : scanNumber (c .text) (i + 9) ≡ Value k j)
       (spelled : l ≡ ascii "D\tclause\t" ++ (decimal k ++ m)) (small : k ≤ maxNumber)
-      (after : drop j (c .text) ≡ m ++ (lf ∷ rest)) (ends : e ≡ j + length m) where
+      (after : drop j (folds c) ≡ m ++ (lf ∷ rest)) (ends : e ≡ j + length m) where
     -- With the place k read, only the terms decide whether the line is right.
     only-terms : (w′ : List ℕ) → ((ts : List Ground) → m ≡ tabbed ts ds → All (λ u. WritableTerm u ds) ts
         → Uses (entryAt k (entries (g .program))) ts ≡ none) → R (broken w′ r)
@@ -231,8 +233,8 @@ module _ (c : Setting) (filled : Filled c) (q : ℕ) (w : List ℕ) (room : Room
           (and-both (not (elem z vs)) (freeTs (argumentsAt t (headOf t (F .leaf))) z || freeB (bodyOf t (F .leaf)) z) (ap not b) a)
 
       -- The head of the member is an atom in frame q.
-      head-in : (ts : List Ground) → Frame ds (c .text) w₂ q (assign vs ts (E .environment)) (freeTs (argumentsAt t (headOf t (F .leaf))))
-          → AtomIn (c .bytes) t (c .symbols) names (c .text) (c .nodes) table (filled .wellMade .fewNodes) w₂ (headOf t (F .leaf)) q
+      head-in : (ts : List Ground) → Frame ds (folds c) w₂ q (assign vs ts (E .environment)) (freeTs (argumentsAt t (headOf t (F .leaf))))
+          → AtomIn (foldedName (c .bytes)) t (c .symbols) names (folds c) (folded-both (c .bytes) (c .text)) (c .nodes) table (filled .wellMade .fewNodes) w₂ (headOf t (F .leaf)) q
           (assign vs ts (E .environment))
       unfolding headOf FormedClause
       head-in ts frame =
@@ -244,7 +246,7 @@ module _ (c : Setting) (filled : Filled c) (q : ℕ) (w : List ℕ) (room : Room
           go (inr y) = rw y (subst Sound (clause-rule t (c .nodes) table (F .leaf) (leaf .below) (leaf .is) y) (leaf .formed) .1 .1)
 
       -- The goal is an atom in the frame of the sequent.
-      atom-in : AtomIn (c .bytes) t (c .symbols) names (c .text) (c .nodes) table (filled .wellMade .fewNodes) w₂ n (r .frame)
+      atom-in : AtomIn (foldedName (c .bytes)) t (c .symbols) names (folds c) (folded-both (c .bytes) (c .text)) (c .nodes) table (filled .wellMade .fewNodes) w₂ n (r .frame)
           (g .environment)
       unfolding FormedGoal freeG
       atom-in =
@@ -254,22 +256,22 @@ module _ (c : Setting) (filled : Filled c) (q : ℕ) (w : List ℕ) (room : Room
             arguments = table .goal n (at .node) (at .is) .atom kind;
             formed = subst (λ (d : Goal). FormedGoal d ds) tree (at .formed) .1;
             frame =
-                frame-kept ds (c .text) q (r .frame) w w₂ (g .environment) (freeTs (argumentsAt t n)) kept (λ z. omega arith)
-                (frame-fewer ds (c .text) w (r .frame) (g .environment) (freeG (goalAt t n)) (freeTs (argumentsAt t n))
+                frame-kept ds (folds c) q (r .frame) w w₂ (g .environment) (freeTs (argumentsAt t n)) kept (λ z. omega arith)
+                (frame-fewer ds (folds c) w (r .frame) (g .environment) (freeG (goalAt t n)) (freeTs (argumentsAt t n))
                 (λ v a. subst (λ (d : Goal). freeG d v ≡ true) (sym tree) a) (at .frame));
           }
 
       -- The copied frame is the one that the member's clause had.
-      frame-first : Frame ds (c .text) w₁ q (E .environment) (freeC (clauseAtNode t h))
+      frame-first : Frame ds (folds c) w₁ q (E .environment) (freeC (clauseAtNode t h))
       frame-first =
-          let u = E .older in frame-copy ds (c .text) q f w (E .environment) (freeC (clauseAtNode t h)) room (λ z. omega arith) (E .frame)
+          let u = E .older in frame-copy ds (folds c) q f w (E .environment) (freeC (clauseAtNode t h)) room (λ z. omega arith) (E .frame)
 
       -- Frames of the terms ts, from that one.
       abbrev Frames : List Ground → Type 0
       Frames ts =
           (d : Environment Symbol) (p p′ : ℕ → Bool) → ((z : ℕ) → p′ z ≡ true → elem z vs ≡ false → p z ≡ true)
-          → Frame ds (c .text) w₁ q d p
-          → Frame ds (c .text) w₂ q (assign vs ts d) p′
+          → Frame ds (folds c) w₁ q d p
+          → Frame ds (folds c) w₂ q (assign vs ts d) p′
 
       -- After the line the body is due, or the next sequent.
       body-holds : (ts : List Ground) → Frames ts
@@ -334,7 +336,9 @@ module _ (c : Setting) (filled : Filled c) (q : ℕ) (w : List ℕ) (room : Room
           → R (useMember (c .bytes) t (c .text) w₂ r q (F .leaf))
       unfolding useMember inferClause inferEntry infer WritableLine
       used ts p fits frames =
-          rw (same-atoms (c .bytes) t (c .symbols) names (c .text) (c .nodes) table (filled .wellMade .fewNodes) w₂ n (headOf t (F .leaf))
+          rw (sym (atoms-folded (c .bytes) t (c .text) w₂ (r .frame) q n (headOf t (F .leaf)))
+          ∙ same-atoms (foldedName (c .bytes)) t (c .symbols) names (folds c) (folded-both (c .bytes) (c .text)) (c .nodes) table
+          (filled .wellMade .fewNodes) w₂ n (headOf t (F .leaf))
           (r .frame) q (g .environment) env atom-in
           (head-in ts (frames (E .environment) (freeC (clauseAtNode t h)) (freeTs (argumentsAt t (headOf t (F .leaf))))
           (λ z a b. within-clause z (or-left (freeTs (argumentsAt t (headOf t (F .leaf))) z) (freeB (bodyOf t (F .leaf)) z) a) b)
@@ -438,17 +442,17 @@ module _ (c : Setting) (filled : Filled c) (q : ℕ) (w : List ℕ) (room : Room
 
   -- "an atom equal to the head of a member with such terms for its prefix"
   pub clause-result : R (clauseLine (c .bytes) t (c .symbols) (c .clauses) (c .text) w r q i e)
-  unfolding clauseLine clauseFields ascii isWord wordByte
+  unfolding clauseLine clauseFields ascii isWord wordByte isExact smallFrom isLetter isSmall isCapital
   clause-result =
       either-side R (beginsWith word (c .text) i) (clauseFields (c .bytes) t (c .symbols) (c .clauses) (c .text) w r q (i + 9) e)
       (broken w r)
-      (λ b. let s = word-there word (c .text) i l rest refl here b in fields (s .0) (s .1) (s .2))
-      (λ b. only w (λ k ts p y z. absurd (word-absent word (c .text) i l rest (decimal k ++ tabbed ts ds) refl here b p)))
+      (λ b. let s = word-folded (c .text) i l rest here word refl (λ m. refl) b in fields (s .0) (s .1) (s .2))
+      (λ b. only w (λ k ts p y z. absurd (word-missing (c .text) i l rest here word (decimal k ++ tabbed ts ds) refl refl b p)))
     where
       word : List ℕ
       word = ascii "D\tclause\t"
 
-      fields : (m : List ℕ) → l ≡ word ++ m → drop (i + 9) (c .text) ≡ m ++ (lf ∷ rest)
+      fields : (m : List ℕ) → l ≡ word ++ m → drop (i + 9) (folds c) ≡ m ++ (lf ∷ rest)
           → R (clauseFields (c .bytes) t (c .symbols) (c .clauses) (c .text) w r q (i + 9) e)
       fields m p y = go (scanNumber (c .text) (i + 9)) refl
         where
@@ -462,7 +466,7 @@ module _ (c : Setting) (filled : Filled c) (q : ℕ) (w : List ℕ) (room : Room
               only w (λ k ts o u z. absurd (let x : Missing ≡ Value k (i + 9 + length (decimal k)) = sym h
               ∙ reading k ts o u in let v : _≡_ {A = ℕ} 0 1 = cc in omega arith))
           go (Value k j) h =
-              let s = number-there (c .text) (i + 9) m rest k j y h in
+              let s = number-there (folds c) (i + 9) m rest k j y (number-folded (c .text) (i + 9) ∙ h) in
               let a = s .end in
               let b = ap length p ∙ length-append word m in
               let d = ap length (s .spelled) ∙ length-append (decimal k) (s .more) in

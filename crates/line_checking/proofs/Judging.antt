@@ -7,10 +7,11 @@ use mathlib.Core.List.{List, [], _∷_, _++_, append-nil}
 use mathlib.Core.Option.{Option, none, some}
 use mathlib.Core.Logic.{inl, inr}
 use lib.Dec.{eqb}
-use lib.ListN.{length, drop, length-append}
+use lib.ListN.{length, take, drop, length-append, take-append-drop}
+use lib.Seq.{length-take-le, drop-append-seam}
 use borrow.Author.Tests.{ne-eqb}
 use Rattle.sequents.specs.Symbols.{Symbol}
-use Rattle.sheet_format.specs.Bytes.{lf, fields}
+use Rattle.sheet_format.specs.Bytes.{lf, fields, folded, foldedName}
 use Rattle.sheet_format.specs.Sheets.{Sheet}
 use Rattle.node_table.specs.Decoding.{decodeSheet}
 use Rattle.answer_texts.specs.TextLines.{TextLine, termsOf}
@@ -29,12 +30,16 @@ use Rattle.scanning.proofs.Positions.{drop-length, drop-past}
 use Rattle.scanning.proofs.Records.{Room, Kept}
 use Rattle.scanning.proofs.SymbolsInText.{startsIn, starts-append, plain-starts}
 use Rattle.scanning.proofs.Numbering.{ShowsAs, check-numbering}
+use Rattle.terms.proofs.Lists.{map-append}
+use Rattle.text_judging.proofs.SmallLines.{small-twice}
+use Rattle.scanning.proofs.Folding.{starts-folded}
 use Rattle.line_checking.specs.declared.Registers.{Registers}
 use Rattle.line_checking.specs.Sequents.{Made, made, withStage, broken, withCounts, brokenStage}
 use Rattle.line_checking.specs.Judging.{stageLine, countLine, orderLine, judgeLine}
 use Rattle.line_checking.proofs.Lines.{line-starts}
 use Rattle.line_checking.proofs.Representation.{Setting, declared, sheetOf, Filled, names-of, Holds}
 use Rattle.line_checking.proofs.Results.{Right, Wrong, Result}
+use Rattle.line_checking.proofs.FoldedLines.{LineAt, same-size}
 use Rattle.line_checking.proofs.Stages.{stage-result}
 
 -- After q lines, the next one starting at i.
@@ -61,7 +66,7 @@ counts-hold c k w r m l (sequents []) h = h
 counts-hold c k w r m l (sequents (g ∷ gs)) h = h
 
 module _ (c : Setting) (filled : Filled c) (q : ℕ) (w : List ℕ) (room : Room q w) (r : Registers) (p : Progress) (l rest : List ℕ) (i e : ℕ)
-    (here : drop i (c .text) ≡ l ++ (lf ∷ rest)) (end : e ≡ i + length l) (state : State c q i w r p) where
+    (here : LineAt (c .text) i l rest) (end : e ≡ i + length l) (state : State c q i w r p) where
   -- This is the sheet.
   abbrev s : Sheet
   s = sheetOf c
@@ -128,8 +133,13 @@ module _ (c : Setting) (filled : Filled c) (q : ℕ) (w : List ℕ) (room : Room
       ∙ ap (λ (n : ℕ). startsIn i (c .text) 0 ++ startsIn (length l + 1) (c .text) n) b
       ∙ ap (startsIn i (c .text) 0 ++_) (starts-append (length l) 1 (c .text) i
       ∙ ap (startsIn (length l) (c .text) i ++_)
-      (plain-starts (lf ∷ []) rest (c .text) (i + length l) (drop-past (c .text) i l (lf ∷ rest) here) ((refl, refl), tt))
+      (plain-starts (lf ∷ []) (here .after) (c .text) (i + length l) ended ((refl, refl), tt))
       ∙ append-nil (startsIn (length l) (c .text) i))
+    where
+      ended : drop (i + length l) (c .text) ≡ lf ∷ here .after
+      ended =
+          ap (λ (n : ℕ). drop (i + n) (c .text)) (same-size (c .text) i l rest here)
+          ∙ drop-past (c .text) i (here .raw) (lf ∷ here .after) (here .stands)
 
   -- A line that is right at its stage is judged by its numbering.
   right : (m : Made) → Right c q l (p .stage) r m → After (orderLine (c .text) m i e) (judgeBytes s l p)
@@ -140,15 +150,35 @@ module _ (c : Setting) (filled : Filled c) (q : ℕ) (w : List ℕ) (room : Room
     where
       marks : startsIn (length l) (c .text) i ≡ symbolsOf (termsOf (h .line))
       marks =
-          ap (λ (z : List ℕ). startsIn (length z) (c .text) i) (h .spelled)
-          ∙ line-starts (declared c) (names-of c filled) (c .text) (h .line) rest i (here ∙ ap (_++ (lf ∷ rest)) (h .spelled)) (h .writable)
+          sym (starts-folded (c .text) (length l) i) ∙ ap (λ (x : List ℕ). startsIn (length l) x i) (sym same)
+          ∙ starts-folded text (length l) i ∙ ap (λ (z : List ℕ). startsIn (length z) text i) (h .spelled)
+          ∙ line-starts (declared c) (names-of c filled) text (h .line) (here .after) i (stands ∙ ap (_++ (lf ∷ here .after)) (h .spelled))
+          (h .writable)
+        where
+          -- The text with this line's names folded.
+          text : List ℕ
+          text = take i (c .text) ++ (l ++ (lf ∷ here .after))
+
+          stands : drop i text ≡ l ++ (lf ∷ here .after)
+          stands =
+              ap (λ (n : ℕ). drop n text) (sym (length-take-le i (c .text) (state .inside)))
+              ∙ drop-append-seam (take i (c .text)) (l ++ (lf ∷ here .after))
+
+          same : foldedName text ≡ foldedName (c .text)
+          same =
+              map-append folded (take i (c .text)) (l ++ (lf ∷ here .after))
+              ∙ ap (foldedName (take i (c .text)) ++_) (map-append folded l (lf ∷ here .after)
+              ∙ ap (_++ foldedName (lf ∷ here .after)) (ap foldedName (here .line-is) ∙ small-twice 0 (here .raw))
+              ∙ sym (map-append folded (here .raw) (lf ∷ here .after)) ∙ ap foldedName (sym (here .stands)))
+              ∙ sym (map-append folded (take i (c .text)) (drop i (c .text))) ∙ ap foldedName (take-append-drop i (c .text))
 
       shown : ShowsAs (checkNumbering (e - i) (c .text) i (m .registers .made) (m .registers .leftover))
           (showSymbols (symbolsOf (termsOf (h .line))) (p .seen))
       shown =
           let a : e - i ≡ length l = omega arith in
-          let b = drop-length (c .text) i (l ++ (lf ∷ rest)) here in
-          let d = length-append l (lf ∷ rest) in
+          let b = drop-length (c .text) i (here .raw ++ (lf ∷ here .after)) (here .stands) in
+          let d = length-append (here .raw) (lf ∷ here .after) in
+          let g = same-size (c .text) i l rest here in
           let f = state .inside in
           rw (a, h .same-made ∙ state .made-count, h .same-leftover ∙ state .leftover-count, ← marks)
           (check-numbering (length l) (c .text) i (p .seen) (omega arith) (state .seen))
@@ -177,7 +207,8 @@ module _ (c : Setting) (filled : Filled c) (q : ℕ) (w : List ℕ) (room : Room
                   ∙ shows-append (startsIn i (c .text) 0) (startsIn (length l) (c .text) i) unseen (p .seen) (state .seen)
                   ∙ ap (λ (n : List Symbol). showSymbols n (p .seen)) marks ∙ z;
               inside =
-                  let b = drop-length (c .text) i (l ++ (lf ∷ rest)) here in let d = length-append l (lf ∷ rest) in let f =
+                  let b = drop-length (c .text) i (here .raw ++ (lf ∷ here .after)) (here .stands) in let d =
+                  length-append (here .raw) (lf ∷ here .after) in let g = same-size (c .text) i l rest here in let f =
                   state .inside in omega arith;
             },
           )

@@ -3,6 +3,8 @@ pub mod Lines
 pub mod Representation
 pub mod Preservation
 pub mod Results
+pub mod FoldedLines
+pub mod FoldedSheets
 pub mod Terms
 pub mod Bindings
 pub mod Derivations

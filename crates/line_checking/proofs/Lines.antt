@@ -12,7 +12,7 @@ use Rattle.terms.proofs.Lists.{all-append}
 use Rattle.formulas.proofs.Free.{and-parts}
 use Rattle.sequents.specs.Symbols.{Ground}
 use Rattle.sequents.specs.Sequents.{Dtrue, Dand, Dleft, Dright, Dassume, plain, Dsome, Dall, Dclause}
-use Rattle.sheet_format.specs.Bytes.{ascii, decimal, digits, lf, isDigit, isLetter, isNameByte}
+use Rattle.sheet_format.specs.Bytes.{ascii, decimal, digits, lf, isDigit, isSmall, isCapital, isLetter, isNameByte}
 use Rattle.sheet_format.specs.Nodes.{Declaration}
 use Rattle.sheet_format.proofs.Bytes.{Without}
 use Rattle.sheet_format.proofs.Names.{Names}
@@ -123,7 +123,7 @@ word-without (c ∷ cs) h = let p = and-parts (wordByte c) (isWord cs) h in (wor
 
 -- A tab or the end of the line is no byte of a name.
 pub tabbed-stops : (ts : List Ground) (ds : List Declaration) (r : List ℕ) → Stops isNameByte (tabbed ts ds ++ (lf ∷ r))
-unfolding tabbed isNameByte isLetter isDigit
+unfolding tabbed isNameByte isLetter isSmall isCapital isDigit
 tabbed-stops [] ds r = refl
 tabbed-stops (t ∷ ts) ds r = refl
 
@@ -144,7 +144,7 @@ module _ (ds : List Declaration) (names : Names ds) (x : List ℕ) where
   -- The symbols in terms after tabs are those of the terms.
   tabbed-starts : (ts : List Ground) (r : List ℕ) (i : ℕ) → drop i x ≡ tabbed ts ds ++ (lf ∷ r) → All (λ t. WritableTerm t ds) ts
       → startsIn (length (tabbed ts ds)) x i ≡ symbolsOf ts
-  unfolding tabbed symbolsOf startsIn isNameByte isLetter isDigit
+  unfolding tabbed symbolsOf startsIn isNameByte isLetter isSmall isCapital isDigit
   tabbed-starts [] r i h w = refl
   tabbed-starts (t ∷ ts) r i h w =
       let a = spellTerm t ds in
@@ -158,7 +158,7 @@ module _ (ds : List Declaration) (names : Names ds) (x : List ℕ) where
   -- The symbols that begin in a line are those of its terms.
   pub line-starts : (l : TextLine) (r : List ℕ) (i : ℕ) → drop i x ≡ lineBytes ds l ++ (lf ∷ r) → Writable ds l
       → startsIn (length (lineBytes ds l)) x i ≡ symbolsOf (termsOf l)
-  unfolding Writable WritableLine termsOf lineTerms symbolsOf textFields lineFields join ascii spellWord isNameByte isLetter isDigit isQuiet
+  unfolding Writable WritableLine termsOf lineTerms symbolsOf textFields lineFields join ascii spellWord isNameByte isLetter isSmall isCapital isDigit isQuiet
       quietByte
   line-starts (resultLine n) r i h w =
       plain-starts (ascii "R\tproved\t" ++ decimal n) (lf ∷ r) x i h

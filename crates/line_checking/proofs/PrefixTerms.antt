@@ -14,7 +14,7 @@ use Rattle.terms.specs.Lists.{All, elem, update}
 use Rattle.formulas.proofs.Free.{and-parts}
 use Rattle.sequents.specs.Symbols.{Symbol, Ground, level}
 use Rattle.sequents.specs.Sequents.{Environment, assign}
-use Rattle.sheet_format.specs.Bytes.{lf, isNameByte, isLetter, isDigit}
+use Rattle.sheet_format.specs.Bytes.{lf, isNameByte, isLetter, isSmall, isCapital, isDigit}
 use Rattle.sheet_format.specs.Nodes.{Declaration}
 use Rattle.sheet_format.proofs.Names.{Names}
 use Rattle.sheet_format.specs.Limits.{variableNames}
@@ -29,14 +29,15 @@ use Rattle.scanning.specs.declared.Scan.the-variants.{Term as Scanned, Malforme
 use Rattle.scanning.specs.Scanning.{scanTerm}
 use Rattle.scanning.specs.Frames.{putRange}
 use Rattle.scanning.proofs.Positions.{byte-is, drop-next}
-use Rattle.scanning.proofs.TermsInText.{SpelledAt, ScansTerm, scanned-line}
+use Rattle.scanning.proofs.TermsInText.{SpelledAt, ScansTerm}
+use Rattle.scanning.proofs.Folding.{byte-test}
 use Rattle.scanning.proofs.InstanceSpelling.{Frame}
 use Rattle.scanning.proofs.Records.{Room, Kept, kept-self, kept-then, kept-room, slot-kept}
 use Rattle.scanning.proofs.Frames.{frame-put}
 use Rattle.line_checking.specs.Clauses.{Read, read, prefixTerm, prefixAt, prefixFrom}
 use Rattle.line_checking.proofs.Lines.{tabbed, tabbed-stops}
-use Rattle.line_checking.proofs.Representation.{Setting, declared}
-use Rattle.line_checking.proofs.Terms.{scanAt, spelledAt, scan-there}
+use Rattle.line_checking.proofs.Representation.{Setting, folds, declared}
+use Rattle.line_checking.proofs.Terms.{scanned-there, scanAt, spelledAt, scan-there}
 use Rattle.clause_members.proofs.Prefixes.{namesOf}
 
 -- only record q is written
@@ -106,7 +107,7 @@ module _ (c : Setting) (names : Names (declared c)) (q m e : ℕ) (rest : List �
   pub data PrefixCase (w l : List ℕ) (vs : List ℕ) (a : Read) : Type 0 where
     all-read : (ts : List Ground) → l ≡ tabbed ts ds → Fits vs ts → (k : ℕ) → a .scan ≡ Scanned e k
         → ((d : Environment Symbol) (p p′ : ℕ → Bool) → ((z : ℕ) → p′ z ≡ true → elem z vs ≡ false → p z ≡ true)
-        → Frame ds (c .text) w q d p → Frame ds (c .text) (a .memory) q (assign vs ts d) p′)
+        → Frame ds (folds c) w q d p → Frame ds (folds c) (a .memory) q (assign vs ts d) p′)
         → PrefixCase w l vs a
     not-read : ((ts : List Ground) → l ≡ tabbed ts ds → Fits vs ts → ⊥) → ((j k : ℕ) → a .scan ≡ Scanned j k → eqb j e ≡ false)
         → PrefixCase w l vs a
@@ -141,30 +142,30 @@ module _ (c : Setting) (names : Names (declared c)) (q m e : ℕ) (rest : List �
       (record { writable = f .writable .1; many = (let z = f .many in let y : length ts ≡ length vs = omega arith in y); low = o .1 })
 
   -- A term before other terms or the end of the line is scanned.
-  scan-tabbed : (i : ℕ) (t : Ground) (ts : List Ground) → drop i (c .text) ≡ spellTerm t ds ++ (tabbed ts ds ++ (lf ∷ rest))
+  scan-tabbed : (i : ℕ) (t : Ground) (ts : List Ground) → drop i (folds c) ≡ spellTerm t ds ++ (tabbed ts ds ++ (lf ∷ rest))
       → WritableTerm t ds
       → scanAt c i ≡ Scanned (i + length (spellTerm t ds)) (level t)
-  unfolding tabbed isNameByte isLetter isDigit
+  unfolding tabbed isNameByte isLetter isSmall isCapital isDigit
   scan-tabbed i t [] h w = scan-there c names i t lf rest h w refl
   scan-tabbed i t (u ∷ ts) h w = scan-there c names i t 9 ((spellTerm u ds ++ tabbed ts ds) ++ (lf ∷ rest)) h w refl
 
   -- A term before other terms or the end of the line stands in the text.
-  spelled-at-tabbed : (i : ℕ) (t : Ground) (ts : List Ground) → drop i (c .text) ≡ spellTerm t ds ++ (tabbed ts ds ++ (lf ∷ rest))
+  spelled-at-tabbed : (i : ℕ) (t : Ground) (ts : List Ground) → drop i (folds c) ≡ spellTerm t ds ++ (tabbed ts ds ++ (lf ∷ rest))
       → WritableTerm t ds
-      → SpelledAt ds (c .text) i (i + length (spellTerm t ds)) t
-  unfolding tabbed isNameByte isLetter isDigit
+      → SpelledAt ds (folds c) i (i + length (spellTerm t ds)) t
+  unfolding tabbed isNameByte isLetter isSmall isCapital isDigit
   spelled-at-tabbed i t [] h w = spelledAt c names i t lf rest h w refl
   spelled-at-tabbed i t (u ∷ ts) h w = spelledAt c names i t 9 ((spellTerm u ds ++ tabbed ts ds) ++ (lf ∷ rest)) h w refl
 
   -- Putting the term of the name v into a frame gives a frame for v and the names it had.
   frame-next : (w : List ℕ) (v i j : ℕ) (t : Ground) (vs : List ℕ) (d : Environment Symbol) (p p′ : ℕ → Bool) → Room q w
-      → v < variableNames → SpelledAt ds (c .text) i j t
-      → ((z : ℕ) → p′ z ≡ true → elem z (v ∷ vs) ≡ false → p z ≡ true) → Frame ds (c .text) w q d p
-      → (o : ℕ → Bool) × Frame ds (c .text) (putRange w q v i j) q (update d v t) o
+      → v < variableNames → SpelledAt ds (folds c) i j t
+      → ((z : ℕ) → p′ z ≡ true → elem z (v ∷ vs) ≡ false → p z ≡ true) → Frame ds (folds c) w q d p
+      → (o : ℕ → Bool) × Frame ds (folds c) (putRange w q v i j) q (update d v t) o
       × ((z : ℕ) → p′ z ≡ true → elem z vs ≡ false → o z ≡ true)
   unfolding elem
   frame-next w v i j t vs d p p′ room l s h f =
-      (o, frame-put ds (c .text) q v i j t w d p o room l s fewer f, λ z a b. still z a b (eqb v z) refl)
+      (o, frame-put ds (folds c) q v i j t w d p o room l s fewer f, λ z a b. still z a b (eqb v z) refl)
     where
       o : ℕ → Bool
       o z = eqb v z || p z
@@ -181,9 +182,9 @@ module _ (c : Setting) (names : Names (declared c)) (q m e : ℕ) (rest : List �
       still z a b false y = rw y (h z a (rw (elem, y) b))
 
   -- Reading for n names, the digits of a.
-  pub prefix-case : (n a i : ℕ) (w l : List ℕ) → Room q w → drop i (c .text) ≡ l ++ (lf ∷ rest) → e ≡ i + length l
+  pub prefix-case : (n a i : ℕ) (w l : List ℕ) → Room q w → drop i (folds c) ≡ l ++ (lf ∷ rest) → e ≡ i + length l
       → PrefixCase w l (namesOf n a) (prefixFrom n (c .bytes) (c .table) (c .symbols) (c .text) w q a i m e)
-  unfolding prefixFrom namesOf prefixAt prefixTerm tabbed allLow assign
+  unfolding prefixFrom namesOf prefixAt prefixTerm tabbed allLow assign isLetter isSmall isCapital
   prefix-case zero a i w l room h k = no-names w l i k
   prefix-case (suc n) a i w l room h k = go (eqb (getD (c .text) i 0) 9) refl (λ j w′ l′. prefix-case n (a / 8) j w′ l′)
     where
@@ -203,7 +204,7 @@ module _ (c : Setting) (names : Names (declared c)) (q m e : ℕ) (rest : List �
           ]
 
       Later : Type 0
-      Later = (j : ℕ) (w′ l′ : List ℕ) → Room q w′ → drop j (c .text) ≡ l′ ++ (lf ∷ rest) → e ≡ j + length l′
+      Later = (j : ℕ) (w′ l′ : List ℕ) → Room q w′ → drop j (folds c) ≡ l′ ++ (lf ∷ rest) → e ≡ j + length l′
           → PrefixCase w′ l′ vs (prefixFrom n (c .bytes) (c .table) (c .symbols) (c .text) w′ q (a / 8) j m e)
 
       P : Read → Type 0
@@ -213,20 +214,20 @@ module _ (c : Setting) (names : Names (declared c)) (q m e : ℕ) (rest : List �
       begins-so : (t : Ground) (ts : List Ground) → l ≡ 9 ∷ (spellTerm t ds ++ tabbed ts ds) → WritableTerm t ds
           → scanAt c (i + 1) ≡ Scanned (i + 1 + length (spellTerm t ds)) (level t)
       begins-so t ts p y =
-          scan-tabbed (i + 1) t ts (drop-next (c .text) i 9 ((spellTerm t ds ++ tabbed ts ds) ++ (lf ∷ rest)) (h ∙ ap (_++ (lf ∷ rest)) p)
+          scan-tabbed (i + 1) t ts (drop-next (folds c) i 9 ((spellTerm t ds ++ tabbed ts ds) ++ (lf ∷ rest)) (h ∙ ap (_++ (lf ∷ rest)) p)
           ∙ append-assoc (spellTerm t ds) (tabbed ts ds) (lf ∷ rest)) y
 
       -- The case of all terms follows from the first term and the case of the others.
       joined : (u : Ground) (more : List ℕ) (j k : ℕ) (b : Read) → scanAt c (i + 1) ≡ Scanned j k → l ≡ 9 ∷ (spellTerm u ds ++ more)
           → WritableTerm u ds
-          → j ≡ i + 1 + length (spellTerm u ds) → leb (level u) m ≡ true → drop (i + 1) (c .text) ≡ spellTerm u ds ++ (more ++ (lf ∷ rest))
+          → j ≡ i + 1 + length (spellTerm u ds) → leb (level u) m ≡ true → drop (i + 1) (folds c) ≡ spellTerm u ds ++ (more ++ (lf ∷ rest))
           → PrefixCase (putRange w q v (i + 1) j) more vs b → P b
       joined u more j k b x p y z low d (all-read ts r f o s g) =
           all-read (u ∷ ts) (p ∙ ap (λ (t : List ℕ). 9 ∷ (spellTerm u ds ++ t)) r)
           (record { writable = (y, f .writable); many = ap suc (f .many); low = and-both (leb (level u) m) (allLow m ts) low (f .low) }) o s
           (λ d₀ p₀ p′ h₀ f₀.
           let t = frame-next w v (i + 1) j u vs d₀ p₀ p′ room (omega arith)
-          (subst (λ (n : ℕ). SpelledAt ds (c .text) (i + 1) n u) (sym z)
+          (subst (λ (n : ℕ). SpelledAt ds (folds c) (i + 1) n u) (sym z)
           (spelled-at-tabbed (i + 1) u ts (d ∙ ap (λ (t : List ℕ). spellTerm u ds ++ (t ++ (lf ∷ rest))) r) y)) h₀ f₀ in
           g (update d₀ v u) (t .0) p′ (t .2) (t .1))
       joined u more j k b x p y z low d (not-read r s) =
@@ -236,7 +237,7 @@ module _ (c : Setting) (names : Names (declared c)) (q m e : ℕ) (rest : List �
           r ts (same-rest (spellTerm u ds) (spellTerm t ds) more (tabbed ts ds) n
           (let g : spellTerm u ds ++ more ≡ spellTerm t ds ++ tabbed ts ds = tail-same (sym p ∙ o) in g)) f)) s
 
-      scanned : (j k : ℕ) → scanAt c (i + 1) ≡ Scanned j k → (l′ : List ℕ) → l ≡ 9 ∷ l′ → drop (i + 1) (c .text) ≡ l′ ++ (lf ∷ rest) → Later
+      scanned : (j k : ℕ) → scanAt c (i + 1) ≡ Scanned j k → (l′ : List ℕ) → l ≡ 9 ∷ l′ → drop (i + 1) (folds c) ≡ l′ ++ (lf ∷ rest) → Later
           → P (next (prefixTerm w q v (i + 1) j k m e))
       scanned j k₀ s l′ p d ih =
           subst (λ (b : Bool). P (next (cond b (cond (leb k₀ m) (read w₁ (Scanned j k₀)) (read w Malformed)) (read w Malformed))))
@@ -246,8 +247,8 @@ module _ (c : Setting) (names : Names (declared c)) (q m e : ℕ) (rest : List �
           w₁ : List ℕ
           w₁ = putRange w q v (i + 1) j
 
-          t : ScansTerm ds (c .text) (i + 1) l′ rest j k₀
-          t = scanned-line (c .bytes) (c .table) (c .symbols) names (c .text) (length (c .text)) (i + 1) l′ rest j k₀ d s
+          t : ScansTerm ds (folds c) (i + 1) l′ rest j k₀
+          t = scanned-there c names (i + 1) l′ rest j k₀ d s
 
           low : (b : Bool) → leb k₀ m ≡ b → P (next (cond b (read w₁ (Scanned j k₀)) (read w Malformed)))
           low true b =
@@ -263,7 +264,7 @@ module _ (c : Setting) (names : Names (declared c)) (q m e : ℕ) (rest : List �
               true≢false (sym l₀ ∙ ap (λ (x : ℕ). leb x m) (let e₀ : Scanned j k₀ ≡ Scanned (i + 1 + length (spellTerm u ds)) (level u) =
               sym s ∙ begins-so u ts o y₀ in let g : level u ≡ k₀ = cc in g) ∙ b)))
 
-      term : (s : Scan) → scanAt c (i + 1) ≡ s → (l′ : List ℕ) → l ≡ 9 ∷ l′ → drop (i + 1) (c .text) ≡ l′ ++ (lf ∷ rest) → Later
+      term : (s : Scan) → scanAt c (i + 1) ≡ s → (l′ : List ℕ) → l ≡ 9 ∷ l′ → drop (i + 1) (folds c) ≡ l′ ++ (lf ∷ rest) → Later
           → P (next (elim s as (λ z. Read) [ Scanned j k ↦ prefixTerm w q v (i + 1) j k m e | Malformed ↦ read w Malformed ]))
       term (Scanned j k) s l′ p d ih = scanned j k s l′ p d ih
       term Malformed s l′ p d ih =
@@ -272,26 +273,26 @@ module _ (c : Setting) (names : Names (declared c)) (q m e : ℕ) (rest : List �
           ∙ begins-so t ts o y in let x : _≡_ {A = ℕ} 0 1 = cc in omega arith))
 
       -- The line goes on with a tab.
-      tab : (l′ : List ℕ) → l ≡ l′ → eqb (getD (c .text) i 0) 9 ≡ true → Later
+      tab : (l′ : List ℕ) → l ≡ l′ → eqb (getD (folds c) i 0) 9 ≡ true → Later
           → P (next (elim (scanAt c (i + 1)) as (λ z. Read) [
             | Scanned j k ↦ prefixTerm w q v (i + 1) j k m e
             | Malformed ↦
                 read w Malformed
           ]))
-      tab [] p b ih = absurd (true≢false (sym b ∙ ap (λ (z : ℕ). eqb z 9) (byte-is (c .text) i lf rest (h ∙ ap (_++ (lf ∷ rest)) p))))
+      tab [] p b ih = absurd (true≢false (sym b ∙ ap (λ (z : ℕ). eqb z 9) (byte-is (folds c) i lf rest (h ∙ ap (_++ (lf ∷ rest)) p))))
       tab (x ∷ l′) p b ih =
           let y = h ∙ ap (_++ (lf ∷ rest)) p in
-          let z : x ≡ 9 = sym (byte-is (c .text) i x (l′ ++ (lf ∷ rest)) y) ∙ eqb-true (getD (c .text) i 0) 9 b in
-          term (scanAt c (i + 1)) refl l′ (p ∙ ap (_∷ l′) z) (drop-next (c .text) i x (l′ ++ (lf ∷ rest)) y) ih
+          let z : x ≡ 9 = sym (byte-is (folds c) i x (l′ ++ (lf ∷ rest)) y) ∙ eqb-true (getD (folds c) i 0) 9 b in
+          term (scanAt c (i + 1)) refl l′ (p ∙ ap (_∷ l′) z) (drop-next (folds c) i x (l′ ++ (lf ∷ rest)) y) ih
 
       go : (b : Bool) → eqb (getD (c .text) i 0) 9 ≡ b → Later
           → P (next (prefixAt (c .bytes) (c .table) (c .symbols) (c .text) w q v i m e))
-      go true b ih = rw (prefixAt, b) (tab l refl b ih)
+      go true b ih = rw (prefixAt, b) (tab l refl (byte-test (c .text) 9 i refl ∙ b) ih)
       go false b ih =
           rw (prefixAt, b) (failed w l (v ∷ vs) w (first-of l v vs (λ t ts o y u f.
           true≢false
-          (sym (ap (λ (z : ℕ). eqb z 9) (byte-is (c .text) i 9 ((spellTerm t ds ++ tabbed ts ds) ++ (lf ∷ rest)) (h
-          ∙ ap (_++ (lf ∷ rest)) o))) ∙ b))))
+          (sym (ap (λ (z : ℕ). eqb z 9) (byte-is (folds c) i 9 ((spellTerm t ds ++ tabbed ts ds) ++ (lf ∷ rest)) (h
+          ∙ ap (_++ (lf ∷ rest)) o))) ∙ byte-test (c .text) 9 i refl ∙ b))))
 
 -- The terms are fixed by their bytes.
 pub tabbed-injective : (ds : List Declaration) → Names ds → (ts us : List Ground) → All (λ t. WritableTerm t ds) ts

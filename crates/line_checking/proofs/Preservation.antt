@@ -15,7 +15,7 @@ use Rattle.scanning.specs.Fields as fields
 use Rattle.scanning.proofs.InstanceSpelling.{Frame}
 use Rattle.scanning.proofs.Records.{Kept}
 use Rattle.scanning.proofs.Frames.{frame-kept}
-use Rattle.line_checking.proofs.Representation.{Setting, declared, HypothesisAt, HypothesesAt, ProgramAt, SequentAt, SequentsAt}
+use Rattle.line_checking.proofs.Representation.{Setting, folds, declared, HypothesisAt, HypothesesAt, ProgramAt, SequentAt, SequentsAt}
 use Rattle.memory.specs.Records.{field}
 
 module _ (c : Setting) (q : ℕ) (w w′ : List ℕ) (kept : Kept q w w′) where
@@ -38,11 +38,11 @@ module _ (c : Setting) (q : ℕ) (w w′ : List ℕ) (kept : Kept q w w′) wher
         formed = subst (λ (z : ℕ). FormedClause (clauseAtNode (c .table) z) (declared c)) n (h .formed);
         older = subst (λ (z : ℕ). z < k) f (h .older);
         frame =
-            subst (λ (z : ℕ). Frame (declared c) (c .text) w′ z (a .environment)
+            subst (λ (z : ℕ). Frame (declared c) (folds c) w′ z (a .environment)
             (freeC (clauseAtNode (c .table) (field w′ r fields.hypothesisNode)))) f
-            (subst (λ (z : ℕ). Frame (declared c) (c .text) w′ (field w r fields.hypothesisFrame) (a .environment)
+            (subst (λ (z : ℕ). Frame (declared c) (folds c) w′ (field w r fields.hypothesisFrame) (a .environment)
             (freeC (clauseAtNode (c .table) z))) n
-            (frame-kept (declared c) (c .text) q (field w r fields.hypothesisFrame) w w′ (a .environment)
+            (frame-kept (declared c) (folds c) q (field w r fields.hypothesisFrame) w w′ (a .environment)
             (freeC (clauseAtNode (c .table) (field w r fields.hypothesisNode))) kept (λ e. omega arith) (h .frame)));
       }
 
@@ -75,7 +75,7 @@ module _ (c : Setting) (q : ℕ) (w w′ : List ℕ) (kept : Kept q w w′) wher
         goal = s .goal;
         formed = s .formed;
         older = s .older;
-        frame = frame-kept (declared c) (c .text) q f w w′ (g .environment) _ kept (λ e. omega arith) (s .frame);
+        frame = frame-kept (declared c) (folds c) q f w w′ (g .environment) _ kept (λ e. omega arith) (s .frame);
         program = program-keep k h (g .program) u (s .program);
         level = s .level;
       }

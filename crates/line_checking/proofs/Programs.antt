@@ -26,7 +26,7 @@ use Rattle.scanning.proofs.InstanceSpelling.{Frame}
 use Rattle.line_checking.specs.declared.Place.{Place}
 use Rattle.line_checking.specs.declared.Place.the-variants.{At, Nowhere}
 use Rattle.line_checking.specs.Members.{clauseFrom, hypothesisFrom}
-use Rattle.line_checking.proofs.Representation.{Setting, declared, sheetOf, programOf, Filled, HypothesesAt, ProgramAt}
+use Rattle.line_checking.proofs.Representation.{Setting, folds, declared, sheetOf, programOf, Filled, HypothesesAt, ProgramAt}
 use Rattle.line_checking.proofs.Preservation.{hypotheses-short}
 use Rattle.memory.specs.Records.{field}
 use Rattle.sheet_format.proofs.Indexing.{at-left, at-right, at-map}
@@ -40,7 +40,7 @@ module _ (c : Setting) (q : ℕ) (w : List ℕ) where
     pub inside : j < membersOf (c .table) n
     pub older : f < q
     pub environment : Environment Symbol
-    pub frame : Frame (declared c) (c .text) w f environment (freeC (clauseAtNode (c .table) n))
+    pub frame : Frame (declared c) (folds c) w f environment (freeC (clauseAtNode (c .table) n))
     pub entry-is : getElem? (entries P) k ≡ Option·map (entry environment) (getElem? (members (clauseAtNode (c .table) n)) j)
 
   -- What is found at place k.
@@ -60,7 +60,7 @@ module _ (c : Setting) (filled : Filled c) (q : ℕ) (w : List ℕ) (some-line :
   in-first : (a : Hypothesis Symbol) (P : Program Symbol) (n f k : ℕ) → n < c .nodes → IsClause (c .table) n
       → a .clause ≡ clauseAtNode (c .table) n
       → FormedClause (clauseAtNode (c .table) n) (declared c) → f < q
-      → Frame (declared c) (c .text) w f (a .environment) (freeC (clauseAtNode (c .table) n)) → k < membersOf (c .table) n
+      → Frame (declared c) (folds c) w f (a .environment) (freeC (clauseAtNode (c .table) n)) → k < membersOf (c .table) n
       → EntryIs c q w (a ∷ P) k n f k
   unfolding entries
   in-first a P n f k l i e o y g u =

@@ -8,6 +8,7 @@ use Rattle.formulas.specs.Formulas.{variableNames, freeG, freeC, freeFrom}
 use Rattle.sequents.specs.Symbols.{Symbol}
 use Rattle.sequents.specs.Sequents.{Environment, Hypothesis, Program, Sequent}
 use Rattle.sequents.specs.Derivations.{sheetProgram}
+use Rattle.sheet_format.specs.Bytes.{foldedName}
 use Rattle.sheet_format.specs.Nodes.{Declaration}
 use Rattle.sheet_format.specs.Sheets.{Sheet}
 use Rattle.sheet_format.proofs.Names.{Names}
@@ -32,13 +33,17 @@ pub record Setting : Type 0 where
   pub goal : ℕ
   pub text : List ℕ
 
--- The symbols that the table declares.
-abbrev pub declared : Setting → List Declaration
-declared c = declarationsFrom (c .bytes) (c .table) (c .symbols) 0
+-- The text with all letters folded. Terms are looked at in it, for their names may stand in either case (request W-201).
+abbrev pub folds : Setting → List ℕ
+folds c = foldedName (c .text)
 
--- The sheet that the table holds.
+-- The symbols that the table declares, with folded names.
+abbrev pub declared : Setting → List Declaration
+declared c = declarationsFrom (foldedName (c .bytes)) (c .table) (c .symbols) 0
+
+-- The sheet that the table holds, with folded names.
 unfoldable pub sheetOf : Setting → Sheet
-sheetOf c = decodeSheet (c .bytes) (c .table) (c .symbols) (c .clauses) (c .goal)
+sheetOf c = decodeSheet (foldedName (c .bytes)) (c .table) (c .symbols) (c .clauses) (c .goal)
 
 -- Its clauses, as a program.
 abbrev pub programOf : Setting → Environment Symbol → Program Symbol
@@ -63,7 +68,7 @@ module _ (c : Setting) where
     pub clause : a .clause ≡ clauseAtNode (c .table) (field w r fields.hypothesisNode)
     pub formed : FormedClause (clauseAtNode (c .table) (field w r fields.hypothesisNode)) (declared c)
     pub older : field w r fields.hypothesisFrame < k
-    pub frame : Frame (declared c) (c .text) w (field w r fields.hypothesisFrame) (a .environment)
+    pub frame : Frame (declared c) (folds c) w (field w r fields.hypothesisFrame) (a .environment)
         (freeC (clauseAtNode (c .table) (field w r fields.hypothesisNode)))
 
   -- The hypotheses from the pointer h on, the later ones in records further down.
@@ -85,7 +90,7 @@ module _ (c : Setting) where
     pub goal : g .goal ≡ goalAt (c .table) n
     pub formed : FormedGoal (goalAt (c .table) n) (declared c)
     pub older : f < k
-    pub frame : Frame (declared c) (c .text) w f (g .environment) (freeG (goalAt (c .table) n))
+    pub frame : Frame (declared c) (folds c) w f (g .environment) (freeG (goalAt (c .table) n))
     pub program : ProgramAt k w h (g .program)
     pub level : g .level ≡ i
 
@@ -103,7 +108,7 @@ module _ (c : Setting) where
     pub small : v < variableNames
     pub later : (n : ℕ) → v + suc n ≡ variableNames → vs ≡ freeFrom n (suc v) (goalAt (c .table) (c .goal))
     pub older : r .frame < k
-    pub frame : Frame (declared c) (c .text) w (r .frame) e (λ u. freeG (goalAt (c .table) (c .goal)) u && ltb u v)
+    pub frame : Frame (declared c) (folds c) w (r .frame) e (λ u. freeG (goalAt (c .table) (c .goal)) u && ltb u v)
 
   -- A stage after k lines.
   unfoldable pub Holds : ℕ → List ℕ → Registers → Stage → Type 0

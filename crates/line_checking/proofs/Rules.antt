@@ -10,13 +10,14 @@ use lib.Dec.{eqb, leb}
 use lib.ListN.{length, drop, length-append}
 use borrow.Author.Tests.{eqb-true, eq-eqb, ne-eqb}
 use Rattle.terms.specs.Lists.{update}
+use Rattle.terms.proofs.Lists.{length-map}
 use Rattle.terms.specs.Terms.{leaf, app, count, levelBy}
 use Rattle.formulas.specs.Formulas.{Goal, truth, and, or, implies, exists, forall, Clause, freeG, freeC}
 use Rattle.formulas.proofs.Free.{or-left, or-right}
 use Rattle.sequents.specs.Symbols.{Symbol, made, leftover, symbolLevel, Ground, level}
 use Rattle.sequents.specs.Sequents.{Environment, hypothesis, Program, Sequent, sequent, Dtrue, Dand, Dleft, Dright, Dassume, Line, plain}
 use Rattle.sequents.specs.Sequents.{Dsome, Dall, Dclause}
-use Rattle.sheet_format.specs.Bytes.{ascii, lf, isName}
+use Rattle.sheet_format.specs.Bytes.{ascii, lf, isName, isLetter, isSmall, isCapital, folded}
 use Rattle.sheet_format.specs.Nodes.{Declaration}
 use Rattle.sheet_format.proofs.Bytes.{letter-bounds, name-nonempty, name-letter}
 use Rattle.sheet_format.proofs.Formed.{FormedGoal}
@@ -32,12 +33,14 @@ use Rattle.text_judging.specs.Judging.{infer, isPlain, sameWord, wordNumber, in
 use Rattle.text_judging.proofs.Reading.{lineBytes}
 use Rattle.answer_texts.proofs.Declared.{marked, has-arity, name-of}
 use Rattle.scanning.specs.Fields as fields
-use Rattle.scanning.proofs.Positions.{byte-is, drop-past, within}
+use Rattle.scanning.proofs.Positions.{byte-is, within}
 use Rattle.scanning.specs.declared.Scan.{Scan}
 use Rattle.scanning.specs.declared.Scan.the-variants.{Term as Scanned, Malformed}
 use Rattle.scanning.specs.Scanning.{scanSymbol, scanTerm}
 use Rattle.scanning.specs.Frames.{bindFrame}
 use Rattle.scanning.proofs.TermsInText.{SpelledAt, spelling-injective}
+use Rattle.answer_texts.specs.Capitals.{smallFrom}
+use Rattle.scanning.proofs.Folding.{byte-test}
 use Rattle.scanning.proofs.InstanceSpelling.{Frame, frame-fewer}
 use Rattle.scanning.proofs.Records.{Room, Kept, kept-self, puts-kept, bind-kept}
 use Rattle.scanning.proofs.Frames.{frame-kept, frame-bind}
@@ -47,10 +50,11 @@ use Rattle.line_checking.specs.Bindings.{beginsWith, isLine}
 use Rattle.line_checking.specs.Rules.{withChild, trueLine, andLine, orLine, assumeLine, bindGoal, someWith, someTerm, someLine}
 use Rattle.line_checking.specs.Rules.{allWith, allConstant, allLine}
 use Rattle.line_checking.proofs.Lines.{isWord, wordByte, bytes-some, bytes-all}
-use Rattle.line_checking.proofs.Representation.{Setting, declared, Filled, names-of, HypothesisAt, HypothesesAt, ProgramAt}
+use Rattle.line_checking.proofs.Representation.{Setting, folds, declared, Filled, names-of, HypothesisAt, HypothesesAt, ProgramAt}
 use Rattle.line_checking.proofs.Representation.{SequentAt, SequentsAt, Holds}
 use Rattle.line_checking.proofs.Preservation.{program-on, hypotheses-keep, sequents-on}
-use Rattle.line_checking.proofs.Results.{Result, either-side, word-there, word-absent, line-there, line-absent}
+use Rattle.line_checking.proofs.Results.{Result, either-side}
+use Rattle.line_checking.proofs.FoldedLines.{LineAt, isExact, part-there, word-folded, word-missing, line-folded, line-missing}
 use Rattle.line_checking.proofs.Terms.{scanAt, TermCase, is-term, no-term, term-case}
 use Rattle.line_checking.proofs.Derivations.{proceed-holds, proceed-stage, proceed-made, proceed-leftover, inferred, wrong-line}
 use Rattle.line_checking.proofs.Derivations.{right-line}
@@ -61,7 +65,7 @@ module _ (c : Setting) (filled : Filled c) (q : ℕ) (w : List ℕ) (room : Room
     (gs : List (Sequent Symbol))
     (at : SequentAt c q w (r .node) (r .frame) (r .hypotheses) (r .level) g) (others : SequentsAt c q w (r .rest) gs) (l rest : List ℕ)
     (i e : ℕ)
-    (here : drop i (c .text) ≡ l ++ (lf ∷ rest)) (end : e ≡ i + length l) where
+    (here : LineAt (c .text) i l rest) (end : e ≡ i + length l) where
   -- This is the table.
   abbrev t : List ℕ
   t = c .table
@@ -89,7 +93,7 @@ module _ (c : Setting) (filled : Filled c) (q : ℕ) (w : List ℕ) (room : Room
   -- A part of the goal makes a sequent after the line.
   part : (w′ : List ℕ) (m f h i : ℕ) (d : Environment Symbol) (P : Program Symbol) (lv : ℕ) → m < n → IsGoal t m
       → FormedGoal (goalAt t m) ds → f < suc q
-      → Frame ds (c .text) w′ f d (freeG (goalAt t m)) → ProgramAt c (suc q) w′ h P → lv ≡ i
+      → Frame ds (folds c) w′ f d (freeG (goalAt t m)) → ProgramAt c (suc q) w′ h P → lv ≡ i
       → SequentAt c (suc q) w′ m f h i (sequent (goalAt t m) d P lv)
   part w′ m f h i d P lv a b k o y p z =
       let u = at .node in
@@ -102,17 +106,17 @@ module _ (c : Setting) (filled : Filled c) (q : ℕ) (w : List ℕ) (room : Room
   same-frame w′ kept m f a b k =
       let o = at .older in
       part w′ m (r .frame) (r .hypotheses) (r .level) (g .environment) (g .program) (g .level) a b k (omega arith)
-      (frame-kept ds (c .text) q (r .frame) w w′ (g .environment) (freeG (goalAt t m)) kept (λ z. omega arith)
-      (frame-fewer ds (c .text) w (r .frame) (g .environment) (freeG (goalAt t n)) (freeG (goalAt t m)) f (at .frame)))
+      (frame-kept ds (folds c) q (r .frame) w w′ (g .environment) (freeG (goalAt t m)) kept (λ z. omega arith)
+      (frame-fewer ds (folds c) w (r .frame) (g .environment) (freeG (goalAt t n)) (freeG (goalAt t m)) f (at .frame)))
       (program-on c q w w′ kept (r .hypotheses) (g .program) (at .program)) (at .level)
 
   -- "Y: nothing"
   pub true-result : kindOf t n ≡ trueKind → R (trueLine (c .text) w r i e)
-  unfolding trueLine infer isPlain sameWord wordNumber inferSome WritableLine textFields lineFields spellWord join ascii isWord wordByte
+  unfolding trueLine infer isPlain sameWord wordNumber inferSome WritableLine textFields lineFields spellWord join ascii isWord wordByte isExact smallFrom isLetter isSmall isCapital
   true-result k =
       either-side R (isLine (ascii "D\ttrue") (c .text) i e) (left w (nextSequent w r)) (broken w r)
       (λ b. right-line c q l g gs truth goal r (left w (nextSequent w r)) (plain Dtrue) []
-      (line-there (ascii "D\ttrue") (c .text) i e l rest refl here end b) tt refl
+      (line-folded (c .text) i l rest here (ascii "D\ttrue") e refl refl end b) tt refl
       (proceed-holds c (suc q) w r gs (sequents-on c q w w (kept-self q w) (r .rest) gs others)) (proceed-stage w r) (proceed-made w r)
       (proceed-leftover w r))
       (λ b. wrong-line c q l g gs truth goal w r r (unfit b))
@@ -122,7 +126,7 @@ module _ (c : Setting) (filled : Filled c) (q : ℕ) (w : List ℕ) (room : Room
 
       unfit : isLine (ascii "D\ttrue") (c .text) i e ≡ false → (d : Line Symbol) → l ≡ lineBytes ds (derivationLine d) → WritableLine ds d
           → inferred c q l g gs truth goal d ≡ none
-      unfit b (plain Dtrue) p y = absurd (line-absent (ascii "D\ttrue") (c .text) i e l rest refl here end b p)
+      unfit b (plain Dtrue) p y = absurd (line-missing (c .text) i l rest here (ascii "D\ttrue") e refl refl end b p)
       unfit b (plain Dand) p y = refl
       unfit b (plain Dleft) p y = refl
       unfit b (plain Dright) p y = refl
@@ -134,11 +138,11 @@ module _ (c : Setting) (filled : Filled c) (q : ℕ) (w : List ℕ) (room : Room
   -- "&: left, then right"
   pub and-result : kindOf t n ≡ andKind → R (andLine t (c .text) w r q i e)
   unfolding andLine putSequent puts withSequent infer isPlain sameWord wordNumber WritableLine textFields lineFields spellWord join ascii
-      isWord wordByte Holds SequentsAt FormedGoal freeG
+      isWord wordByte isExact smallFrom isLetter isSmall isCapital Holds SequentsAt FormedGoal freeG
   and-result k =
       either-side R (isLine (ascii "D\tand") (c .text) i e) _ (broken w r)
       (λ b. right-line c q l g gs G goal r (left w′ regs) (plain Dand) _
-      (line-there (ascii "D\tand") (c .text) i e l rest refl here end b) tt refl holds (λ z. omega arith) refl refl)
+      (line-folded (c .text) i l rest here (ascii "D\tand") e refl refl end b) tt refl holds (λ z. omega arith) refl refl)
       (λ b. wrong-line c q l g gs G goal w r r (unfit b))
     where
       G : Goal
@@ -213,7 +217,7 @@ module _ (c : Setting) (filled : Filled c) (q : ℕ) (w : List ℕ) (room : Room
       unfit : isLine (ascii "D\tand") (c .text) i e ≡ false → (d : Line Symbol) → l ≡ lineBytes ds (derivationLine d) → WritableLine ds d
           → inferred c q l g gs G goal d ≡ none
       unfit b (plain Dtrue) p y = refl
-      unfit b (plain Dand) p y = absurd (line-absent (ascii "D\tand") (c .text) i e l rest refl here end b p)
+      unfit b (plain Dand) p y = absurd (line-missing (c .text) i l rest here (ascii "D\tand") e refl refl end b p)
       unfit b (plain Dleft) p y = refl
       unfit b (plain Dright) p y = refl
       unfit b (plain Dassume) p y = refl
@@ -224,15 +228,15 @@ module _ (c : Setting) (filled : Filled c) (q : ℕ) (w : List ℕ) (room : Room
   -- "| either side"
   pub or-result : kindOf t n ≡ orKind → R (orLine t (c .text) w r i e)
   unfolding orLine withChild withSequent infer isPlain sameWord wordNumber WritableLine textFields lineFields spellWord join ascii isWord
-      wordByte Holds FormedGoal freeG
+      wordByte isExact smallFrom isLetter isSmall isCapital Holds FormedGoal freeG
   or-result k =
       either-side R (isLine (ascii "D\tleft") (c .text) i e) (left w (withChild t r 0)) _
       (λ b. right-line c q l g gs G goal r (left w (withChild t r 0)) (plain Dleft) _
-      (line-there (ascii "D\tleft") (c .text) i e l rest refl here end b) tt refl
+      (line-folded (c .text) i l rest here (ascii "D\tleft") e refl refl end b) tt refl
       (refl, one, after) (λ z. omega arith) refl refl)
       (λ b. either-side R (isLine (ascii "D\tright") (c .text) i e) (left w (withChild t r 1)) (broken w r)
       (λ a. right-line c q l g gs G goal r (left w (withChild t r 1)) (plain Dright) _
-      (line-there (ascii "D\tright") (c .text) i e l rest refl here end a) tt refl
+      (line-folded (c .text) i l rest here (ascii "D\tright") e refl refl end a) tt refl
       (refl, two, after) (λ z. omega arith) refl refl)
       (λ a. wrong-line c q l g gs G goal w r r (unfit b a)))
     where
@@ -274,8 +278,8 @@ module _ (c : Setting) (filled : Filled c) (q : ℕ) (w : List ℕ) (room : Room
           → inferred c q l g gs G goal d ≡ none
       unfit b a (plain Dtrue) p y = refl
       unfit b a (plain Dand) p y = refl
-      unfit b a (plain Dleft) p y = absurd (line-absent (ascii "D\tleft") (c .text) i e l rest refl here end b p)
-      unfit b a (plain Dright) p y = absurd (line-absent (ascii "D\tright") (c .text) i e l rest refl here end a p)
+      unfit b a (plain Dleft) p y = absurd (line-missing (c .text) i l rest here (ascii "D\tleft") e refl refl end b p)
+      unfit b a (plain Dright) p y = absurd (line-missing (c .text) i l rest here (ascii "D\tright") e refl refl end a p)
       unfit b a (plain Dassume) p y = refl
       unfit b a (Dsome u) p y = refl
       unfit b a (Dall u) p y = refl
@@ -284,11 +288,11 @@ module _ (c : Setting) (filled : Filled c) (q : ℕ) (w : List ℕ) (room : Room
   -- ">: the clause is assumed"
   pub assume-result : kindOf t n ≡ impliesKind → R (assumeLine t (c .text) w r q i e)
   unfolding assumeLine putHypothesis puts withSequent infer isPlain sameWord wordNumber WritableLine textFields lineFields spellWord join
-      ascii isWord wordByte Holds HypothesesAt FormedGoal freeG
+      ascii isWord wordByte isExact smallFrom isLetter isSmall isCapital Holds HypothesesAt FormedGoal freeG
   assume-result k =
       either-side R (isLine (ascii "D\tassume") (c .text) i e) _ (broken w r)
       (λ b. right-line c q l g gs G goal r (left w′ regs) (plain Dassume) _
-      (line-there (ascii "D\tassume") (c .text) i e l rest refl here end b) tt refl holds (λ z. omega arith) refl refl)
+      (line-folded (c .text) i l rest here (ascii "D\tassume") e refl refl end b) tt refl holds (λ z. omega arith) refl refl)
       (λ b. wrong-line c q l g gs G goal w r r (unfit b))
     where
       C : Clause
@@ -322,11 +326,11 @@ module _ (c : Setting) (filled : Filled c) (q : ℕ) (w : List ℕ) (room : Room
       formed = subst (λ (y : Goal). FormedGoal y ds) tree (at .formed)
 
       -- The frame is kept in the new memory, for fewer names.
-      frame : (p : ℕ → Bool) → ((v : ℕ) → p v ≡ true → freeG G v ≡ true) → Frame ds (c .text) w′ (r .frame) (g .environment) p
+      frame : (p : ℕ → Bool) → ((v : ℕ) → p v ≡ true → freeG G v ≡ true) → Frame ds (folds c) w′ (r .frame) (g .environment) p
       frame p f =
           let o = at .older in
-          frame-kept ds (c .text) q (r .frame) w w′ (g .environment) p kept (λ z. omega arith)
-          (frame-fewer ds (c .text) w (r .frame) (g .environment) (freeG (goalAt t n)) p
+          frame-kept ds (folds c) q (r .frame) w w′ (g .environment) p kept (λ z. omega arith)
+          (frame-fewer ds (folds c) w (r .frame) (g .environment) (freeG (goalAt t n)) p
           (λ v b. subst (λ (y : Goal). freeG y v ≡ true) (sym tree) (f v b)) (at .frame))
 
       assumed : HypothesisAt c (suc q) w′ q (hypothesis C (g .environment))
@@ -384,7 +388,7 @@ module _ (c : Setting) (filled : Filled c) (q : ℕ) (w : List ℕ) (room : Room
       unfit b (plain Dand) p y = refl
       unfit b (plain Dleft) p y = refl
       unfit b (plain Dright) p y = refl
-      unfit b (plain Dassume) p y = absurd (line-absent (ascii "D\tassume") (c .text) i e l rest refl here end b p)
+      unfit b (plain Dassume) p y = absurd (line-missing (c .text) i l rest here (ascii "D\tassume") e refl refl end b p)
       unfit b (Dsome u) p y = refl
       unfit b (Dall u) p y = refl
       unfit b (Dclause j us) p y = refl
@@ -392,7 +396,7 @@ module _ (c : Setting) (filled : Filled c) (q : ℕ) (w : List ℕ) (room : Room
   -- The body of a quantified goal is due, its variable v standing for a term of the text.
   body : (B : Goal) (v : ℕ) → v ≡ labelOf t n → B ≡ goalAt t (childOf t n 0) → v < variableNames → childOf t n 0 < n
       → IsGoal t (childOf t n 0) → FormedGoal B ds
-      → ((z : ℕ) → freeG (goalAt t n) z ≡ (not (eqb v z) && freeG B z)) → (s j : ℕ) (u : Ground) → SpelledAt ds (c .text) s j u
+      → ((z : ℕ) → freeG (goalAt t n) z ≡ (not (eqb v z) && freeG B z)) → (s j : ℕ) (u : Ground) → SpelledAt ds (folds c) s j u
       → (lv k : ℕ) → lv ≡ k
       → Holds c (suc q) (bindGoal t w r q s j k .memory) (bindGoal t w r q s j k .registers)
       (sequents ((sequent B (update (g .environment) v u) (g .program) lv ∷ []) ++ gs))
@@ -417,22 +421,22 @@ module _ (c : Setting) (filled : Filled c) (q : ℕ) (w : List ℕ) (room : Room
           let o = ne-eqb v z (λ y. d (sym y)) in
           free z ∙ ap₂ (λ (x y : Bool). not x && y) o (ap (λ (y : Goal). freeG y z) b ∙ f)
 
-      frame : Frame ds (c .text) w′ q (update (g .environment) v u) (freeG (goalAt t (childOf t n 0)))
+      frame : Frame ds (folds c) w′ q (update (g .environment) v u) (freeG (goalAt t (childOf t n 0)))
       frame =
           let o = at .older in
-          subst (λ (y : ℕ). Frame ds (c .text) (bindFrame w q (r .frame) y s j) q (update (g .environment) v u)
+          subst (λ (y : ℕ). Frame ds (folds c) (bindFrame w q (r .frame) y s j) q (update (g .environment) v u)
           (freeG (goalAt t (childOf t n 0)))) a
-          (frame-bind ds (c .text) q (r .frame) v s j u w (g .environment) (freeG (goalAt t n)) (freeG (goalAt t (childOf t n 0))) room
+          (frame-bind ds (folds c) q (r .frame) v s j u w (g .environment) (freeG (goalAt t n)) (freeG (goalAt t (childOf t n 0))) room
           (λ z. omega arith) small p still (at .frame))
 
   -- "E given any term whose symbols have level at most I"
   pub some-result : kindOf t n ≡ existsKind → R (someLine (c .bytes) t (c .symbols) (c .text) w r q i e)
-  unfolding someLine someTerm someWith infer inferSome WritableLine ascii isWord wordByte FormedGoal freeG bindGoal withSequent
+  unfolding someLine someTerm someWith infer inferSome WritableLine ascii isWord wordByte isExact smallFrom isLetter isSmall isCapital FormedGoal freeG bindGoal withSequent
   some-result k =
       either-side R (beginsWith word (c .text) i) (someTerm (c .bytes) t (c .symbols) (c .text) w r q (i + 7) e) (broken w r)
-      (λ b. let s = word-there word (c .text) i l rest refl here b in term (s .0) (s .1) (s .2))
+      (λ b. let s = word-folded (c .text) i l rest here word refl (λ m. refl) b in term (s .0) (s .1) (s .2))
       (λ b. wrong-line c q l g gs G goal w r r
-      (only (λ u p y. absurd (word-absent word (c .text) i l rest (spellTerm u ds) refl here b p))))
+      (only (λ u p y. absurd (word-missing (c .text) i l rest here word (spellTerm u ds) refl refl b p))))
     where
       word : List ℕ
       word = ascii "D\tsome\t"
@@ -463,7 +467,7 @@ module _ (c : Setting) (filled : Filled c) (q : ℕ) (w : List ℕ) (room : Room
       only h (Dall u) p y = refl
       only h (Dclause j us) p y = refl
 
-      term : (m : List ℕ) → l ≡ word ++ m → drop (i + 7) (c .text) ≡ m ++ (lf ∷ rest)
+      term : (m : List ℕ) → l ≡ word ++ m → drop (i + 7) (folds c) ≡ m ++ (lf ∷ rest)
           → R (someTerm (c .bytes) t (c .symbols) (c .text) w r q (i + 7) e)
       term m p y =
           go (term-case c (names-of c filled) (i + 7) e m rest y (let z = ap length p ∙ length-append word m in let o = end in omega arith))
@@ -499,13 +503,13 @@ module _ (c : Setting) (filled : Filled c) (q : ℕ) (w : List ℕ) (room : Room
 
   -- "U any made constant of level I + 1"
   pub all-result : kindOf t n ≡ forallKind → R (allLine t (c .text) w r q i e)
-  unfolding allLine allConstant allWith infer inferAll inferConstant WritableLine WritableTerm ascii isWord wordByte FormedGoal freeG
+  unfolding allLine allConstant allWith infer inferAll inferConstant WritableLine WritableTerm ascii isWord wordByte isExact smallFrom folded isLetter isSmall isCapital FormedGoal freeG
       bindGoal withSequent spellTerm spellSymbol level symbolLevel levelBy scanTerm
   all-result k =
       either-side R (beginsWith word (c .text) i) (allConstant t (c .text) w r q (i + 6) e) (broken w r)
-      (λ b. let s = word-there word (c .text) i l rest refl here b in
-      constant (s .0) (s .1) (drop-past (c .text) i (ascii "D\tall\t") (33 ∷ (s .0 ++ (lf ∷ rest))) (here ∙ ap (_++ (lf ∷ rest)) (s .1))))
-      (λ b. wrong-line c q l g gs G goal w r r (only (λ a j p y. absurd (word-absent word (c .text) i l rest (marked a j) refl here b p))))
+      (λ b. let s = word-folded (c .text) i l rest here word refl (λ m. refl) b in
+      constant (s .0) (s .1) (part-there (c .text) i l rest here (ascii "D\tall\t") (33 ∷ s .0) refl (λ m. refl) (s .1)))
+      (λ b. wrong-line c q l g gs G goal w r r (only (λ a j p y. absurd (word-missing (c .text) i l rest here word (marked a j) refl refl b p))))
     where
       word : List ℕ
       word = ascii "D\tall\t!"
@@ -539,7 +543,7 @@ module _ (c : Setting) (filled : Filled c) (q : ℕ) (w : List ℕ) (room : Room
       only h (Dall (app f us)) p y = refl
       only h (Dclause j us) p y = refl
 
-      constant : (m : List ℕ) → l ≡ ascii "D\tall\t" ++ (33 ∷ m) → drop (i + 6) (c .text) ≡ (33 ∷ m) ++ (lf ∷ rest)
+      constant : (m : List ℕ) → l ≡ ascii "D\tall\t" ++ (33 ∷ m) → drop (i + 6) (folds c) ≡ (33 ∷ m) ++ (lf ∷ rest)
           → R (allConstant t (c .text) w r q (i + 6) e)
       constant m p y = go (term-case c (names-of c filled) (i + 6) e (33 ∷ m) rest y (let z = ap length p in let o = end in omega arith))
         where
@@ -557,8 +561,13 @@ module _ (c : Setting) (filled : Filled c) (q : ℕ) (w : List ℕ) (room : Room
             where
               first : (f : ℕ) → length (c .text) ≡ f
                   → scanTerm f (c .bytes) t (c .symbols) (c .text) (i + 6) ≡ scanSymbol (c .text) (i + 6 + 1)
-              first zero z = let o = within (c .text) (i + 6) 33 (m ++ (lf ∷ rest)) y in absurd (omega arith)
-              first (suc f) z = rw (scanTerm, byte-is (c .text) (i + 6) 33 (m ++ (lf ∷ rest)) y)
+              first zero z = let o = within (folds c) (i + 6) 33 (m ++ (lf ∷ rest)) y in let f = length-map folded (c .text) in absurd (omega arith)
+              first (suc f) z =
+                  rw (
+                    scanTerm,
+                    sym (byte-test (c .text) 33 (i + 6) refl)
+                        ∙ ap (λ (b : ℕ). eqb b 33) (byte-is (folds c) (i + 6) 33 (m ++ (lf ∷ rest)) y),
+                  )
 
           uneven : (a j b : ℕ) → eqb b (r .level + 1) ≡ false → j ≡ b → inferred c q l g gs G goal (Dall (leaf (made a j))) ≡ none
           uneven a j b h z =
@@ -567,7 +576,7 @@ module _ (c : Setting) (filled : Filled c) (q : ℕ) (w : List ℕ) (room : Room
               none) (ap₂ eqb z o ∙ h)
 
           -- A term that begins with `!` is a made constant, and its level decides whether the line is right.
-          fits : (u : Ground) → 33 ∷ m ≡ spellTerm u ds → SpelledAt ds (c .text) (i + 6) e u
+          fits : (u : Ground) → 33 ∷ m ≡ spellTerm u ds → SpelledAt ds (folds c) (i + 6) e u
               → R (cond (eqb (level u) (r .level + 1)) (bindGoal t w r q (i + 6) e (level u)) (broken w r))
           fits (leaf (made a j)) o s =
               either-side R (eqb j (r .level + 1)) (bindGoal t w r q (i + 6) e j) (broken w r)

@@ -2,16 +2,16 @@
 use Prim.Native.Nat.{ℕ, zero, suc, _+_, _-_, _*_, _<_, _≤_}
 use native.Mathlib.Omega.{arith}
 use native.Mathlib.Numerals.{add-one}
-use mathlib.Core.Path.{_≡_, refl, sym, ap, _∙_, subst}
+use mathlib.Core.Path.{_≡_, refl, sym, ap, _∙_, subst, ap₂}
 use mathlib.Core.Bool.{Bool, cond}
-use mathlib.Core.List.{List, [], _∷_, _++_, append-assoc}
+use mathlib.Core.List.{List, [], _∷_, _++_, append-assoc, map}
 use mathlib.Core.Option.{Option, none, some}
 use lib.Dec.{eqb}
 use lib.ListN.{length, drop, length-append}
 use lib.Seq.{drop-drop}
 use borrow.Author.Tests.{eq-eqb, ne-eqb, lt-ltb, le-ltb}
 use Rattle.terms.specs.Lists.{All}
-use Rattle.sheet_format.specs.Bytes.{lf, SplitLines, linesOf}
+use Rattle.sheet_format.specs.Bytes.{lf, SplitLines, linesOf, foldedName}
 use Rattle.sheet_format.specs.Sheets.{Sheet}
 use Rattle.sheet_format.proofs.Bytes.{Without}
 use Rattle.sheet_format.proofs.Good.{Good, good}
@@ -19,7 +19,9 @@ use Rattle.sheet_format.specs.Limits.{numbersPerUnit}
 use Rattle.answer_texts.specs.Spelled.{Stage, opening, bindings, sequents, unlines}
 use Rattle.text_judging.specs.Judging.{showSymbols, Progress, judgeLine as judgeBytes, judgeEnd}
 use Rattle.answer_texts.specs.Judgements.{Judgement, invalid}
-use Rattle.text_judging.specs.Judging.{judgeFrom as judgeLines, judge}
+use Rattle.text_judging.specs.Judging.{judgeFrom as judgeLines, judgeExactly, judge}
+use Rattle.text_judging.proofs.SmallLines.{smallLine, lines-small}
+use Rattle.answer_texts.specs.Capitals.{smallSheet}
 use Rattle.answer_texts.proofs.Splitting.{linesOf-split}
 use Rattle.text_judging.proofs.Showings.{unseen}
 use Rattle.scanning.specs.Ranges.{textLineEnd}
@@ -27,11 +29,14 @@ use Rattle.scanning.proofs.Positions.{drop-length, drop-next, drop-past}
 use Rattle.scanning.proofs.Ranges.{line-end, line-open}
 use Rattle.scanning.proofs.Records.{Kept}
 use Rattle.scanning.proofs.SymbolsInText.{startsIn}
+use Rattle.node_table.specs.Decoding.{decodeSheet}
 use Rattle.line_checking.specs.declared.Registers.{Registers}
 use Rattle.line_checking.specs.Sequents.{Made, start, brokenStage, doneStage}
 use Rattle.line_checking.specs.Judging.{judgeLine, Judged, judged, endVerdict, judgeFrom, judgeText}
 use Rattle.line_checking.specs.Simulation.{judgementOf, lineFeeds, Simulates}
 use Rattle.line_checking.proofs.Representation.{Setting, sheetOf, Filled, Holds}
+use Rattle.line_checking.proofs.FoldedLines.{LineAt, small-length}
+use Rattle.line_checking.proofs.FoldedSheets.{decode-small, good-small}
 use Rattle.line_checking.proofs.Judging.{State, Judges as JudgesLine, line-judged, line-kept}
 
 -- numbers that stay
@@ -89,7 +94,7 @@ module _ (c : Setting) (filled : Filled c) where
   lines-judged : (ls : List (List ℕ)) (rest : List ℕ) (n q i : ℕ) (w : List ℕ) (r : Registers) (p : Progress) → length ls < n
       → drop i (c .text) ≡ unlines ls ++ rest → All (Without lf) ls
       → Without lf rest → numbersPerUnit * (q + length ls) ≤ length w → State c q i w r p
-      → Goes c (q + length ls) w (run n w r q i) (judgeLines (sheetOf c) ls rest (suc q) p)
+      → Goes c (q + length ls) w (run n w r q i) (judgeLines (sheetOf c) (map smallLine ls) (smallLine rest) (suc q) p)
   unfolding judgeFrom judgeLines unlines judgementOf
   lines-judged ls rest zero q i w r p l d a b room s = absurd (omega arith)
   lines-judged [] rest (suc n) q i w r p l d a b room s =
@@ -98,14 +103,15 @@ module _ (c : Setting) (filled : Filled c) where
       let f = s .inside in
       let z : i + length rest ≡ length (c .text) = omega arith in
       rw (le-ltb (textLineEnd (c .text) i) (length (c .text)) (omega arith))
-      (record { verdict = ends c q i w r rest (p .stage) z (s .holds); same-length = refl; same-rest = refl })
+      (record { verdict = ends c q i w r (smallLine rest) (p .stage) (ap (i +_) (small-length 0 rest) ∙ z) (s .holds); same-length = refl; same-rest = refl })
   lines-judged (x ∷ ls) rest (suc n) q i w r p l d a b room s =
       let y = line-end x (unlines ls ++ rest) (c .text) i here (a .0) in
       let k = drop-length (c .text) i (x ++ (lf ∷ (unlines ls ++ rest))) here in
       let f = length-append x (lf ∷ (unlines ls ++ rest)) in
       rw (lt-ltb e (length (c .text)) (omega arith))
-      (step m (line-kept c filled q w (omega arith) r p x (unlines ls ++ rest) i e here y s) (judgeBytes (sheetOf c) x p)
-      (line-judged c filled q w (omega arith) r p x (unlines ls ++ rest) i e here y s)
+      (step m (line-kept c filled q w (omega arith) r p (smallLine x) (foldedName (unlines ls ++ rest)) i e at-line end s)
+      (judgeBytes (sheetOf c) (smallLine x) p)
+      (line-judged c filled q w (omega arith) r p (smallLine x) (foldedName (unlines ls ++ rest)) i e at-line end s)
       (λ w′ r′ p′ o h. lines-judged ls rest n (suc q) (e + 1) w′ r′ p′ (omega arith) (after y) (a .1) b o h))
     where
       e : ℕ
@@ -117,6 +123,14 @@ module _ (c : Setting) (filled : Filled c) where
       here : drop i (c .text) ≡ x ++ (lf ∷ (unlines ls ++ rest))
       here = d ∙ append-assoc x (lf ∷ unlines ls) rest
 
+      -- The line with its names folded.
+      at-line : LineAt (c .text) i (smallLine x) (foldedName (unlines ls ++ rest))
+      at-line =
+          record { raw = x; after = unlines ls ++ rest; stands = here; whole = a .0; line-is = refl; rest-is = refl }
+
+      end : e ≡ i + length (smallLine x)
+      end = line-end x (unlines ls ++ rest) (c .text) i here (a .0) ∙ ap (i +_) (sym (small-length 0 x))
+
       after : e ≡ i + length x → drop (e + 1) (c .text) ≡ unlines ls ++ rest
       after y =
           ap (λ (z : ℕ). drop (z + 1) (c .text)) y
@@ -126,13 +140,13 @@ module _ (c : Setting) (filled : Filled c) where
       Later =
           (w′ : List ℕ) (r′ : Registers) (p′ : Progress) → numbersPerUnit * (suc q + length ls) ≤ length w′
           → State c (suc q) (e + 1) w′ r′ p′
-          → Goes c (suc q + length ls) w′ (run n w′ r′ (suc q) (e + 1)) (judgeLines (sheetOf c) ls rest (suc (suc q)) p′)
+          → Goes c (suc q + length ls) w′ (run n w′ r′ (suc q) (e + 1)) (judgeLines (sheetOf c) (map smallLine ls) (smallLine rest) (suc (suc q)) p′)
 
       -- After the line, whatever it left, the machine's verdict is the judgement.
       step : (m : Made) → Kept q w (m .memory) → (o : Option Progress) → JudgesLine c (suc q) (e + 1) m o → Later
           → Goes c (q + suc (length ls)) w
           (cond (eqb (m .registers .stage) brokenStage) (judged (m .memory) (q + 1)) (run n (m .memory) (m .registers) (q + 1) (e + 1)))
-          (elim o as (λ z. Judgement) [ none ↦ invalid (suc q) | some p′ ↦ judgeLines (sheetOf c) ls rest (suc (suc q)) p′ ])
+          (elim o as (λ z. Judgement) [ none ↦ invalid (suc q) | some p′ ↦ judgeLines (sheetOf c) (map smallLine ls) (smallLine rest) (suc (suc q)) p′ ])
       step m kept none h ih =
           subst (λ (z : Judged). Goes c (q + suc (length ls)) w z (invalid (suc q)))
           (sym (ap (λ (z : ℕ). cond (eqb z 4) (judged (m .memory) (q + 1)) (run n (m .memory) (m .registers) (q + 1) (e + 1))) h))
@@ -146,7 +160,7 @@ module _ (c : Setting) (filled : Filled c) where
           let u = kept .size in
           let v : suc q + length ls ≡ q + suc (length ls) = omega arith in
           let z = ih (m .memory) (m .registers) p′ (omega arith) (h .1) in
-          subst (λ (k : Judged). Goes c (q + suc (length ls)) w k (judgeLines (sheetOf c) ls rest (suc (suc q)) p′))
+          subst (λ (k : Judged). Goes c (q + suc (length ls)) w k (judgeLines (sheetOf c) (map smallLine ls) (smallLine rest) (suc (suc q)) p′))
           (sym (ap (λ (k : Bool). cond k (judged (m .memory) (q + 1)) (run n (m .memory) (m .registers) (q + 1) (e + 1)))
           (ne-eqb (m .registers .stage) brokenStage (h .0))
           ∙ ap (λ (k : ℕ). run n (m .memory) (m .registers) k (e + 1)) (add-one q)))
@@ -172,7 +186,7 @@ unlines-length (l ∷ ls) = let h = unlines-length ls in let k = length-append l
 
 -- The theorem.
 pub simulates : Simulates
-unfolding judge judgeText lineFeeds sheetOf
+unfolding judge judgeExactly judgeText lineFeeds sheetOf
 simulates bytes s h t symbols nodes clauses goal made decoded x w room =
     let split = linesOf-split x in
     let a = unlines-length (l .whole) in
@@ -182,7 +196,7 @@ simulates bytes s h t symbols nodes clauses goal made decoded x w room =
     let g = lines-judged c filled (l .whole) (l .rest) (length x + 1) 0 0 w start p (omega arith) (sym (split .joined)) (split .whole)
     (split .rest) (omega arith) first in
     record {
-      verdict = g .verdict ∙ ap (λ (y : Sheet). judgeLines y (l .whole) (l .rest) 1 p) decoded;
+      verdict = g .verdict ∙ ap₂ (λ (y : Sheet) (o : SplitLines). judgeLines y (o .whole) (o .rest) 1 p) small (sym (lines-small x));
       same-length = g .same-length;
       same-rest =
           subst (λ (k : ℕ). drop (numbersPerUnit * k) (judgeText bytes t symbols clauses goal x w .memory) ≡ drop (numbersPerUnit * k) w)
@@ -198,8 +212,12 @@ simulates bytes s h t symbols nodes clauses goal made decoded x w room =
     p : Progress
     p = record { stage = opening; seen = unseen }
 
+    -- The sheet of this setting has folded names.
+    small : decodeSheet (foldedName bytes) t symbols clauses goal ≡ smallSheet s
+    small = decode-small bytes t symbols clauses goal ∙ ap smallSheet decoded
+
     filled : Filled c
-    filled = record { wellMade = made; good = subst Good (sym decoded) (good bytes s h) }
+    filled = record { wellMade = made; good = subst Good (sym small) (good-small s (good bytes s h)) }
 
     first : State c 0 0 w start p
     first = opened c w

@@ -2,13 +2,12 @@
 use Prim.Native.Nat.{ℕ, _+_, _<_}
 use mathlib.Core.Path.{_≡_, refl, sym, ap, subst}
 use mathlib.Core.Bool.{cond}
-use mathlib.Core.List.{List, [], _∷_, _++_}
+use mathlib.Core.List.{List, [], _∷_}
 use mathlib.Core.Option.{none}
 use lib.Dec.{eqb}
-use lib.ListN.{length, drop}
+use lib.ListN.{length}
 use Rattle.sequents.specs.Symbols.{Symbol}
 use Rattle.sequents.specs.Sequents.{Sequent}
-use Rattle.sheet_format.specs.Bytes.{lf}
 use Rattle.node_table.specs.Layout.{kindOf}
 use Rattle.node_table.specs.WellMade.{GoalNode}
 use Rattle.node_table.proofs.Decoding.{nodes-of, GoalKind, atom-kind, true-kind, and-kind, or-kind, implies-kind, exists-kind, forall-kind}
@@ -24,6 +23,7 @@ use Rattle.line_checking.specs.Bindings.{checkResult, bindLine}
 use Rattle.line_checking.specs.Judging.{quantifierLine, connectiveLine, sequentLine, stageLine}
 use Rattle.line_checking.proofs.Representation.{Setting, declared, sheetOf, Filled, SequentAt, SequentsAt, Holds}
 use Rattle.line_checking.proofs.Results.{Result, is-wrong}
+use Rattle.line_checking.proofs.FoldedLines.{LineAt}
 use Rattle.line_checking.proofs.Bindings.{open-result, bind-result}
 use Rattle.line_checking.proofs.Rules.{true-result, and-result, or-result, assume-result, some-result, all-result}
 use Rattle.line_checking.proofs.Clauses.{clause-result}
@@ -31,7 +31,7 @@ use Rattle.line_checking.proofs.Writes.{open-kept, binding-kept, true-k
 use Rattle.line_checking.proofs.Writes.{clause-kept}
 
 module _ (c : Setting) (filled : Filled c) (q : ℕ) (w : List ℕ) (room : Room q w) (r : Registers) (l rest : List ℕ) (i e : ℕ)
-    (here : drop i (c .text) ≡ l ++ (lf ∷ rest))
+    (here : LineAt (c .text) i l rest)
     (end : e ≡ i + length l) where
   -- This is the table.
   abbrev t : List ℕ

@@ -1,12 +1,13 @@
 -- The first field of the rest of a line: where it ends, and what it says as a number and as a name.
 -- Document 01: "fields are parted by one tab"; numbers and names are those of `sheet_format`.
 use Prim.Native.Nat.{ℕ, suc}
-use mathlib.Core.Bool.{cond}
+use Prim.Native.Char.{code}
+use mathlib.Core.Bool.{Bool, _||_, cond}
 use mathlib.Core.List.{List, [], _∷_}
 use mathlib.Core.Option.{Option, none, some}
 use lib.Dec.{eqb}
 use lib.ListN.{take}
-use Rattle.sheet_format.specs.Bytes.{tab, number, isName}
+use Rattle.sheet_format.specs.Bytes.{tab, number, isCapital, isDigit, isName}
 use Rattle.line_parser.specs.declared.fields.Number.{Number}
 use Rattle.line_parser.specs.declared.fields.Number.the-variants.{Value, Bad}
 use Rattle.line_parser.specs.declared.names.Name.{Name}
@@ -29,6 +30,10 @@ numberAnswer n (some v) = Value v n
 -- The first field as a number, with its length.
 unfoldable pub firstNumber : List ℕ → Number
 firstNumber s = numberAnswer (fieldLen s) (number (firstField s))
+
+-- A name byte that is no small letter.
+unfoldable pub isOtherNameByte : ℕ → Bool
+isOtherNameByte c = isCapital c || isDigit c || eqb c (code "_")
 
 -- The first field if it is a name, and nothing otherwise.
 unfoldable pub firstName : List ℕ → List ℕ

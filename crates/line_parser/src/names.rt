@@ -1,17 +1,27 @@
-// A field as a name: a letter, then letters, digits and underscores, at most 16 bytes in all.
+// A field as a name: a letter, small or capital (request W-201), then letters, digits and underscores, at most 16 bytes in all.
 use super::fields::field_len;
 use sheet_format::limits;
 ghost use mathlib.Core.Path.{_≡_};
 ghost use lib.ListN.{length};
-ghost use Rattle.sheet_format.specs.Bytes.{isLetter, isNameByte, nameBytes, isName};
-ghost use Rattle.line_parser.specs.Fields.{firstName, nameAnswer};
+ghost use Rattle.sheet_format.specs.Bytes.{isCapital, isLetter, isNameByte, nameBytes, isName};
+ghost use Rattle.line_parser.specs.Fields.{isOtherNameByte, firstName, nameAnswer};
 
-// The byte is a letter, a to z.
+// The byte is a capital, A to Z.
+fn is_capital(b: u8) -> bool
+    ensures { λ r. ⌜ r ≡ isCapital b ⌝ }
+{
+    if b'Z' < b {
+        return false;
+    }
+    b'A' <= b
+}
+
+// The byte is a letter, a to z or A to Z. The small letters are tested first, because most letters of names are small.
 fn is_letter(b: u8) -> bool
     ensures { λ r. ⌜ r ≡ isLetter b ⌝ }
 {
     if b < b'a' {
-        return false;
+        return is_capital(b);
     }
     if b'z' < b {
         return false;
@@ -19,20 +29,33 @@ fn is_letter(b: u8) -> bool
     true
 }
 
-// The byte is one of a to z, 0 to 9 and `_`.
-pub fn is_name_byte(b: u8) -> bool
-    ensures { λ r. ⌜ r ≡ isNameByte b ⌝ }
+// The byte is one of A to Z, 0 to 9 and `_`: what may stand in a name and is no small letter.
+fn is_other_name_byte(b: u8) -> bool
+    ensures { λ r. ⌜ r ≡ isOtherNameByte b ⌝ }
 {
-    if is_letter(b) {
-        return true;
-    }
-    if b == b'_' {
-        return true;
-    }
     if b < b'0' {
         return false;
     }
-    if b'9' < b {
+    if b <= b'9' {
+        return true;
+    }
+    if b < b'A' {
+        return false;
+    }
+    if b <= b'Z' {
+        return true;
+    }
+    b == b'_'
+}
+
+// The byte is one of a to z, A to Z, 0 to 9 and `_`. Small letters take two tests, and bytes before the digits, which part names, two.
+pub fn is_name_byte(b: u8) -> bool
+    ensures { λ r. ⌜ r ≡ isNameByte b ⌝ }
+{
+    if b < b'a' {
+        return is_other_name_byte(b);
+    }
+    if b'z' < b {
         return false;
     }
     true
@@ -53,7 +76,7 @@ fn name_bytes(f: &[u8]) -> bool
     true
 }
 
-// Whether the field f is a name: 1 to 16 of a to z, 0 to 9 and `_`, a letter first.
+// Whether the field f is a name: 1 to 16 of a to z, A to Z, 0 to 9 and `_`, a letter first.
 fn is_name(f: &[u8]) -> bool
     ensures { λ r. ⌜ r ≡ isName (now (f .entry)) ⌝ }
 {

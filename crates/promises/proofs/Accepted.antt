@@ -11,6 +11,7 @@ use borrow.Author.Tests.{ltb-true, le-ltb}
 use Rattle.sheet_format.specs.Limits.{maxSheetBytes, tableNumbers, maxTextBytes}
 use Rattle.sheet_format.specs.Buffers.{demanded}
 use Rattle.sheet_format.specs.Sheets.{Refusal, refusal, turnBackIf}
+use Rattle.answer_texts.proofs.Capitals.{declared-spells}
 use Rattle.answer_texts.specs.Judgements.{valid}
 use Rattle.text_judging.specs.Judging.{judge}
 use Rattle.text_judging.specs.Promises.{CheckerExact}
@@ -31,7 +32,7 @@ unfolding checkText turnBackIf checkSheet
 accepts-written exact sound bytes budget t w a x e h t′ w′ =
     let r = answered-answers bytes budget t w a x e in
     let q = sound bytes budget t w a x e h in
-    let j : judge (q .0) (x .text) ≡ valid = exact bytes (q .0) (q .1) (x .text) .accepts .1 (q .2) in
+    let j : judge (q .0) (x .text) ≡ valid = exact bytes (q .0) (q .1) (x .text) .accepts .1 (declared-spells (q .0) (x .text) (q .2)) in
     rw (le-ltb maxSheetBytes (length bytes) (r .passed .sheetFits), le-ltb maxTextBytes (length (x .text)) (r .textFits), q .1, j)
     (table (ltb t′ tableNumbers) refl)
   where

@@ -10,12 +10,12 @@ use lib.Seq.{take-all, length-take-le}
 use borrow.Author.Tests.{leb-true, leb-false, lt-ltb}
 use Rattle.sheet_format.specs.Limits.{maxSheetBytes}
 use Rattle.sheet_format.specs.Sheets.{refusal, turnBackIf}
-use Rattle.engine_spec.specs.EngineRun.{turnedBack, engineRun}
+use Rattle.engine_spec.specs.EngineRun.{turnedBack, engineRun, engineRunBy}
 use Rattle.runner_output.specs.RunnerOutput.{printed, runnerOutput}
 use Rattle.runner_output.specs.Promises.{FrontSuffices}
 
 over : (bytes : List ℕ) → maxSheetBytes < length bytes → runnerOutput bytes ≡ printed (turnedBack (refusal 1 0))
-unfolding runnerOutput engineRun turnBackIf
+unfolding runnerOutput engineRun engineRunBy turnBackIf
 over bytes h = rw (lt-ltb maxSheetBytes (length bytes) h)
 
 pub frontSuffices : FrontSuffices

@@ -20,6 +20,7 @@ use Rattle.text_judging.proofs.Infer.{sameTerm-true}
 use Rattle.scanning.specs.Classes.{nameElement, nodeElement, elementOf, isNameElement, elementSide, elementName, elementNode}
 use Rattle.scanning.specs.Classes.{sideFrame}
 use Rattle.scanning.specs.Instances.{startOf, endOf, sameName}
+use Rattle.scanning.proofs.Ranges.{Folded}
 use Rattle.scanning.proofs.TermsInText.{SpelledAt, spelled-at-once, same-slots}
 use Rattle.scanning.proofs.Nodes.{TermIn, is-instance, slot-of}
 
@@ -67,8 +68,8 @@ side-low i = omega arith
 
 -- terms
 
-module _ (b t : List ℕ) (symbols : ℕ) (names : Names (declarationsFrom b t symbols 0)) (x : List ℕ) (nodes : ℕ) (table : Nodes t nodes)
-    (few : nodes ≤ maxNodes) (w : List ℕ)
+module _ (b t : List ℕ) (symbols : ℕ) (names : Names (declarationsFrom b t symbols 0)) (x : List ℕ) (small : Folded b x)
+    (nodes : ℕ) (table : Nodes t nodes) (few : nodes ≤ maxNodes) (w : List ℕ)
     (f g : ℕ) (e d : Environment Symbol) where
   -- The declared symbols are those of the table.
   abbrev ds : List Declaration
@@ -80,7 +81,7 @@ module _ (b t : List ℕ) (symbols : ℕ) (names : Names (declarationsFrom b t s
 
   -- `NodeOn m s` says that m is a node of a term on side s.
   abbrev pub NodeOn : ℕ → ℕ → Type 0
-  NodeOn m s = TermIn b t symbols names x nodes table few w m (sideFrame f g s) (environmentOn s)
+  NodeOn m s = TermIn b t symbols names x small nodes table few w m (sideFrame f g s) (environmentOn s)
 
   -- Element i means the term u: the name stands for it in the frame of its side, or the node's instance there is u.
   pub record Means (i : ℕ) (u : Ground) : Type 0 where
@@ -120,7 +121,7 @@ module _ (b t : List ℕ) (symbols : ℕ) (names : Names (declarationsFrom b t s
       go true q =
           let z = eqb-true (kindOf t m) 0 q in
           let n = name-element t s m z (table .term m (h .below) (h .is) .variable z) l in
-          let p = slot-of b t symbols names x nodes table few w m (sideFrame f g s) (environmentOn s) h z in
+          let p = slot-of b t symbols names x small nodes table few w m (sideFrame f g s) (environmentOn s) h z in
           record {
             spelledAt = λ y. rw (n .side, n .name, p .1) (p .0);
             node = λ y. absurd (true≢false (sym (n .kind) ∙ y));
@@ -145,10 +146,10 @@ module _ (b t : List ℕ) (symbols : ℕ) (names : Names (declarationsFrom b t s
     where
       go : (z : Bool) → isNameElement j ≡ z → sameName b t x w f g i j ≡ sameTerm u v
       go true q =
-          rw q (same-slots ds names x (startOf w f g i) (endOf w f g i) (startOf w f g j) (endOf w f g j) u v (h .spelledAt n)
+          rw q (same-slots ds names x (small .text) (startOf w f g i) (endOf w f g i) (startOf w f g j) (endOf w f g j) u v (h .spelledAt n)
           (k .spelledAt q))
       go false q =
           rw q
-          (is-instance b t symbols names x nodes table few w (startOf w f g i) (endOf w f g i) u (elementNode j)
+          (is-instance b t symbols names x small nodes table few w (startOf w f g i) (endOf w f g i) u (elementNode j)
           (sideFrame f g (elementSide j)) (environmentOn (elementSide j)) (h .spelledAt n) (k .node q)
           ∙ ap (sameTerm u) (sym (k .instance q)))

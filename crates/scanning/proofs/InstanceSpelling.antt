@@ -16,6 +16,7 @@ use Rattle.formulas.proofs.Free.{or-left, or-right}
 use Rattle.sequents.specs.Symbols.{Symbol, Ground}
 use Rattle.sequents.specs.Sequents.{Environment}
 use Rattle.sheet_format.specs.Limits.{maxNodes}
+use Rattle.sheet_format.specs.Bytes.{foldedName}
 use Rattle.sheet_format.specs.Nodes.{Declaration}
 use Rattle.sheet_format.proofs.Bytes.{name-kinds}
 use Rattle.sheet_format.proofs.Names.{Names}
@@ -34,7 +35,7 @@ use Rattle.scanning.specs.Frames.{slotStart, slotEnd}
 use Rattle.scanning.specs.Instances.{matchRange, matchName, matchSlot, argumentCount, argumentOf, matchMore, matchArguments}
 use Rattle.scanning.specs.Instances.{matchApplication, matchInstance}
 use Rattle.scanning.proofs.Positions.{byte-is, byte-none, drop-next, drop-past}
-use Rattle.scanning.proofs.Ranges.{begins, begins-rest, Solid, range-begins}
+use Rattle.scanning.proofs.Ranges.{begins, begins-rest, Solid, range-begins, Folded, folded-range}
 use Rattle.scanning.proofs.Names.{size-length, name-solid}
 use Rattle.scanning.proofs.TermsInText.{SpelledAt, spelling-solid}
 use Rattle.terms.proofs.Tests.{eqb-comm}
@@ -111,9 +112,11 @@ begins-short : (a y : List ℕ) → begins a y ≡ true → length a ≤ length 
 begins-short a y h = let r = begins-rest a y h in let e = ap length (r .1) ∙ length-append a (r .0) in omega arith
 
 -- Matching bytes that stand somewhere else reaches the end of these bytes.
-match-range : (l r a : List ℕ) (s : ℕ) (x : List ℕ) (i : ℕ) → drop s a ≡ l ++ r → Solid l → matchRange (length l) a s x i ≡ reach l x i
+match-range : (l r a : List ℕ) (s : ℕ) (x : List ℕ) (i : ℕ) → drop s a ≡ l ++ r → Solid l → foldedName a ≡ a → foldedName x ≡ x
+    → matchRange (length l) a s x i ≡ reach l x i
 unfolding matchRange reach
-match-range l r a s x i h z = rw (range-begins l r a s x i h z) (go (begins l (drop i x)) refl (leb (length l) (length x - i)) refl)
+match-range l r a s x i h z p₀ q₀ =
+    rw (folded-range (length l) a s x i p₀ q₀ ∙ range-begins l r a s x i h z) (go (begins l (drop i x)) refl (leb (length l) (length x - i)) refl)
   where
     go : (p : Bool) → begins l (drop i x) ≡ p → (q : Bool) → leb (length l) (length x - i) ≡ q
         → cond q (cond p (To (i + length l)) Differs) Differs ≡ cond p (To (i + length l)) Differs
@@ -136,7 +139,7 @@ declared-is b t (suc c) k (suc i) d h =
     let e : k + suc i ≡ suc k + i = omega arith in
     ap (declarationAt b t) e ∙ declared-is b t c (suc k) i d h
 
-module _ (b t : List ℕ) (symbols : ℕ) (names : Names (declarationsFrom b t symbols 0)) (x : List ℕ) where
+module _ (b t : List ℕ) (symbols : ℕ) (names : Names (declarationsFrom b t symbols 0)) (x : List ℕ) (small : Folded b x) where
   -- The declared symbols are those of the table.
   abbrev ds : List Declaration
   ds = declarationsFrom b t symbols 0
@@ -160,7 +163,7 @@ module _ (b t : List ℕ) (symbols : ℕ) (names : Names (declarationsFrom b t s
       let y = drop (nameStart t k) b in
       rw l
       (match-range a (drop m y) b (nameStart t k) x i (sym (take-append-drop m y) ∙ ap (_++ drop m y) (sym e))
-      (name-solid a (name-kinds a (name-of ds k n names d))))
+      (name-solid a (name-kinds a (name-of ds k n names d))) (small .bytes) (small .text))
 
   -- Matching a term of the text reaches the end of its spelling.
   match-slot : (w : List ℕ) (g v i : ℕ) (u : Ground) → SpelledAt ds x (slotStart w g v) (slotEnd w g v) u
@@ -169,7 +172,7 @@ module _ (b t : List ℕ) (symbols : ℕ) (names : Names (declarationsFrom b t s
   match-slot w g v i u p =
       let l : slotEnd w g v - slotStart w g v ≡ length (spellTerm u ds) = (let q = p .end in omega arith) in
       rw l (match-range (spellTerm u ds) (drop (slotEnd w g v) x) x (slotStart w g v) x i (p .spelled)
-      (spelling-solid u ds names (p .writable)))
+      (spelling-solid u ds names (p .writable)) (small .text) (small .text))
 
 -- frames
 
@@ -305,8 +308,8 @@ module _ (t : List ℕ) (ds : List Declaration) (x : List ℕ) (e : Environment 
 
 -- instances
 
-module _ (b t : List ℕ) (symbols : ℕ) (names : Names (declarationsFrom b t symbols 0)) (x : List ℕ) (nodes : ℕ) (table : Nodes t nodes)
-    (few : nodes ≤ maxNodes) (w : List ℕ) (g : ℕ) (e : Environment Symbol) where
+module _ (b t : List ℕ) (symbols : ℕ) (names : Names (declarationsFrom b t symbols 0)) (x : List ℕ) (small : Folded b x)
+    (nodes : ℕ) (table : Nodes t nodes) (few : nodes ≤ maxNodes) (w : List ℕ) (g : ℕ) (e : Environment Symbol) where
   -- `Instance f m` says that the instance of node m stands where its spelling does.
   abbrev Instance : ℕ → ℕ → Type 0
   Instance f m =
@@ -322,7 +325,7 @@ module _ (b t : List ℕ) (symbols : ℕ) (names : Names (declarationsFrom b t s
       let v = labelOf t m in
       let p = subst (λ (y : Term ℕ). FormedTerm y (declarationsFrom b t symbols 0)) tree formed in
       let s = frame v p (subst (λ (y : Term ℕ). freeT y v ≡ true) (sym tree) (eq-eqb v v refl)) in
-      rw (matchInstance, z) (match-slot b t symbols names x w g v i (e v) s
+      rw (matchInstance, z) (match-slot b t symbols names x small w g v i (e v) s
       ∙ ap (λ (y : Term ℕ). reach (spellTerm (substitute y e) (declarationsFrom b t symbols 0)) x i) (sym tree))
 
   -- The instance of an application stands where its spelling does.
@@ -333,7 +336,7 @@ module _ (b t : List ℕ) (symbols : ℕ) (names : Names (declarationsFrom b t s
       let a = table .term m u is .application z in
       let p = subst (λ (y : Term ℕ). FormedTerm y ds′) tree formed in
       rw (matchInstance, z) (ap (λ (o : Reach). elim o as (λ z. Reach) [ To j ↦ matchArguments r t m x j | Differs ↦ Differs ])
-      (match-name b t symbols names x (labelOf t m) (count (argumentsAt t m)) i (p .0))
+      (match-name b t symbols names x small (labelOf t m) (count (argumentsAt t m)) i (p .0))
       ∙ onward-same (matchArguments r t m x) (reach (spellArguments (substitutes (argumentsAt t m) e) ds′) x)
       (λ j. match-arguments t ds′ x e m r j (argument-count t m a) (λ n k o. let q = a .terms n k in
       ap (λ (y : ℕ). r y o) (argument-of t m nodes n a u few k) ∙ ih (childOf t m n) (omega (arith, q .0)) (omega (arith, q .0)) (q .1)

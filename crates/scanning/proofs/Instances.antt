@@ -25,6 +25,7 @@ use Rattle.text_judging.proofs.Infer.{sameTerm-refl}
 use Rattle.scanning.specs.Classes.{isNameElement, elementSide, elementNode, elementChild, sideFrame, nodeElement, rootOf, separate}
 use Rattle.scanning.specs.Instances.{argumentCount, Compared, compared, joined, sameName, joinName, sameChildren, sameNodes}
 use Rattle.scanning.specs.Instances.{sameRoots, sameElements, sameAtoms}
+use Rattle.scanning.proofs.Ranges.{Folded}
 use Rattle.scanning.proofs.InstanceSpelling.{Frame, frame-fewer, formed-child, free-child, argument-count}
 use Rattle.scanning.proofs.Depth.{depth, child-depth}
 use Rattle.scanning.proofs.Counting.{countBelow, count-most, count-strictly}
@@ -32,8 +33,8 @@ use Rattle.scanning.proofs.Nodes.{sameTerm-swap, TermIn, child-in}
 use Rattle.scanning.proofs.Classes.{Forest, forest-set, root-of, separate-forest, separate-root}
 use Rattle.scanning.proofs.Elements.{environmentOn, Means, means-once, Alike, alike, element-means, same-name, side-low, node-number}
 
-module _ (b t : List ℕ) (symbols : ℕ) (names : Names (declarationsFrom b t symbols 0)) (x : List ℕ) (nodes : ℕ) (table : Nodes t nodes)
-    (few : nodes ≤ maxNodes) (w : List ℕ) where
+module _ (b t : List ℕ) (symbols : ℕ) (names : Names (declarationsFrom b t symbols 0)) (x : List ℕ) (small : Folded b x)
+    (nodes : ℕ) (table : Nodes t nodes) (few : nodes ≤ maxNodes) (w : List ℕ) where
   -- The declared symbols are those of the table.
   abbrev ds : List Declaration
   ds = declarationsFrom b t symbols 0
@@ -41,15 +42,15 @@ module _ (b t : List ℕ) (symbols : ℕ) (names : Names (declarationsFrom b t s
   module _ (f g : ℕ) (e d : Environment Symbol) where
     -- `E s` is the environment of side s.
     abbrev E : ℕ → Environment Symbol
-    E s = environmentOn b t symbols names x nodes table few w f g e d s
+    E s = environmentOn b t symbols names x small nodes table few w f g e d s
 
     -- `M i u` says that element i means the term u.
     abbrev M : ℕ → Ground → Type 0
-    M i u = Means b t symbols names x nodes table few w f g e d i u
+    M i u = Means b t symbols names x small nodes table few w f g e d i u
 
     -- `A i j` says that element j means whatever element i means.
     abbrev A : ℕ → ℕ → Type 0
-    A i j = Alike b t symbols names x nodes table few w f g e d i j
+    A i j = Alike b t symbols names x small nodes table few w f g e d i j
 
     -- An element is alike to itself.
     alike-self : (i : ℕ) → A i i
@@ -150,8 +151,8 @@ module _ (b t : List ℕ) (symbols : ℕ) (names : Names (declarationsFrom b t s
         → M (elementChild t l a) (substitute (termAt t (childOf t (elementNode l) a)) (E (elementSide l)))
     unfolding elementChild
     child-means l u p h a o =
-        element-means b t symbols names x nodes table few w f g e d (elementSide l) (childOf t (elementNode l) a) (side-low l)
-        (child-in b t symbols names x nodes table few w (elementNode l) (sideFrame f g (elementSide l)) (E (elementSide l)) (h .node p)
+        element-means b t symbols names x small nodes table few w f g e d (elementSide l) (childOf t (elementNode l) a) (side-low l)
+        (child-in b t symbols names x small nodes table few w (elementNode l) (sideFrame f g (elementSide l)) (E (elementSide l)) (h .node p)
         (h .applied p) a o)
 
     module _ (r : List ℕ → ℕ → ℕ → Compared) (n : ℕ) (right : Right r n) (i j : ℕ) where
@@ -225,7 +226,7 @@ module _ (b t : List ℕ) (symbols : ℕ) (names : Names (declarationsFrom b t s
           ev = applied j v q hj
 
           together : (eqb (labelOf t one) (labelOf t two) && sameTerms Us Vs) ≡ true → A i j
-          together z = alike b t symbols names x nodes table few w f g e d i j u v hi hj (ap₂ sameTerm eu ev ∙ z)
+          together z = alike b t symbols names x small nodes table few w f g e d i j u v hi hj (ap₂ sameTerm eu ev ∙ z)
 
           go : (z : Bool) → eqb (labelOf t one) (labelOf t two) ≡ z
               → Compares (sameNodes r t i j c) (eqb (labelOf t one) (labelOf t two) && sameTerms Us Vs)
@@ -252,18 +253,18 @@ module _ (b t : List ℕ) (symbols : ℕ) (names : Names (declarationsFrom b t s
         go : (o : Bool) → eqb i j ≡ o → (y : Bool) → isNameElement i ≡ y → (z : Bool) → isNameElement j ≡ z
             → Compares (sameRoots r b t x w f g i j c) (sameTerm u v)
         go true o y p z q =
-            let k = means-once b t symbols names x nodes table few w f g e d j u v (subst (λ (a : ℕ). M a u) (eqb-true i j o) hi) hj in
+            let k = means-once b t symbols names x small nodes table few w f g e d j u v (subst (λ (a : ℕ). M a u) (eqb-true i j o) hi) hj in
             rw o (record { classes = h; answer = sym (ap (sameTerm u) (sym k) ∙ sameTerm-refl u) })
         go false o true p z q =
             rw (o, p)
             (compares-joined (compared c (sameName b t x w f g i j)) (sameTerm u v) i j
-            (record { classes = h; answer = same-name b t symbols names x nodes table few w f g e d i j u v p hi hj })
-            (alike b t symbols names x nodes table few w f g e d i j u v hi hj))
+            (record { classes = h; answer = same-name b t symbols names x small nodes table few w f g e d i j u v p hi hj })
+            (alike b t symbols names x small nodes table few w f g e d i j u v hi hj))
         go false o false p true q =
             rw (o, p, q)
             (compares-joined (compared c (sameName b t x w f g j i)) (sameTerm u v) j i
-            (record { classes = h; answer = same-name b t symbols names x nodes table few w f g e d j i v u q hj hi ∙ sameTerm-swap v u })
-            (λ k. alike b t symbols names x nodes table few w f g e d j i v u hj hi (sameTerm-swap v u ∙ k)))
+            (record { classes = h; answer = same-name b t symbols names x small nodes table few w f g e d j i v u q hj hi ∙ sameTerm-swap v u })
+            (λ k. alike b t symbols names x small nodes table few w f g e d j i v u hj hi (sameTerm-swap v u ∙ k)))
         go false o false p false q = rw (o, p, q) (compares-nodes r n right i j c u v p q hi hj l h)
 
     -- Two elements.
@@ -288,7 +289,7 @@ module _ (b t : List ℕ) (symbols : ℕ) (names : Names (declarationsFrom b t s
 
   -- A child of an atom is a node of a term in its frame.
   atom-child : (m g : ℕ) (e : Environment Symbol) → AtomIn m g e → (n : ℕ) → n < childCount t m
-      → TermIn b t symbols names x nodes table few w (childOf t m n) g e
+      → TermIn b t symbols names x small nodes table few w (childOf t m n) g e
   unfolding argumentsAt
   atom-child m g e h n l =
       let q = h .arguments .terms n l in
@@ -317,7 +318,7 @@ module _ (b t : List ℕ) (symbols : ℕ) (names : Names (declarationsFrom b t s
   module _ (f g : ℕ) (e d : Environment Symbol) where
     -- `D s` is the environment of side s.
     abbrev D : ℕ → Environment Symbol
-    D s = environmentOn b t symbols names x nodes table few w f g e d s
+    D s = environmentOn b t symbols names x small nodes table few w f g e d s
 
     -- `AtomOn i` says that the node of element i is an atom on its side.
     abbrev AtomOn : ℕ → Type 0
@@ -325,11 +326,11 @@ module _ (b t : List ℕ) (symbols : ℕ) (names : Names (declarationsFrom b t s
 
     -- The children of an atom mean their instances.
     atom-means : (i : ℕ) → AtomOn i → (a : ℕ) → a < childCount t (elementNode i)
-        → Means b t symbols names x nodes table few w f g e d (elementChild t i a)
+        → Means b t symbols names x small nodes table few w f g e d (elementChild t i a)
         (substitute (termAt t (childOf t (elementNode i) a)) (D (elementSide i)))
     unfolding elementChild
     atom-means i h a l =
-        element-means b t symbols names x nodes table few w f g e d (elementSide i) (childOf t (elementNode i) a) (side-low i)
+        element-means b t symbols names x small nodes table few w f g e d (elementSide i) (childOf t (elementNode i) a) (side-low i)
         (atom-child (elementNode i) (sideFrame f g (elementSide i)) (D (elementSide i)) h a l)
 
     -- Comparing the elements of two atoms, if they differ, compares the atoms.
@@ -357,7 +358,7 @@ module _ (b t : List ℕ) (symbols : ℕ) (names : Names (declarationsFrom b t s
             (k .arguments)
             (eqb-true (labelOf t (elementNode i)) (labelOf t (elementNode j)) l) (atom-means i h) (atom-means j k)
             (λ a o. comparisons-most f g e d _ n high)
-            (separate-forest (λ a c. Alike b t symbols names x nodes table few w f g e d a c) (alike-self f g e d)
+            (separate-forest (λ a c. Alike b t symbols names x small nodes table few w f g e d a c) (alike-self f g e d)
             (alike-then f g e d)) .answer
         go false l = refl
 

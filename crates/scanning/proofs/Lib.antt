@@ -15,3 +15,4 @@ pub mod Records
 pub mod Frames
 pub mod SymbolsInText
 pub mod Numbering
+pub mod Folding

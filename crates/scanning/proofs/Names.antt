@@ -15,10 +15,10 @@ use Rattle.sheet_format.proofs.Bytes.{Every, name-graphic}
 use Rattle.node_table.specs.Layout.{nameStart, nameLength, isFunctionBit, arityOf}
 use Rattle.node_table.specs.Decoding.{declarationAt, declarationsFrom}
 use Rattle.text_judging.specs.Reading.{Span, span, Found, findName}
-use Rattle.scanning.specs.Ranges.{sameRange}
+use Rattle.scanning.specs.Ranges.{sameFolded}
 use Rattle.scanning.specs.Scanning.{nameFrom, nameEnd, nameSize, isNamed, symbolFrom}
 use Rattle.scanning.proofs.Positions.{byte-is, drop-next, drop-length}
-use Rattle.scanning.proofs.Ranges.{begins-same, unequal-lengths, Solid, range-begins, span-yes, span-no}
+use Rattle.scanning.proofs.Ranges.{begins-same, unequal-lengths, Solid, range-begins, Folded, folded-range, span-yes, span-no}
 
 -- the end of a name
 
@@ -59,7 +59,8 @@ size-length b t k = length-take (nameLength t k) (drop (nameStart t k) b) ∙ ap
 abbrev pub foundAt : List ℕ → ℕ → ℕ → Option Found
 foundAt t limit j = cond (ltb j limit) (cond (eqb (isFunctionBit t j) 1) (some (record { symbol = j; arity = arityOf t j })) none) none
 
-module _ (b t x n r : List ℕ) (i e : ℕ) (at : drop i x ≡ n ++ r) (solid : Solid n) (end : e ≡ i + length n) where
+module _ (b t x n r : List ℕ) (i e : ℕ) (at : drop i x ≡ n ++ r) (solid : Solid n) (end : e ≡ i + length n)
+    (small : Folded b x) where
   -- The test tells whether symbol k has the name n, which stands at position i.
   pub named-same : (k : ℕ) → isNamed b t k x i e ≡ sameBytes n (declarationAt b t k .name)
   unfolding isNamed declarationAt
@@ -70,9 +71,9 @@ module _ (b t x n r : List ℕ) (i e : ℕ) (at : drop i x ≡ n ++ r) (solid : 
       m : List ℕ
       m = take (nameLength t k) (drop (nameStart t k) b)
 
-      go : (z : Bool) → eqb (length n) (nameSize b t k) ≡ z → cond z (sameRange (length n) x i b (nameStart t k)) false ≡ sameBytes n m
+      go : (z : Bool) → eqb (length n) (nameSize b t k) ≡ z → cond z (sameFolded (length n) x i b (nameStart t k)) false ≡ sameBytes n m
       go true q =
-          range-begins n r x i b (nameStart t k) at solid
+          folded-range (length n) x i b (nameStart t k) (small .text) (small .bytes) ∙ range-begins n r x i b (nameStart t k) at solid
           ∙ sym (begins-same n (drop (nameStart t k) b) (nameLength t k) (eqb-true (length n) (nameSize b t k) q ∙ sym (size-length b t k)))
       go false q = sym (unequal-lengths n m (λ p. eqb-false (length n) (nameSize b t k) q (p ∙ size-length b t k)))
 

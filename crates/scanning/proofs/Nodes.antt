@@ -30,7 +30,7 @@ use Rattle.scanning.specs.declared.Reach.{Reach}
 use Rattle.scanning.specs.declared.Reach.the-variants.{To, Differs}
 use Rattle.scanning.specs.Frames.{slotStart, slotEnd}
 use Rattle.scanning.specs.Instances.{endsAt, isInstance}
-use Rattle.scanning.proofs.Ranges.{begins, begins-rest, rest-begins}
+use Rattle.scanning.proofs.Ranges.{begins, begins-rest, rest-begins, Folded}
 use Rattle.scanning.proofs.TermsInText.{both-ways, same-spelled, SpelledAt}
 use Rattle.scanning.proofs.InstanceSpelling.{reach, Frame, frame-fewer, instance-writable, formed-child, free-child, match-instance}
 
@@ -68,8 +68,8 @@ sameTerm-swap t u =
     (λ h. subst (λ (z : Ground). sameTerm z t ≡ true) (sameTerm-true t u h) (sameTerm-refl t))
     (λ h. subst (λ (z : Ground). sameTerm z u ≡ true) (sameTerm-true u t h) (sameTerm-refl u))
 
-module _ (b t : List ℕ) (symbols : ℕ) (names : Names (declarationsFrom b t symbols 0)) (x : List ℕ) (nodes : ℕ) (table : Nodes t nodes)
-    (few : nodes ≤ maxNodes) (w : List ℕ) where
+module _ (b t : List ℕ) (symbols : ℕ) (names : Names (declarationsFrom b t symbols 0)) (x : List ℕ) (small : Folded b x)
+    (nodes : ℕ) (table : Nodes t nodes) (few : nodes ≤ maxNodes) (w : List ℕ) where
   -- The declared symbols are those of the table.
   abbrev ds : List Declaration
   ds = declarationsFrom b t symbols 0
@@ -90,7 +90,7 @@ module _ (b t : List ℕ) (symbols : ℕ) (names : Names (declarationsFrom b t s
       → isInstance b t x w s j g m ≡ sameTerm u (substitute (termAt t m) e)
   unfolding isInstance
   is-instance s j u m g e p h =
-      ap (λ (o : Reach). endsAt o j) (match-instance b t symbols names x nodes table few w g e 1024 m (let q = h .below in omega arith)
+      ap (λ (o : Reach). endsAt o j) (match-instance b t symbols names x small nodes table few w g e 1024 m (let q = h .below in omega arith)
       (h .below) (h .is) (h .formed) (h .frame) s)
       ∙ ends-same ds x s j u (spellTerm (substitute (termAt t m) e) ds) p
       ∙ same-spelled u (substitute (termAt t m) e) ds names (p .writable) (term-writable m g e h)

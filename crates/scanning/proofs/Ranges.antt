@@ -11,13 +11,13 @@ use borrow.Author.Tests.{eqb-true, eq-eqb, ne-eqb, leb-true, leb-false, le-leb, 
 use Rattle.terms.specs.Lists.{All}
 use Rattle.terms.proofs.Tests.{cond-and}
 use Rattle.formulas.proofs.Free.{and-parts}
-use Rattle.sheet_format.specs.Bytes.{isDigit, digitsFrom, atMost, number, sameBytes, lf}
+use Rattle.sheet_format.specs.Bytes.{isDigit, digitsFrom, atMost, number, sameBytes, lf, isCapital, folded, foldedName}
 use Rattle.sheet_format.proofs.Bytes.{Without, digit-bounds, same-equal}
 use Rattle.sheet_format.proofs.Options.{OnSome, some-weaken}
 use Rattle.text_judging.specs.Reading.{Span, span}
 use Rattle.scanning.specs.declared.Number.{Number}
 use Rattle.scanning.specs.declared.Number.the-variants.{Value, Missing}
-use Rattle.scanning.specs.Ranges.{sameRange, findByte, textLineEnd, numberFrom, numberZero, scanNumber}
+use Rattle.scanning.specs.Ranges.{sameRange, sameFolded, findByte, textLineEnd, numberFrom, numberZero, scanNumber}
 use Rattle.scanning.proofs.Positions.{byte-is, byte-none, drop-next, drop-length}
 
 -- beginnings
@@ -81,6 +81,32 @@ range-begins (c ∷ cs) r a i x j h s = go (drop j x) refl (range-begins cs r a 
     go (d ∷ ds) e ih =
         rw (byte-is a i c (cs ++ r) h, byte-is x j d ds e)
         (ap (λ (z : Bool). cond (eqb c d) z false) (ih ∙ ap (begins cs) (drop-next x j d ds e)) ∙ cond-and (eqb c d) (begins cs ds))
+
+-- folded ranges
+
+-- The bytes of the sheet and of the text are folded already.
+pub record Folded (b x : List ℕ) : Type 0 where
+  pub bytes : foldedName b ≡ b
+  pub text : foldedName x ≡ x
+
+-- A byte of a folded list is the folded byte of the list.
+pub byte-folded : (x : List ℕ) (i : ℕ) → getD (foldedName x) i 0 ≡ folded (getD x i 0)
+unfolding folded isCapital
+byte-folded [] i = refl
+byte-folded (c ∷ cs) zero = refl
+byte-folded (c ∷ cs) (suc i) = byte-folded cs i
+
+-- Comparing two ranges folded is comparing the ranges of the folded lists.
+pub range-folded : (n : ℕ) (a : List ℕ) (i : ℕ) (b : List ℕ) (j : ℕ)
+    → sameFolded n a i b j ≡ sameRange n (foldedName a) i (foldedName b) j
+unfolding sameFolded sameRange
+range-folded zero a i b j = refl
+range-folded (suc n) a i b j = rw (byte-folded a i, byte-folded b j, range-folded n a (i + 1) b (j + 1))
+
+-- So it is comparing the ranges where both lists are folded already.
+pub folded-range : (n : ℕ) (a : List ℕ) (i : ℕ) (b : List ℕ) (j : ℕ) → foldedName a ≡ a → foldedName b ≡ b
+    → sameFolded n a i b j ≡ sameRange n a i b j
+folded-range n a i b j p q = range-folded n a i b j ∙ ap₂ (λ (x y : List ℕ). sameRange n x i y j) p q
 
 -- the end of a line
 

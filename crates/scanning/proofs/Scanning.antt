@@ -30,7 +30,7 @@ use Rattle.scanning.specs.declared.Scan.the-variants.{Term as Scanned, M
 use Rattle.scanning.specs.Scanning.{nameEnd, symbolFrom, scanLevel, scanAt, scanSymbol, higher, scanMore, scanArguments}
 use Rattle.scanning.specs.Scanning.{scanApplication, scanTerm}
 use Rattle.scanning.proofs.Positions.{byte-is, byte-none, drop-next, drop-past}
-use Rattle.scanning.proofs.Ranges.{numberTo, read-number}
+use Rattle.scanning.proofs.Ranges.{numberTo, read-number, Folded}
 use Rattle.scanning.proofs.Names.{name-end, foundAt, find-symbol, name-solid, span-every}
 
 -- A scan of x agrees with what was read: it ends where the rest begins, and has the term's level.
@@ -230,7 +230,7 @@ no-name ds ns = go (findName 0 ds []) (findName-some ds [])
     go none h = refl
     go (some f) h = absurd (name-nonempty (subst (λ (n : List ℕ). isName n ≡ true) (h .0) (name-of ds (f .symbol) (f .arity) ns (h .1))))
 
-module _ (b t : List ℕ) (symbols : ℕ) (names : Names (declarationsFrom b t symbols 0)) (x : List ℕ) where
+module _ (b t : List ℕ) (symbols : ℕ) (names : Names (declarationsFrom b t symbols 0)) (x : List ℕ) (small : Folded b x) where
   -- Scanning a name and its arguments agrees with reading them, if scanning the arguments' terms does.
   scan-named : (f i : ℕ) → ((j : ℕ) → Scans x (scanTerm f b t symbols x j) (readTerm f (declarationsFrom b t symbols 0) (drop j x)))
       → Scans x (scanApplication (scanTerm f b t symbols x) t symbols (symbolFrom symbols b t 0 x i (nameEnd x i)) x (nameEnd x i))
@@ -244,7 +244,7 @@ module _ (b t : List ℕ) (symbols : ℕ) (names : Names (declarationsFrom b t s
       subst (Scans x (scanApplication (scanTerm f b t symbols x) t symbols j x (nameEnd x i)))
       (ap₂ (readApplication (readTerm f (declarationsFrom b t symbols 0)))
       (sym (find-symbol b t x (n .taken) (n .rest) i (nameEnd x i) e (name-solid (n .taken) (span-every isNameByte (drop i x)))
-      (name-end x i) symbols))
+      (name-end x i) small symbols))
       (ap (λ (k : ℕ). drop k x) (name-end x i) ∙ drop-past x i (n .taken) (n .rest) e))
       (scan-application x (scanTerm f b t symbols x) (readTerm f (declarationsFrom b t symbols 0)) reads t symbols j (nameEnd x i))
 

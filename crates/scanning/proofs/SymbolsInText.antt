@@ -13,7 +13,7 @@ use Rattle.terms.specs.Terms.{leaf, app, Terms, nil, cons, count}
 use Rattle.terms.proofs.Lists.{all-append, all-weaken}
 use Rattle.sequents.specs.Symbols.{Symbol, made, leftover, Ground}
 use Rattle.sheet_format.specs.Limits.{maxNumber}
-use Rattle.sheet_format.specs.Bytes.{isDigit, isLetter, isNameByte, isName, number, decimal}
+use Rattle.sheet_format.specs.Bytes.{isDigit, isSmall, isCapital, isLetter, isNameByte, isName, number, decimal}
 use Rattle.sheet_format.specs.Nodes.{Declaration}
 use Rattle.sheet_format.proofs.Bytes.{Every, digit-bounds, letter-bounds, name-nonempty, name-letter, name-kinds}
 use Rattle.sheet_format.proofs.Numbers.{decimal-digits, number-decimal}
@@ -94,7 +94,7 @@ plain-starts (c ∷ cs) r x i h p =
 -- No symbol begins at a name byte that follows a name byte.
 name-none : (x : List ℕ) (i c : ℕ) → getD x (suc i) 0 ≡ c → isNameByte c ≡ true → isNameByte (getD x i 0) ≡ true
     → isSymbol x (suc i) ≡ false
-unfolding isSymbol outsideName isNameByte isLetter isDigit
+unfolding isSymbol outsideName isNameByte isLetter isSmall isCapital isDigit
 name-none x i c e n p = rw e (go (eqb c 33) refl (eqb c 95))
   where
     s : suc i - 1 ≡ i
@@ -126,7 +126,7 @@ name-starts (c ∷ cs) r x i h n =
     let l = letter-bounds c (name-letter c cs n) in
     let b = byte-is x i c (cs ++ r) h in
     let k = name-kinds (c ∷ cs) n in
-    none-at (length cs) x i (plain-none x i c b (ne-eqb c 33 (λ q. omega arith), ne-eqb c 95 (λ q. omega arith)))
+    none-at (length cs) x i (plain-none x i c b (ne-eqb c 33 (λ q. omega arith), ne-eqb c 95 (l .2)))
     ∙ inside-starts cs r x i (drop-suc x i c (cs ++ r) h) (k .1) (ap isNameByte b ∙ k .0)
 
 -- A digit is a plain byte.
@@ -196,7 +196,7 @@ symbol-starts (leftover n k) r x i h w s o =
 
 -- After an argument no name goes on.
 stops-more : (ts : Terms Symbol) (ds : List Declaration) (r : List ℕ) → Stops isNameByte (spellMore ts ds ++ r)
-unfolding spellMore isNameByte isLetter isDigit
+unfolding spellMore isNameByte isLetter isSmall isCapital isDigit
 stops-more nil ds r = refl
 stops-more (cons t ts) ds r = refl
 
@@ -226,7 +226,7 @@ module _ (ds : List Declaration) (names : Names ds) (x : List ℕ) where
       (g (i + 1 + length a) (drop-past x (i + 1) a (m ++ r) d)))
 
   mutual
-    unfolding spellTerm WritableTerm symbolsIn startsIn isNameByte isLetter isDigit
+    unfolding spellTerm WritableTerm symbolsIn startsIn isNameByte isLetter isSmall isCapital isDigit
 
     pub term-starts : (t : Ground) → TermStarts t
     term-starts (leaf s) r i h w p o = symbol-starts s r x i h w (stops-digit r p) o

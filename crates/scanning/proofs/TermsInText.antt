@@ -12,7 +12,7 @@ use lib.Seq.{take-append-seam}
 use borrow.Author.Tests.{eqb-true, eqb-false}
 use Rattle.terms.proofs.Lists.{all-weaken}
 use Rattle.sequents.specs.Symbols.{Ground, level}
-use Rattle.sheet_format.specs.Bytes.{isNameByte, sameBytes, lf}
+use Rattle.sheet_format.specs.Bytes.{isNameByte, sameBytes, lf, foldedName}
 use Rattle.sheet_format.specs.Nodes.{Declaration}
 use Rattle.sheet_format.proofs.Bytes.{Without, graphic-without, same-equal, equal-same}
 use Rattle.sheet_format.proofs.Options.{OnSome}
@@ -27,11 +27,11 @@ use Rattle.text_judging.proofs.ReadTerms.{read-term, ReadsTerm, readTerm-some, 
 use Rattle.text_judging.proofs.Infer.{sameTerm-true, sameTerm-refl}
 use Rattle.scanning.specs.declared.Scan.{Scan}
 use Rattle.scanning.specs.declared.Scan.the-variants.{Term as Scanned, Malformed}
-use Rattle.scanning.specs.Ranges.{sameRange}
+use Rattle.scanning.specs.Ranges.{sameFolded}
 use Rattle.scanning.specs.Scanning.{scanTerm}
 use Rattle.scanning.specs.Instances.{sameSlots}
 use Rattle.scanning.proofs.Positions.{drop-past, position-unique}
-use Rattle.scanning.proofs.Ranges.{begins, begins-same, unequal-lengths, Solid, range-begins}
+use Rattle.scanning.proofs.Ranges.{begins, begins-same, unequal-lengths, Solid, range-begins, Folded, folded-range}
 use Rattle.scanning.proofs.Scanning.{Scans, scan-term}
 
 -- tests with one meaning
@@ -91,9 +91,10 @@ module _ (ds : List Declaration) (names : Names ds) (x : List ℕ) where
       ap (valueOr t) (sym a ∙ b)
 
   -- Two terms of the text are compared by their bytes.
-  pub same-slots : (s e i j : ℕ) (t u : Ground) → SpelledAt ds x s e t → SpelledAt ds x i j u → sameSlots x s e i j ≡ sameTerm t u
+  pub same-slots : foldedName x ≡ x → (s e i j : ℕ) (t u : Ground) → SpelledAt ds x s e t → SpelledAt ds x i j u
+      → sameSlots x s e i j ≡ sameTerm t u
   unfolding sameSlots
-  same-slots s e i j t u p q = go (eqb s i) refl
+  same-slots small s e i j t u p q = go (eqb s i) refl
     where
       a : List ℕ
       a = spellTerm t ds
@@ -101,15 +102,15 @@ module _ (ds : List Declaration) (names : Names ds) (x : List ℕ) where
       b : List ℕ
       b = spellTerm u ds
 
-      apart : (z : Bool) → eqb (length a) (length b) ≡ z → cond z (sameRange (length a) x s x i) false ≡ sameBytes a b
+      apart : (z : Bool) → eqb (length a) (length b) ≡ z → cond z (sameFolded (length a) x s x i) false ≡ sameBytes a b
       apart true h =
-          range-begins a (drop e x) x s x i (p .spelled) (spelling-solid t ds names (p .writable)) ∙ ap (begins a) (q .spelled)
+          folded-range (length a) x s x i small small ∙ range-begins a (drop e x) x s x i (p .spelled) (spelling-solid t ds names (p .writable)) ∙ ap (begins a) (q .spelled)
           ∙ sym (begins-same a (b ++ drop j x) (length b) (eqb-true (length a) (length b) h
           ∙ ap length (sym (take-append-seam b (drop j x)))))
           ∙ ap (sameBytes a) (take-append-seam b (drop j x))
       apart false h = sym (unequal-lengths a b (eqb-false (length a) (length b) h))
 
-      go : (z : Bool) → eqb s i ≡ z → cond z true (cond (eqb (e - s) (j - i)) (sameRange (e - s) x s x i) false) ≡ sameTerm t u
+      go : (z : Bool) → eqb s i ≡ z → cond z true (cond (eqb (e - s) (j - i)) (sameFolded (e - s) x s x i) false) ≡ sameTerm t u
       go true h =
           sym (subst (λ (v : Ground). sameTerm t v ≡ true)
           (spelled-at-once s e j t u p (subst (λ (k : ℕ). SpelledAt ds x k j u) (sym (eqb-true s i h)) q)) (sameTerm-refl t))
@@ -140,7 +141,7 @@ pub record ScansTerm (ds : List Declaration) (x : List ℕ) (i : ℕ) (l r : Lis
   pub end : e ≡ i + length (spellTerm term ds)
   pub rest : drop e x ≡ more ++ (lf ∷ r)
 
-module _ (b t : List ℕ) (symbols : ℕ) (names : Names (declarationsFrom b t symbols 0)) (x : List ℕ) where
+module _ (b t : List ℕ) (symbols : ℕ) (names : Names (declarationsFrom b t symbols 0)) (x : List ℕ) (small : Folded b x) where
   -- The declared symbols are those of the table.
   abbrev ds : List Declaration
   ds = declarationsFrom b t symbols 0
@@ -149,7 +150,7 @@ module _ (b t : List ℕ) (symbols : ℕ) (names : Names (declarationsFrom b t s
   pub scanned-line : (f i : ℕ) (l r : List ℕ) (e k : ℕ) → drop i x ≡ l ++ (lf ∷ r) → scanTerm f b t symbols x i ≡ Scanned e k
       → ScansTerm ds x i l r e k
   scanned-line f i l r e k h q =
-      go (readTerm f ds (drop i x)) (subst (λ (s : Scan). Scans x s (readTerm f ds (drop i x))) q (scan-term b t symbols names x f i))
+      go (readTerm f ds (drop i x)) (subst (λ (s : Scan). Scans x s (readTerm f ds (drop i x))) q (scan-term b t symbols names x small f i))
       (readTerm-some f ds (drop i x))
     where
       go : (o : Option (Parsed Ground)) → Scans x (Scanned e k) o → OnSome (ReadsTerm ds (drop i x)) o → ScansTerm ds x i l r e k
@@ -180,7 +181,7 @@ module _ (b t : List ℕ) (symbols : ℕ) (names : Names (declarationsFrom b t s
   spelled-scan f i u c r h w l s =
       go (scanTerm f b t symbols x i)
       (subst (Scans x (scanTerm f b t symbols x i)) (ap (readTerm f ds) h ∙ read-term u ds f (c ∷ r) names w l s)
-      (scan-term b t symbols names x f i))
+      (scan-term b t symbols names x small f i))
     where
       go : (a : Scan) → Scans x a (parsed u (c ∷ r)) → a ≡ Scanned (i + length (spellTerm u ds)) (level u)
       go Malformed q = absurd q

@@ -11,22 +11,22 @@ use Rattle.sheet_format.specs.Limits.{maxNodes}
 use Rattle.node_table.specs.Layout.{kindOf, childCount, labelOf, childOf, nameStart, variableKind}
 use Rattle.scanning.specs.declared.Reach.{Reach}
 use Rattle.scanning.specs.declared.Reach.the-variants.{To, Differs}
-use Rattle.scanning.specs.Ranges.{sameRange}
+use Rattle.scanning.specs.Ranges.{sameFolded}
 use Rattle.scanning.specs.Scanning.{nameSize}
 use Rattle.scanning.specs.Frames.{slotStart, slotEnd}
 use Rattle.scanning.specs.Classes.{nodeElement, isNameElement, elementSide, elementName, elementNode, elementChild, sideFrame}
 use Rattle.scanning.specs.Classes.{separate}
 use Rattle.scanning.specs.Classes.{rootOf}
 
--- Two terms of the text, from s to e and from i to j. Where they start at one position they are one term.
+-- Two terms of the text, from s to e and from i to j, names in either case. Where they start at one position they are one term.
 unfoldable pub sameSlots : List ℕ → ℕ → ℕ → ℕ → ℕ → Bool
-sameSlots x s e i j = cond (eqb s i) true (cond (eqb (e - s) (j - i)) (sameRange (e - s) x s x i) false)
+sameSlots x s e i j = cond (eqb s i) true (cond (eqb (e - s) (j - i)) (sameFolded (e - s) x s x i) false)
 
 -- going along with a spelling
 
--- The n bytes of a from s on stand at position i, within the text.
+-- The n bytes of a from s on stand at position i, within the text, names in either case.
 unfoldable pub matchRange : ℕ → List ℕ → ℕ → List ℕ → ℕ → Reach
-matchRange n a s x i = cond (leb n (length x - i)) (cond (sameRange n a s x i) (To (i + n)) Differs) Differs
+matchRange n a s x i = cond (leb n (length x - i)) (cond (sameFolded n a s x i) (To (i + n)) Differs) Differs
 
 -- So does the name of symbol k.
 unfoldable pub matchName : List ℕ → List ℕ → ℕ → List ℕ → ℕ → Reach

@@ -5,7 +5,7 @@ use mathlib.Core.Bool.{Bool, true, false, cond}
 use mathlib.Core.List.{List}
 use lib.Dec.{eqb, leb}
 use lib.ListN.{length, getD}
-use Rattle.sheet_format.specs.Bytes.{lf, isDigit}
+use Rattle.sheet_format.specs.Bytes.{lf, isDigit, folded}
 use Rattle.sheet_format.specs.Limits.{maxNumber}
 use Rattle.scanning.specs.declared.Number.{Number}
 use Rattle.scanning.specs.declared.Number.the-variants.{Value, Missing}
@@ -14,6 +14,11 @@ use Rattle.scanning.specs.declared.Number.the-variants.{Value, Missing}
 unfoldable pub sameRange : ℕ → List ℕ → ℕ → List ℕ → ℕ → Bool
 sameRange zero a i b j = true
 sameRange (suc n) a i b j = cond (eqb (getD a i 0) (getD b j 0)) (sameRange n a (i + 1) b (j + 1)) false
+
+-- The n bytes of a from i on and of b from j on are the same but for the case of letters, request W-201.
+unfoldable pub sameFolded : ℕ → List ℕ → ℕ → List ℕ → ℕ → Bool
+sameFolded zero a i b j = true
+sameFolded (suc n) a i b j = cond (eqb (folded (getD a i 0)) (folded (getD b j 0))) (sameFolded n a (i + 1) b (j + 1)) false
 
 -- The first position from i on, of n positions, that has the byte c; the position after them if none has.
 unfoldable pub findByte : ℕ → List ℕ → ℕ → ℕ → ℕ

@@ -10,7 +10,7 @@ use Rattle.node_table.specs.Layout.{nameStart, nameLength, isFunctionBit, arity
 use Rattle.scanning.specs.declared.Number.the-variants.{Value, Missing}
 use Rattle.scanning.specs.declared.Scan.{Scan}
 use Rattle.scanning.specs.declared.Scan.the-variants.{Term, Malformed}
-use Rattle.scanning.specs.Ranges.{sameRange, scanNumber}
+use Rattle.scanning.specs.Ranges.{sameFolded, scanNumber}
 
 -- names
 
@@ -27,9 +27,9 @@ nameEnd x i = nameFrom (length x - i) x i
 unfoldable pub nameSize : List ℕ → List ℕ → ℕ → ℕ
 nameSize b t k = min (nameLength t k) (length b - nameStart t k)
 
--- Symbol k is named by the text from i to e.
+-- Symbol k is named by the text from i to e, in either case of its letters (request W-201).
 unfoldable pub isNamed : List ℕ → List ℕ → ℕ → List ℕ → ℕ → ℕ → Bool
-isNamed b t k x i e = cond (eqb (e - i) (nameSize b t k)) (sameRange (e - i) x i b (nameStart t k)) false
+isNamed b t k x i e = cond (eqb (e - i) (nameSize b t k)) (sameFolded (e - i) x i b (nameStart t k)) false
 
 -- The first symbol from k on, of n symbols, that has the name; the one after them if none has.
 unfoldable pub symbolFrom : ℕ → List ℕ → List ℕ → ℕ → List ℕ → ℕ → ℕ → ℕ

@@ -11,7 +11,8 @@ use Rattle.terms.specs.Lists.{All}
 use Rattle.terms.proofs.Lists.{all-weaken}
 use Rattle.formulas.proofs.Free.{and-parts, or-left}
 use Rattle.sheet_format.specs.Limits.{maxName}
-use Rattle.sheet_format.specs.Bytes.{isDigit, isLetter, isNameByte, nameBytes, isName, sameBytes, lf, SplitLines, extendLine, linesOf}
+use Rattle.sheet_format.specs.Bytes.{isDigit, isSmall, isCapital, isLetter, isNameByte, nameBytes, isName, sameBytes, lf}
+use Rattle.sheet_format.specs.Bytes.{SplitLines, extendLine, linesOf}
 
 -- sameBytes
 
@@ -65,10 +66,24 @@ pub digit-bounds : (c : ℕ) → isDigit c ≡ true → (48 ≤ c) × (c ≤ 57)
 unfolding isDigit
 digit-bounds c h = let p = and-parts (leb 48 c) (leb c 57) h in (leb-true 48 c (p .0), leb-true c 57 (p .1))
 
--- A letter is a byte from 97 to 122.
-pub letter-bounds : (c : ℕ) → isLetter c ≡ true → (97 ≤ c) × (c ≤ 122)
+-- A small letter is a byte from 97 to 122.
+pub small-bounds : (c : ℕ) → isSmall c ≡ true → (97 ≤ c) × (c ≤ 122)
+unfolding isSmall
+small-bounds c h = let p = and-parts (leb 97 c) (leb c 122) h in (leb-true 97 c (p .0), leb-true c 122 (p .1))
+
+-- A capital is a byte from 65 to 90.
+pub capital-bounds : (c : ℕ) → isCapital c ≡ true → (65 ≤ c) × (c ≤ 90)
+unfolding isCapital
+capital-bounds c h = let p = and-parts (leb 65 c) (leb c 90) h in (leb-true 65 c (p .0), leb-true c 90 (p .1))
+
+-- A letter is a byte from 65 to 122, and not `_`, which stands between the capitals and the small letters.
+pub letter-bounds : (c : ℕ) → isLetter c ≡ true → (65 ≤ c) × (c ≤ 122) × (c ≡ 95 → ⊥)
 unfolding isLetter
-letter-bounds c h = let p = and-parts (leb 97 c) (leb c 122) h in (leb-true 97 c (p .0), leb-true c 122 (p .1))
+letter-bounds c h = go (isSmall c) refl h
+  where
+    go : (a : Bool) → isSmall c ≡ a → (a || isCapital c) ≡ true → (65 ≤ c) × (c ≤ 122) × (c ≡ 95 → ⊥)
+    go true e k = let p = small-bounds c e in (omega arith, omega arith, λ q. omega arith)
+    go false e k = let p = capital-bounds c k in (omega arith, omega arith, λ q. omega arith)
 
 -- A letter is a name byte.
 pub letter-name : (c : ℕ) → isLetter c ≡ true → isNameByte c ≡ true

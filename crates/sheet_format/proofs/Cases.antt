@@ -132,3 +132,20 @@ no-goal = refl
 surplus : reads "Y\nQ\t0\n?" ≡ (11, 3)
 unfolding reads
 surplus = refl
+
+-- Request W-201: a name may have capitals, first too, and a name that differs in case only is declared already. A line's letter is exact.
+capitals : reads "P\tStROBE_9\t0\nA\t0\nQ\t0\n" ≡ (0, 0)
+unfolding reads
+capitals = refl
+
+declared-in-capitals : reads "F\tStrobe\t0\nP\tSTROBE\t1\n" ≡ (8, 2)
+unfolding reads
+declared-in-capitals = refl
+
+underscore-not-folded : reads "F\ta_\t0\nF\ta\t0\nY\nQ\t0\n" ≡ (0, 0)
+unfolding reads
+underscore-not-folded = refl
+
+small-line-letter : reads "f\ta\t0\n" ≡ (6, 1)
+unfolding reads
+small-line-letter = refl

@@ -60,40 +60,55 @@ pub declares-more : (ds es : List Declaration) (k : Bool) (f n : ℕ) → Declar
 declares-more ds es k f n h =
     record { declaration = h .declaration; at = at-append ds es f (h .declaration) (h .at); kind = h .kind; arity = h .arity }
 
--- A term stays well-formed when declarations are added.
-mutual
-  unfolding FormedTerm
+-- Every symbol that is declared stays so, with its kind and its arity.
+abbrev pub Keeps : List Declaration → List Declaration → Type 0
+Keeps ds es = (k : Bool) (f n : ℕ) → Declares ds k f n → Declares es k f n
 
-  pub term-more : (t : Term ℕ) (ds es : List Declaration) → FormedTerm t ds → FormedTerm t (ds ++ es)
-  term-more (leaf v) ds es h = h
-  term-more (app f ts) ds es h = (declares-more ds es true f (count ts) (h .0), terms-more ts ds es (h .1))
+module _ (ds es : List Declaration) (keeps : Keeps ds es) where
+  -- A term stays well-formed.
+  mutual
+    unfolding FormedTerm
 
-  pub terms-more : (ts : Terms ℕ) (ds es : List Declaration) → FormedTerms ts ds → FormedTerms ts (ds ++ es)
-  terms-more nil ds es h = tt
-  terms-more (cons t ts) ds es h = (term-more t ds es (h .0), terms-more ts ds es (h .1))
+    pub term-keeps : (t : Term ℕ) → FormedTerm t ds → FormedTerm t es
+    term-keeps (leaf v) h = h
+    term-keeps (app f ts) h = (keeps true f (count ts) (h .0), terms-keep ts (h .1))
 
--- An atom stays well-formed when declarations are added.
-pub atom-more : (p : ℕ) (ts : Terms ℕ) (ds es : List Declaration) → FormedAtom p ts ds → FormedAtom p ts (ds ++ es)
-atom-more p ts ds es h = (declares-more ds es false p (count ts) (h .0), terms-more ts ds es (h .1))
+    pub terms-keep : (ts : Terms ℕ) → FormedTerms ts ds → FormedTerms ts es
+    terms-keep nil h = tt
+    terms-keep (cons t ts) h = (term-keeps t (h .0), terms-keep ts (h .1))
 
--- Goals and clauses stay well-formed when declarations are added.
-mutual
-  unfolding FormedGoal
+  -- An atom stays well-formed.
+  pub atom-keeps : (p : ℕ) (ts : Terms ℕ) → FormedAtom p ts ds → FormedAtom p ts es
+  atom-keeps p ts h = (keeps false p (count ts) (h .0), terms-keep ts (h .1))
 
-  pub goal-more : (g : Goal) (ds es : List Declaration) → FormedGoal g ds → FormedGoal g (ds ++ es)
-  goal-more (atom p ts) ds es h = atom-more p ts ds es h
-  goal-more truth ds es h = tt
-  goal-more (and a b) ds es h = (goal-more a ds es (h .0), goal-more b ds es (h .1))
-  goal-more (or a b) ds es h = (goal-more a ds es (h .0), goal-more b ds es (h .1))
-  goal-more (implies c g) ds es h = (clause-more c ds es (h .0), goal-more g ds es (h .1))
-  goal-more (exists v g) ds es h = (h .0, goal-more g ds es (h .1))
-  goal-more (forall v g) ds es h = (h .0, goal-more g ds es (h .1))
+  -- Goals and clauses stay well-formed.
+  mutual
+    unfolding FormedGoal
 
-  pub clause-more : (c : Clause) (ds es : List Declaration) → FormedClause c ds → FormedClause c (ds ++ es)
-  clause-more (fact p ts) ds es h = atom-more p ts ds es h
-  clause-more (rule g p ts) ds es h = (goal-more g ds es (h .0), atom-more p ts ds es (h .1))
-  clause-more (both a b) ds es h = (clause-more a ds es (h .0), clause-more b ds es (h .1))
-  clause-more (each v c) ds es h = (h .0, clause-more c ds es (h .1))
+    pub goal-keeps : (g : Goal) → FormedGoal g ds → FormedGoal g es
+    goal-keeps (atom p ts) h = atom-keeps p ts h
+    goal-keeps truth h = tt
+    goal-keeps (and a b) h = (goal-keeps a (h .0), goal-keeps b (h .1))
+    goal-keeps (or a b) h = (goal-keeps a (h .0), goal-keeps b (h .1))
+    goal-keeps (implies c g) h = (clause-keeps c (h .0), goal-keeps g (h .1))
+    goal-keeps (exists v g) h = (h .0, goal-keeps g (h .1))
+    goal-keeps (forall v g) h = (h .0, goal-keeps g (h .1))
+
+    pub clause-keeps : (c : Clause) → FormedClause c ds → FormedClause c es
+    clause-keeps (fact p ts) h = atom-keeps p ts h
+    clause-keeps (rule g p ts) h = (goal-keeps g (h .0), atom-keeps p ts (h .1))
+    clause-keeps (both a b) h = (clause-keeps a (h .0), clause-keeps b (h .1))
+    clause-keeps (each v c) h = (h .0, clause-keeps c (h .1))
+
+-- So they stay well-formed when declarations are added.
+pub term-more : (t : Term ℕ) (ds es : List Declaration) → FormedTerm t ds → FormedTerm t (ds ++ es)
+term-more t ds es = term-keeps ds (ds ++ es) (declares-more ds es) t
+
+pub goal-more : (g : Goal) (ds es : List Declaration) → FormedGoal g ds → FormedGoal g (ds ++ es)
+goal-more g ds es = goal-keeps ds (ds ++ es) (declares-more ds es) g
+
+pub clause-more : (c : Clause) (ds es : List Declaration) → FormedClause c ds → FormedClause c (ds ++ es)
+clause-more c ds es = clause-keeps ds (ds ++ es) (declares-more ds es) c
 
 -- free names
 

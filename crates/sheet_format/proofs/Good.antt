@@ -14,12 +14,12 @@ use Rattle.formulas.specs.Formulas.{Goal, Clause, fact, rule, both, each, freeG
 use Rattle.formulas.specs.Members.{members, quantify}
 use Rattle.formulas.proofs.Free.{or-left, or-right}
 use Rattle.sheet_format.specs.Limits.{maxArity, variableNames, maxSymbols, maxNodes, maxClauses}
-use Rattle.sheet_format.specs.Bytes.{linesOf, isName}
+use Rattle.sheet_format.specs.Bytes.{linesOf, isName, sameName}
 use Rattle.sheet_format.specs.SheetLines.{NodeLine, SheetLine, declareLine, nodeLine, clauseLine, goalLine, parseLine}
 use Rattle.sheet_format.specs.Nodes.{Declaration, Node, memberCount, nodeOf, isSomething}
 use Rattle.sheet_format.specs.Sheets.{Sheet, refusal, Read, sheet, refused, Table, Taken, next, stop, last, isDeclared}
 use Rattle.sheet_format.specs.Sheets.{takeDeclaration, addNode, takeNode, anyFree, addClause, clauseAt, takeClause, lastGoal, goalAt}
-use Rattle.sheet_format.specs.Sheets.{takeLine, atEnd, afterGoal, readFrom, readSheet}
+use Rattle.sheet_format.specs.Sheets.{takeLine, atEnd, afterGoal, readFrom, readSheetBy, sheetForm, readSheet}
 use Rattle.sheet_format.proofs.Options.{OnSome}
 use Rattle.sheet_format.proofs.Indexing.{at-some}
 use Rattle.sheet_format.proofs.Names.{Names, names-nil, names-snoc}
@@ -86,11 +86,11 @@ cond-line t false x y h k = k refl
 
 -- A declaration keeps the invariant.
 declaration-line : (t : Table) (d : Declaration) → Invariant t → isName (d .name) ≡ true → d .arity ≤ maxArity
-    → AfterLine t (takeDeclaration t d)
+    → AfterLine t (takeDeclaration sameName t d)
 unfolding takeDeclaration
 declaration-line t d i h a =
     cond-line t (not (ltb (length (t .symbols)) maxSymbols)) (stop 7) _ (λ e. tt)
-    (λ e. cond-line t (isDeclared (d .name) (t .symbols)) (stop 8) _ (λ q. tt)
+    (λ e. cond-line t (isDeclared sameName (d .name) (t .symbols)) (stop 8) _ (λ q. tt)
     (λ q. record {
       names = names-snoc (t .symbols) d (i .names) h q;
       arities = all-append (λ x. x .arity ≤ maxArity) (t .symbols) (d ∷ []) (i .arities) (a, tt);
@@ -165,7 +165,7 @@ goalAt-line t none h = tt
 goalAt-line t (some n) h = lastGoal-line t (n .goal) (h .goal)
 
 -- After any line the invariant holds, or the goal is well-formed.
-takeLine-line : (t : Table) (o : Option SheetLine) → Invariant t → OnSome FormedLine o → AfterLine t (takeLine t o)
+takeLine-line : (t : Table) (o : Option SheetLine) → Invariant t → OnSome FormedLine o → AfterLine t (takeLine sameName t o)
 unfolding takeLine
 takeLine-line t none i h = tt
 takeLine-line t (some (declareLine k n a)) i h = declaration-line t (record { function = k; name = n; arity = a }) i (h .0) (h .1)
@@ -194,15 +194,15 @@ atEnd-good [] k = tt
 atEnd-good (c ∷ cs) k = tt
 
 -- Reading on from any table that satisfies the invariant gives a good sheet, or a refusal.
-readFrom-good : (ls : List (List ℕ)) (r : List ℕ) (k : ℕ) (t : Table) → Invariant t → GoodRead (readFrom ls r k t)
-unfolding readFrom
+readFrom-good : (ls : List (List ℕ)) (r : List ℕ) (k : ℕ) (t : Table) → Invariant t → GoodRead (readFrom sheetForm ls r k t)
+unfolding readFrom sheetForm
 readFrom-good [] r k t i = atEnd-good r k
 readFrom-good (l ∷ ls) r k t i =
-    go (takeLine t (parseLine l)) (takeLine-line t (parseLine l) i (parseLine-some l)) (λ u. readFrom-good ls r (suc k) u)
+    go (takeLine sameName t (parseLine l)) (takeLine-line t (parseLine l) i (parseLine-some l)) (λ u. readFrom-good ls r (suc k) u)
   where
-    go : (x : Taken) → AfterLine t x → ((u : Table) → Invariant u → GoodRead (readFrom ls r (suc k) u))
+    go : (x : Taken) → AfterLine t x → ((u : Table) → Invariant u → GoodRead (readFrom sheetForm ls r (suc k) u))
         → GoodRead (elim x [
-          | next u ↦ readFrom ls r (suc k) u
+          | next u ↦ readFrom sheetForm ls r (suc k) u
           | stop n ↦ refused (refusal n k)
           | last g ↦ afterGoal ls r (suc k) (record { symbols = t .symbols; clauses = t .clauses; goal = g })
         ])
@@ -221,7 +221,7 @@ readFrom-good (l ∷ ls) r k t i =
 
 -- Every sheet that is read is good.
 pub good : (bytes : List ℕ) (s : Sheet) → readSheet bytes ≡ sheet s → Good s
-unfolding readSheet
+unfolding readSheet readSheetBy
 good bytes s e =
     subst GoodRead e (readFrom-good (linesOf bytes .whole) (linesOf bytes .rest) 1 (record { symbols = []; nodes = []; clauses = [] })
     (record { names = names-nil; arities = tt; nodes = tt; clauses = tt; closedClauses = tt }))

@@ -9,3 +9,5 @@ pub mod Names
 pub mod SheetLines
 pub mod Nodes
 pub mod Good
+pub mod Capitals
+pub mod FormerNames

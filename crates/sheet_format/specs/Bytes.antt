@@ -3,7 +3,7 @@ use Prim.Native.Nat.{ℕ, zero, suc, _+_, _-_, _*_, _/_, _%_}
 use Prim.Native.Char.{Char, code}
 use Prim.Native.String.{String, [] as []ˢ, _∷_ as _∷ˢ_}
 use mathlib.Core.Bool.{Bool, true, false, not, _&&_, _||_, cond}
-use mathlib.Core.List.{List, [], _∷_, _++_}
+use mathlib.Core.List.{List, [], _∷_, _++_, map}
 use mathlib.Core.Option.{Option, none, some}
 use lib.Dec.{eqb, leb, ltb}
 use lib.ListN.{length}
@@ -44,12 +44,18 @@ unfoldable pub fields : List ℕ → List (List ℕ)
 fields [] = [] ∷ []
 fields (c ∷ cs) = elim (eqb c tab) [ true ↦ [] ∷ fields cs | false ↦ extendField c (fields cs) ]
 
--- Digits are 0 to 9, letters a to z, and name bytes a to z, 0 to 9 and `_`.
+-- Digits are 0 to 9. Letters are a to z and, by request W-201, A to Z. Name bytes are letters, digits and `_`.
 unfoldable pub isDigit : ℕ → Bool
 isDigit c = leb (code "0") c && leb c (code "9")
 
+unfoldable pub isSmall : ℕ → Bool
+isSmall c = leb (code "a") c && leb c (code "z")
+
+unfoldable pub isCapital : ℕ → Bool
+isCapital c = leb (code "A") c && leb c (code "Z")
+
 unfoldable pub isLetter : ℕ → Bool
-isLetter c = leb (code "a") c && leb c (code "z")
+isLetter c = isSmall c || isCapital c
 
 unfoldable pub isNameByte : ℕ → Bool
 isNameByte c = isLetter c || isDigit c || eqb c (code "_")
@@ -91,3 +97,14 @@ sameBytes [] [] = true
 sameBytes [] (d ∷ ds) = false
 sameBytes (c ∷ cs) [] = false
 sameBytes (c ∷ cs) (d ∷ ds) = eqb c d && sameBytes cs ds
+
+-- Request W-201: "two names are equal if they differ only in the case of those letters". A capital is folded to its small letter, and
+-- every other byte stays.
+unfoldable pub folded : ℕ → ℕ
+folded c = cond (isCapital c) (c - code "A" + code "a") c
+
+abbrev pub foldedName : List ℕ → List ℕ
+foldedName n = map folded n
+
+unfoldable pub sameName : List ℕ → List ℕ → Bool
+sameName m n = sameBytes (foldedName m) (foldedName n)

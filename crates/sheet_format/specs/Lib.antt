@@ -5,3 +5,5 @@ pub mod Bytes
 pub mod SheetLines
 pub mod Nodes
 pub mod Sheets
+pub mod FormerNames
+pub mod Promises

@@ -6,7 +6,7 @@ pub use Rattle.formulas.specs.Formulas.{variableNames}
 abbrev pub maxNumber : ℕ
 maxNumber = 65535
 
--- "Names are 1 to 16 of a to z, 0 to 9 and `_`"
+-- "Names are 1 to 16 of a to z, 0 to 9 and `_`", and of A to Z by request W-201.
 abbrev pub maxName : ℕ
 maxName = 16
 

@@ -8,7 +8,7 @@ use lib.Dec.{ltb}
 use lib.ListN.{length, getElem?}
 use Rattle.formulas.specs.Formulas.{Goal, Clause, freeC}
 use Rattle.sheet_format.specs.Limits.{variableNames, maxSymbols, maxNodes, maxClauses}
-use Rattle.sheet_format.specs.Bytes.{linesOf, sameBytes}
+use Rattle.sheet_format.specs.Bytes.{linesOf, sameName}
 use Rattle.sheet_format.specs.SheetLines.{NodeLine, SheetLine, declareLine, nodeLine, clauseLine, goalLine, parseLine}
 use Rattle.sheet_format.specs.Nodes.{Declaration, Node, nodeOf, isSomething}
 
@@ -47,15 +47,21 @@ pub data Taken : Type 0 where
   stop : ℕ → Taken
   last : Goal → Taken
 
-unfoldable pub isDeclared : List ℕ → List Declaration → Bool
-isDeclared n [] = false
-isDeclared n (d ∷ ds) = sameBytes n (d .name) || isDeclared n ds
+-- The form of sheets: what a line says, and which names are equal. The reader has it as a parameter, so that a request that changes the
+-- form can say of which sheets it changes nothing.
+pub record Form : Type 0 where
+  pub line : List ℕ → Option SheetLine
+  pub same : List ℕ → List ℕ → Bool
+
+unfoldable pub isDeclared : (List ℕ → List ℕ → Bool) → List ℕ → List Declaration → Bool
+isDeclared same n [] = false
+isDeclared same n (d ∷ ds) = same n (d .name) || isDeclared same n ds
 
 -- A declaration is refused with 7 or 8, tried in this order.
-unfoldable pub takeDeclaration : Table → Declaration → Taken
-takeDeclaration t d =
+unfoldable pub takeDeclaration : (List ℕ → List ℕ → Bool) → Table → Declaration → Taken
+takeDeclaration same t d =
     cond (not (ltb (length (t .symbols)) maxSymbols)) (stop 7)
-    (cond (isDeclared (d .name) (t .symbols)) (stop 8)
+    (cond (isDeclared same (d .name) (t .symbols)) (stop 8)
     (next (record { symbols = t .symbols ++ (d ∷ []); nodes = t .nodes; clauses = t .clauses })))
 
 -- A node line is refused with 7 (in `takeNode`), 8 or 9, tried in this order.
@@ -95,12 +101,12 @@ goalAt none = stop 8
 goalAt (some n) = lastGoal (n .goal)
 
 -- A malformed line is refused with 6, before all other tests.
-unfoldable pub takeLine : Table → Option SheetLine → Taken
-takeLine t none = stop 6
-takeLine t (some (declareLine k n a)) = takeDeclaration t (record { function = k; name = n; arity = a })
-takeLine t (some (nodeLine l)) = takeNode t l
-takeLine t (some (clauseLine n)) = takeClause t n
-takeLine t (some (goalLine n)) = goalAt (getElem? (t .nodes) n)
+unfoldable pub takeLine : (List ℕ → List ℕ → Bool) → Table → Option SheetLine → Taken
+takeLine same t none = stop 6
+takeLine same t (some (declareLine k n a)) = takeDeclaration same t (record { function = k; name = n; arity = a })
+takeLine same t (some (nodeLine l)) = takeNode t l
+takeLine same t (some (clauseLine n)) = takeClause t n
+takeLine same t (some (goalLine n)) = goalAt (getElem? (t .nodes) n)
 
 -- Bytes after the last LF: a line without LF is malformed. None: the Q line is missing.
 unfoldable pub atEnd : List ℕ → ℕ → Read
@@ -114,13 +120,21 @@ afterGoal [] (c ∷ cs) k s = refused (refusal 11 k)
 afterGoal (l ∷ ls) r k s = refused (refusal 11 k)
 
 -- The lines, the bytes after the last LF, the number of the next line, what there is so far.
-unfoldable pub readFrom : List (List ℕ) → List ℕ → ℕ → Table → Read
-readFrom [] r k t = atEnd r k
-readFrom (l ∷ ls) r k t = elim (takeLine t (parseLine l)) [
-  | next u ↦ readFrom ls r (suc k) u
+unfoldable pub readFrom : Form → List (List ℕ) → List ℕ → ℕ → Table → Read
+readFrom f [] r k t = atEnd r k
+readFrom f (l ∷ ls) r k t = elim (takeLine (f .same) t (f .line l)) [
+  | next u ↦ readFrom f ls r (suc k) u
   | stop n ↦ refused (refusal n k)
   | last g ↦ afterGoal ls r (suc k) (record { symbols = t .symbols; clauses = t .clauses; goal = g })
 ]
 
+unfoldable pub readSheetBy : Form → List ℕ → Read
+readSheetBy f bytes =
+    let l = linesOf bytes in readFrom f (l .whole) (l .rest) 1 (record { symbols = []; nodes = []; clauses = [] })
+
+-- The form in force.
+unfoldable pub sheetForm : Form
+sheetForm = record { line = parseLine; same = sameName }
+
 unfoldable pub readSheet : List ℕ → Read
-readSheet bytes = let l = linesOf bytes in readFrom (l .whole) (l .rest) 1 (record { symbols = []; nodes = []; clauses = [] })
+readSheet bytes = readSheetBy sheetForm bytes

@@ -1,2 +1,3 @@
 // The sheet format, see specs/ and proofs/.
+pub mod letters;
 pub mod limits;

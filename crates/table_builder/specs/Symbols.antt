@@ -8,6 +8,7 @@ use lib.Bits.{bitOr}
 use lib.Dec.{ltb, leb, eqb}
 use lib.ListN.{length, take, drop, getD, set}
 use Rattle.sheet_format.specs.Limits.{maxTermSize, maxSymbols, maxNodes}
+use Rattle.sheet_format.specs.Bytes.{folded}
 use Rattle.node_table.specs.Layout.{symbolAt, maskOf, sizeOf, packInfo, nameStart, nameLength, isFunctionBit, arityOf, applicationKind}
 use Rattle.node_table.specs.Layout.{atomKind, nameStartField, nameLengthField, arityField, childUnit}
 use Rattle.table_builder.specs.declared.node_info.Counts.{Counts}
@@ -57,10 +58,11 @@ insertApplication t k f count a b c d =
     (addNode t k (nodeRecord (appliedKind t f + childUnit * count) f a b c d (applicationInfo t f (firstOf count a b c d))))
     (made t (Stop 8))))
 
--- F and P. The name stands on the sheet at `at`; it is symbol i's name; it is one of `left` symbols' names from the i-th on.
+-- F and P. The name stands on the sheet at `at`; it is symbol i's name; it is one of `left` symbols' names from the i-th on. Names are
+-- compared whatever the case of their letters (request W-201).
 unfoldable pub sameAt : List ℕ → ℕ → List ℕ → Bool
 sameAt sheet at [] = true
-sameAt sheet at (b ∷ l) = cond (eqb (getD sheet at 0) b) (sameAt sheet (at + 1) l) false
+sameAt sheet at (b ∷ l) = cond (eqb (folded (getD sheet at 0)) (folded b)) (sameAt sheet (at + 1) l) false
 
 unfoldable pub nameIs : List ℕ → List ℕ → ℕ → List ℕ → Bool
 nameIs sheet t i name = cond (eqb (nameLength t i) (length name)) (sameAt sheet (nameStart t i) name) false

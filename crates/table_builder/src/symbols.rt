@@ -9,6 +9,7 @@ use node_table::layout;
 use node_table::name_length;
 use node_table::name_start;
 use outcomes::refusals;
+use sheet_format::letters::same_letter;
 use sheet_format::limits;
 ghost use mathlib.Core.Path.{_≡_};
 ghost use Prim.Native.Nat.{_+_, _*_, _<_, _≤_};
@@ -33,7 +34,7 @@ fn put_symbol(t: &mut [u32], i: u32, start: u32, len: u32, word: u32)
     put_symbol_field(t, i, layout::ARITY, word);
 }
 
-// Whether the name stands on the sheet at `at`.
+// Whether the name stands on the sheet at `at`, whatever the case of its letters.
 fn same_at(sheet: &[u8], at: usize, name: &[u8]) -> bool
     requires { ⌜ at < 4294967296 ⌝ }
     ensures { λ r. ⌜ r ≡ sameAt (now (sheet .entry)) at (now (name .entry)) ⌝ }
@@ -41,10 +42,11 @@ fn same_at(sheet: &[u8], at: usize, name: &[u8]) -> bool
     let mut i: usize = 0;
     while i < name.len() {
         let b = byte(sheet, at + i);
-        if b != name[i] {
+        if same_letter(b, name[i]) {
+            i += 1;
+        } else {
             return false;
         }
-        i += 1;
     }
     true
 }

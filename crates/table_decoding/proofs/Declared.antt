@@ -10,7 +10,8 @@ use lib.ListN.{length, take, drop, getD, length-drop}
 use lib.Seq.{drop-cons, length-take-le}
 use borrow.Author.Tests.{eqb-true, eqb-false, eq-eqb, ne-eqb, le-ltb, lt-ltb, leb-true, leb-false}
 use Rattle.terms.proofs.Tests.{eqb-comm, cond-and}
-use Rattle.sheet_format.specs.Bytes.{sameBytes}
+use Rattle.terms.proofs.Lists.{length-map}
+use Rattle.sheet_format.specs.Bytes.{sameBytes, folded, foldedName, sameName}
 use Rattle.sheet_format.specs.Nodes.{Declaration}
 use Rattle.sheet_format.specs.Sheets.{next, stop, isDeclared}
 use Rattle.sheet_format.specs.Sheets.{takeDeclaration as sheetTakeDeclaration}
@@ -32,37 +33,44 @@ use Rattle.table_decoding.proofs.Adding.{table-agree, nodes-of-stands, 
 
 -- names
 
--- The code finds the name at `at` on the sheet exactly if the bytes there are those of the name.
+-- The code finds the name at `at` on the sheet exactly if the bytes there are a name equal to it.
 same-is : (bytes : List ℕ) (at : ℕ) (name : List ℕ) → at + length name ≤ length bytes
-    → sameAt bytes at name ≡ sameBytes name (take (length name) (drop at bytes))
-unfolding sameAt sameBytes
+    → sameAt bytes at name ≡ sameName name (take (length name) (drop at bytes))
+unfolding sameAt sameBytes sameName
 same-is bytes at [] h = refl
 same-is bytes at (b ∷ l) h =
     let k : at < length bytes = omega arith in
-    cond-and (eqb (getD bytes at 0) b) (sameAt bytes (at + 1) l)
-    ∙ ap₂ _&&_ (eqb-comm (getD bytes at 0) b) (ap (λ (x : ℕ). sameAt bytes x l) (add-one at) ∙ same-is bytes (suc at) l (omega arith))
-    ∙ ap (λ (x : List ℕ). sameBytes (b ∷ l) (take (suc (length l)) x)) (sym (drop-cons bytes at 0 k))
+    cond-and (eqb (folded (getD bytes at 0)) (folded b)) (sameAt bytes (at + 1) l)
+    ∙ ap₂ _&&_ (eqb-comm (folded (getD bytes at 0)) (folded b))
+    (ap (λ (x : ℕ). sameAt bytes x l) (add-one at) ∙ same-is bytes (suc at) l (omega arith))
+    ∙ ap (λ (x : List ℕ). sameName (b ∷ l) (take (suc (length l)) x)) (sym (drop-cons bytes at 0 k))
 
--- The code finds that symbol i has the name exactly if the symbol's bytes are those of the name.
+-- Equal names have the same length.
+equal-lengths : (m n : List ℕ) → sameName m n ≡ true → length n ≡ length m
+unfolding sameName
+equal-lengths m n e =
+    sym (length-map folded n) ∙ ap length (sym (same-equal (foldedName m) (foldedName n) e)) ∙ length-map folded m
+
+-- The code finds that symbol i has the name exactly if the symbol's bytes are a name equal to it.
 name-is : (bytes t : List ℕ) (i : ℕ) (name : List ℕ) → nameStart t i + nameLength t i ≤ length bytes
-    → nameIs bytes t i name ≡ sameBytes name (take (nameLength t i) (drop (nameStart t i) bytes))
+    → nameIs bytes t i name ≡ sameName name (take (nameLength t i) (drop (nameStart t i) bytes))
 unfolding nameIs
 name-is bytes t i name h = go (eqb (nameLength t i) (length name)) refl
   where
-    other : (b : Bool) → (nameLength t i ≡ length name → ⊥) → sameBytes name (take (nameLength t i) (drop (nameStart t i) bytes)) ≡ b
+    other : (b : Bool) → (nameLength t i ≡ length name → ⊥) → sameName name (take (nameLength t i) (drop (nameStart t i) bytes)) ≡ b
         → false ≡ b
     other true d e =
         absurd (d (sym (length-take-le (nameLength t i) (drop (nameStart t i) bytes) (simp length-drop (omega arith)))
-        ∙ ap length (sym (same-equal name _ e))))
+        ∙ equal-lengths name (take (nameLength t i) (drop (nameStart t i) bytes)) e))
     other false d e = refl
 
     go : (b : Bool) → eqb (nameLength t i) (length name) ≡ b
-        → cond b (sameAt bytes (nameStart t i) name) false ≡ sameBytes name (take (nameLength t i) (drop (nameStart t i) bytes))
+        → cond b (sameAt bytes (nameStart t i) name) false ≡ sameName name (take (nameLength t i) (drop (nameStart t i) bytes))
     go true e =
         let q = eqb-true (nameLength t i) (length name) e in
-        same-is bytes (nameStart t i) name (omega arith) ∙ ap (λ (x : ℕ). sameBytes name (take x (drop (nameStart t i) bytes))) (sym q)
+        same-is bytes (nameStart t i) name (omega arith) ∙ ap (λ (x : ℕ). sameName name (take x (drop (nameStart t i) bytes))) (sym q)
     go false e =
-        other (sameBytes name (take (nameLength t i) (drop (nameStart t i) bytes))) (eqb-false (nameLength t i) (length name) e) refl
+        other (sameName name (take (nameLength t i) (drop (nameStart t i) bytes))) (eqb-false (nameLength t i) (length name) e) refl
 
 cond-or : (x y : Bool) → cond x true y ≡ (x || y)
 cond-or true y = refl
@@ -70,7 +78,7 @@ cond-or false y = refl
 
 -- A name is found among the symbols exactly if it is declared.
 found : (bytes t : List ℕ) (c i : ℕ) (name : List ℕ) → ((j : ℕ) → i ≤ j → j < i + c → nameStart t j + nameLength t j ≤ length bytes)
-    → findFrom c bytes t i name ≡ isDeclared name (declarationsFrom bytes t c i)
+    → findFrom c bytes t i name ≡ isDeclared sameName name (declarationsFrom bytes t c i)
 unfolding findFrom isDeclared declarationsFrom declarationAt
 found bytes t zero i name h = refl
 found bytes t (suc c) i name h =
@@ -177,13 +185,13 @@ module _ (bytes t : List ℕ) (k : Counts) (st : Decodes bytes t k) (function : 
   unfolding tableOf
   symbols-length = ap length (declarations-list bytes t (k .symbols) 0) ∙ from-length (declarationAt bytes t) (k .symbols) 0
 
-  is-found : findName bytes t (k .symbols) (take len (drop start bytes)) ≡ isDeclared (take len (drop start bytes))
+  is-found : findName bytes t (k .symbols) (take len (drop start bytes)) ≡ isDeclared sameName (take len (drop start bytes))
       (tableOf bytes t k .symbols)
   unfolding findName tableOf
   is-found = found bytes t (k .symbols) 0 (take len (drop start bytes)) (λ j p q. st .names j (omega arith))
 
   pub declaration-follows : Follows bytes t k (insertDeclaration bytes t k function start len arity)
-      (sheetTakeDeclaration (tableOf bytes t k) declared)
+      (sheetTakeDeclaration sameName (tableOf bytes t k) declared)
   unfolding insertDeclaration sheetTakeDeclaration Agrees Rest
   declaration-follows = rw (symbols-length, ← is-found) (room (leb 256 i) refl)
     where

@@ -9,6 +9,7 @@ use mathlib.Core.Option.{Option, none, some, Option·map}
 use lib.Dec.{ltb, leb}
 use lib.ListN.{length, take, drop, getElem?}
 use borrow.Author.Tests.{le-ltb, lt-ltb, leb-true, leb-false}
+use Rattle.sheet_format.specs.Bytes.{sameName}
 use Rattle.sheet_format.specs.SheetLines.{NodeLine, variableLine, applyLine, trueLine, andLine, orLine, impliesLine, someLine, everyLine}
 use Rattle.sheet_format.specs.SheetLines.{declareLine, nodeLine, clauseLine, goalLine}
 use Rattle.sheet_format.specs.Nodes.{Declaration, Node, nodesAt, nodeOf, map2, applyNode}
@@ -88,31 +89,31 @@ module _ (bytes t : List ℕ) (k : Counts) (st : Decodes bytes t k) where
 
   -- nodes
 
-  pub follows-variable : (v : ℕ) → v < 8 → Follows bytes t k (insertVariable t k v) (takeLine table (some (nodeLine (variableLine v))))
+  pub follows-variable : (v : ℕ) → v < 8 → Follows bytes t k (insertVariable t k v) (takeLine sameName table (some (nodeLine (variableLine v))))
   unfolding insertVariable takeLine nodeOf
   follows-variable v l = room (variableLine v) _ (λ p. variable-added bytes t k st p v l)
 
-  pub follows-true : Follows bytes t k (insertTrue t k) (takeLine table (some (nodeLine trueLine)))
+  pub follows-true : Follows bytes t k (insertTrue t k) (takeLine sameName table (some (nodeLine trueLine)))
   unfolding insertTrue takeLine nodeOf
   follows-true = room trueLine _ (λ p. true-added bytes t k st p)
 
-  pub follows-and : (a b : ℕ) → Follows bytes t k (insertAnd t k a b) (takeLine table (some (nodeLine (andLine a b))))
+  pub follows-and : (a b : ℕ) → Follows bytes t k (insertAnd t k a b) (takeLine sameName table (some (nodeLine (andLine a b))))
   unfolding insertAnd takeLine nodeOf
   follows-and a b = two (andLine a b) 4 a b (andInfo t a b) _ refl (λ p q r. and-added bytes t k st p a b q r)
 
-  pub follows-or : (a b : ℕ) → Follows bytes t k (insertOr t k a b) (takeLine table (some (nodeLine (orLine a b))))
+  pub follows-or : (a b : ℕ) → Follows bytes t k (insertOr t k a b) (takeLine sameName table (some (nodeLine (orLine a b))))
   unfolding insertOr takeLine nodeOf
   follows-or a b = two (orLine a b) 5 a b (orInfo t a b) _ refl (λ p q r. or-added bytes t k st p a b q r)
 
-  pub follows-implies : (a b : ℕ) → Follows bytes t k (insertImplies t k a b) (takeLine table (some (nodeLine (impliesLine a b))))
+  pub follows-implies : (a b : ℕ) → Follows bytes t k (insertImplies t k a b) (takeLine sameName table (some (nodeLine (impliesLine a b))))
   unfolding insertImplies takeLine nodeOf
   follows-implies a b = two (impliesLine a b) 6 a b (impliesInfo t a b) _ refl (λ p q r. implies-added bytes t k st p a b q r)
 
-  pub follows-exists : (v a : ℕ) → v < 8 → Follows bytes t k (insertExists t k v a) (takeLine table (some (nodeLine (someLine v a))))
+  pub follows-exists : (v a : ℕ) → v < 8 → Follows bytes t k (insertExists t k v a) (takeLine sameName table (some (nodeLine (someLine v a))))
   unfolding insertExists takeLine nodeOf
   follows-exists v a l = one (someLine v a) 7 v a (existsInfo t v a) _ refl (λ p q. exists-added bytes t k st p v l a q)
 
-  pub follows-forall : (v a : ℕ) → v < 8 → Follows bytes t k (insertForall t k v a) (takeLine table (some (nodeLine (everyLine v a))))
+  pub follows-forall : (v a : ℕ) → v < 8 → Follows bytes t k (insertForall t k v a) (takeLine sameName table (some (nodeLine (everyLine v a))))
   unfolding insertForall takeLine nodeOf
   follows-forall v a l = one (everyLine v a) 8 v a (forallInfo t v a) _ refl (λ p q. forall-added bytes t k st p v l a q)
 
@@ -131,7 +132,7 @@ module _ (bytes t : List ℕ) (k : Counts) (st : Decodes bytes t k) where
       ∙ from-none (declarationAt bytes t) (k .symbols) 0 f h
 
   pub follows-application : (f count a b c d : ℕ) → count ≤ 4
-      → Follows bytes t k (insertApplication t k f count a b c d) (takeLine table (some (nodeLine (applyLine f (firstOf count a b c d)))))
+      → Follows bytes t k (insertApplication t k f count a b c d) (takeLine sameName table (some (nodeLine (applyLine f (firstOf count a b c d)))))
   unfolding insertApplication takeLine nodeOf map2 sheetAddNode
   follows-application f count a b c d few = room (applyLine f (firstOf count a b c d)) _ (λ p. symbol p (leb (k .symbols) f) refl)
     where
@@ -158,17 +159,17 @@ module _ (bytes t : List ℕ) (k : Counts) (st : Decodes bytes t k) where
 
   -- clauses, the goal, symbols
 
-  pub follows-clause : (n : ℕ) → Follows bytes t k (insertClause t k n) (takeLine table (some (clauseLine n)))
+  pub follows-clause : (n : ℕ) → Follows bytes t k (insertClause t k n) (takeLine sameName table (some (clauseLine n)))
   unfolding takeLine
   follows-clause n = clause-follows bytes t k st n
 
-  pub follows-goal : (n : ℕ) → Follows bytes t k (made t (checkGoal t k n)) (takeLine table (some (goalLine n)))
+  pub follows-goal : (n : ℕ) → Follows bytes t k (made t (checkGoal t k n)) (takeLine sameName table (some (goalLine n)))
   unfolding takeLine
   follows-goal n = goal-follows bytes t k st n
 
   pub follows-declaration : (function : Bool) (start len arity : ℕ) → start + len ≤ length bytes
       → Follows bytes t k (insertDeclaration bytes t k function start len arity)
-      (takeLine table (some (declareLine function (take len (drop start bytes)) arity)))
+      (takeLine sameName table (some (declareLine function (take len (drop start bytes)) arity)))
   unfolding takeLine
   follows-declaration function start len arity h = declaration-follows bytes t k st function start len arity h
 

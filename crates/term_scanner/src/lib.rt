@@ -1,5 +1,6 @@
 // Terms of an answer text, read in place.
 pub mod delimiters;
+pub mod folded_ranges;
 pub mod ranges;
 pub mod symbol_names;
 pub mod tokens;

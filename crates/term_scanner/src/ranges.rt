@@ -18,7 +18,7 @@ pub fn monus(a: usize, b: usize) -> usize
 }
 
 // The position after i. Past the end all positions read as 0, so there it may stay.
-fn position_after(a: &[u8], i: usize) -> usize
+pub fn position_after(a: &[u8], i: usize) -> usize
     ensures { λ r. ⌜ r ≡ cond (ltb i (length (now (a .entry)))) (i + 1) i ⌝ }
 {
     if i < a.len() {

@@ -145,3 +145,35 @@ body-term = refl
 no-body-term : judges "R\tproved\t6\nD\tclause\t1\n" ≡ invalid 2
 unfolding judges
 no-body-term = refl
+
+-- Request W-201: a name may stand in either case, each time in its own. Letters and words of lines are exact, and `_` is not folded.
+abbrev capitals : Sheet
+capitals = record {
+  symbols = record { function = false; name = ascii "Lamp"; arity = 1 } ∷ record { function = true; name = ascii "Strobe_1"; arity = 0 } ∷ [];
+  clauses = each 7 (fact 0 (cons (leaf 7) nil)) ∷ [];
+  goal = atom 0 (cons (leaf 3) nil);
+}
+
+unfoldable tells : String → Judgement
+unfolding computeJudgement ascii
+tells t = computeJudgement capitals (ascii t)
+
+other-case : tells "R\tproved\t3\nB\t3\tSTROBE_1\nD\tclause\t1\tstrobe_1\n" ≡ valid
+unfolding tells
+other-case = refl
+
+other-mark : tells "R\tproved\t3\nB\t3\tSTROBE?1\n" ≡ invalid 2
+unfolding tells
+other-mark = refl
+
+case-of-word : tells "R\tproved\t3\nB\t3\tSTROBE_1\nD\tCLAUSE\t1\tstrobe_1\n" ≡ invalid 3
+unfolding tells
+case-of-word = refl
+
+case-of-outcome : tells "R\tProved\t3\n" ≡ invalid 1
+unfolding tells
+case-of-outcome = refl
+
+case-of-letter : tells "R\tproved\t3\nb\t3\tstrobe_1\n" ≡ invalid 2
+unfolding tells
+case-of-letter = refl

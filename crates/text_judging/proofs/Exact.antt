@@ -1,5 +1,5 @@
 -- Over a sheet with good names, closed clauses and free names below 8, the judgement is exact: valid for the texts of derivations of
--- instances, and otherwise the first line that breaks.
+-- instances, and otherwise the first line that breaks. Here the case of letters counts.
 use Prim.Native.Nat.{ℕ, zero, suc, _+_, _≤_, _<_}
 use mathlib.Core.Path.{_≡_, refl, sym, _∙_, ap, subst}
 use mathlib.Core.Bool.{true}
@@ -19,16 +19,15 @@ use Rattle.sheet_format.proofs.Names.{Names}
 use Rattle.answer_texts.specs.TextLines.{answerLines}
 use Rattle.answer_texts.specs.Numbering.{numberingOf, shown, numbered}
 use Rattle.answer_texts.specs.Spelling.{spell, proofText}
-use Rattle.answer_texts.specs.Spelled.{opening, sequents, Proceeds, Writable, SpellsDerivation, Beginning, unlines, firstLines}
-use Rattle.answer_texts.specs.Spelled.{BreaksAfter}
-use Rattle.text_judging.specs.Judging.{Progress, judgeEnd, judgeFrom, judge}
+use Rattle.answer_texts.specs.Spelled.{opening, sequents, Proceeds, Writable, SpellsAsDeclared, unlines, firstLines}
+use Rattle.text_judging.specs.Judging.{Progress, judgeEnd, judgeFrom, judgeExactly}
 use Rattle.answer_texts.specs.Judgements.{Judgement, valid, invalid}
-use Rattle.text_judging.specs.Promises.{Exact}
 use Rattle.answer_texts.proofs.Splitting.{linesOf-split}
 use Rattle.text_judging.proofs.Reading.{lineBytes, spell-unlines, linesOf-spell}
+use Rattle.text_judging.proofs.SmallLines.{all-take}
 use Rattle.text_judging.proofs.Numbering.{shows-numbered, numbered-shows}
 use Rattle.text_judging.proofs.Stages.{InstanceLines, proceeds-instance, instance-proceeds}
-use Rattle.text_judging.proofs.Judge.{start, Passed, passed-append, passed-judges, judges-valid, judges-invalid, judges-stop}
+use Rattle.text_judging.proofs.Judge.{start, BeginsExactly, BreaksExactly, Passed, passed-append, passed-judges, judges-valid, judges-invalid, judges-stop}
 use Rattle.text_judging.proofs.Judge.{passed-beginning, beginning-passed}
 
 -- Where l stands after the first n elements, the first n + 1 elements end with l.
@@ -39,17 +38,11 @@ next-taken zero (a ∷ ls) l ms h = (omega arith, ap (_∷ []) (let q : a ≡ l 
 next-taken (suc n) [] l ms h = absurd (let z : _≡_ {A = ℕ} 0 1 = cc in omega arith)
 next-taken (suc n) (a ∷ ls) l ms h = let r = next-taken n ls l ms h in (omega (arith, r .0), ap (a ∷_) (r .1))
 
--- What holds of all elements of a list holds of its first n elements.
-all-take : {A : Type 0} (P : A → Type 0) (n : ℕ) (l : List A) → All P l → All P (take n l)
-all-take P zero l h = tt
-all-take P (suc n) [] h = tt
-all-take P (suc n) (a ∷ l) h = (h .0, all-take P n l (h .1))
-
 module _ (s : Sheet) (names : Names (s .symbols)) (closed : All Closed (s .clauses)) (small : (v : ℕ) → freeG (s .goal) v ≡ true
     → v < variableNames) where
   -- A valid text spells a derivation.
-  valid-spells : (text : List ℕ) → judge s text ≡ valid → SpellsDerivation s text
-  unfolding judge proofText
+  pub valid-spells : (text : List ℕ) → judgeExactly s text ≡ valid → SpellsAsDeclared s text
+  unfolding judgeExactly proofText
   valid-spells text h =
       let r = judges-valid s names (linesOf text .whole) (linesOf text .rest) 1 start h in
       let xs = r .1 .textLines in
@@ -68,8 +61,8 @@ module _ (s : Sheet) (names : Names (s .symbols)) (closed : All Closed (s .claus
       }
 
   -- A text that spells a derivation is valid.
-  spells-valid : (text : List ℕ) → SpellsDerivation s text → judge s text ≡ valid
-  unfolding judge judgeFrom judgeEnd proofText numbered
+  pub spells-valid : (text : List ℕ) → SpellsAsDeclared s text → judgeExactly s text ≡ valid
+  unfolding judgeExactly judgeFrom judgeEnd proofText numbered
   spells-valid text h =
       let xs = answerLines (h .units) (freeVariables (s .goal)) (h .environment) (lines (h .proof .derivation)) in
       let u = numbered-shows xs in
@@ -95,10 +88,10 @@ module _ (s : Sheet) (names : Names (s .symbols)) (closed : All Closed (s .claus
       ∙ ap (λ (l : List (List ℕ)). judgeFrom s l [] 1 start) (sym (append-nil ls)) ∙ passed-judges s names ls [] [] 1 start q p
 
   -- After first lines that are a beginning, the judgement goes on with the other lines.
-  first-judged : (text : List ℕ) (n : ℕ) → n ≤ length (linesOf text .whole) → Beginning s (firstLines n text)
+  first-judged : (text : List ℕ) (n : ℕ) → n ≤ length (linesOf text .whole) → BeginsExactly s (firstLines n text)
       → (q : Progress) × Passed s (take n (linesOf text .whole)) start q
-      × (judge s text ≡ judgeFrom s (drop n (linesOf text .whole)) (linesOf text .rest) (suc n) q)
-  unfolding judge firstLines
+      × (judgeExactly s text ≡ judgeFrom s (drop n (linesOf text .whole)) (linesOf text .rest) (suc n) q)
+  unfolding judgeExactly firstLines
   first-judged text n l b =
       let ls = linesOf text .whole in
       let r = beginning-passed s names (take n ls) (all-take (Without lf) n ls (linesOf-split text .whole)) b in (
@@ -111,8 +104,8 @@ module _ (s : Sheet) (names : Names (s .symbols)) (closed : All Closed (s .claus
       )
 
   -- The line that is named breaks, and the text spells no derivation.
-  named-breaks : (text : List ℕ) (n : ℕ) → judge s text ≡ invalid (suc n) → BreaksAfter s text n × (SpellsDerivation s text → ⊥)
-  unfolding judge firstLines
+  pub named-breaks : (text : List ℕ) (n : ℕ) → judgeExactly s text ≡ invalid (suc n) → BreaksExactly s text n × (SpellsAsDeclared s text → ⊥)
+  unfolding judgeExactly firstLines
   named-breaks text n h =
       let ls = linesOf text .whole in
       let r = judges-invalid s names ls (linesOf text .rest) 1 (suc n) start h in
@@ -129,7 +122,7 @@ module _ (s : Sheet) (names : Names (s .symbols)) (closed : All Closed (s .claus
       )
 
   -- A line that breaks is named, if the text spells no derivation.
-  breaks-named : (text : List ℕ) (n : ℕ) → BreaksAfter s text n × (SpellsDerivation s text → ⊥) → judge s text ≡ invalid (suc n)
+  pub breaks-named : (text : List ℕ) (n : ℕ) → BreaksExactly s text n × (SpellsAsDeclared s text → ⊥) → judgeExactly s text ≡ invalid (suc n)
   unfolding firstLines
   breaks-named text n h =
       r .2 ∙ judges-stop s names (drop n ls) (linesOf text .rest) (suc n) (r .0) next (λ v. h .1 (valid-spells text (r .2 ∙ v)))
@@ -137,7 +130,7 @@ module _ (s : Sheet) (names : Names (s .symbols)) (closed : All Closed (s .claus
       ls : List (List ℕ)
       ls = linesOf text .whole
 
-      r : (q : Progress) × Passed s (take n ls) start q × (judge s text ≡ judgeFrom s (drop n ls) (linesOf text .rest) (suc n) q)
+      r : (q : Progress) × Passed s (take n ls) start q × (judgeExactly s text ≡ judgeFrom s (drop n ls) (linesOf text .rest) (suc n) q)
       r = first-judged text n (h .0 .there) (h .0 .before)
 
       -- No next line passes.
@@ -149,21 +142,13 @@ module _ (s : Sheet) (names : Names (s .symbols)) (closed : All Closed (s .claus
           (subst (λ (ks : List (List ℕ)). Passed s ks start q) (sym (d .1)) passed))
 
   -- A text that spells no derivation has a line that breaks.
-  spells-or-breaks : (text : List ℕ) → (SpellsDerivation s text → ⊥) → (n : ℕ) × BreaksAfter s text n × (judge s text ≡ invalid (suc n))
-  unfolding judge
-  spells-or-breaks text h = go (judge s text) refl
+  pub spells-or-breaks : (text : List ℕ) → (SpellsAsDeclared s text → ⊥) → (n : ℕ) × BreaksExactly s text n × (judgeExactly s text ≡ invalid (suc n))
+  unfolding judgeExactly
+  spells-or-breaks text h = go (judgeExactly s text) refl
     where
-      go : (j : Judgement) → judge s text ≡ j → (n : ℕ) × BreaksAfter s text n × (judge s text ≡ invalid (suc n))
+      go : (j : Judgement) → judgeExactly s text ≡ j → (n : ℕ) × BreaksExactly s text n × (judgeExactly s text ≡ invalid (suc n))
       go valid e = absurd (h (valid-spells text e))
       go (invalid k) e =
           let r = judges-invalid s names (linesOf text .whole) (linesOf text .rest) 1 k start e in
           let q : k ≡ suc (r .number) = omega (arith, r .named) in
           (r .number, named-breaks text (r .number) (e ∙ ap invalid q) .0, e ∙ ap invalid q)
-
-  -- The judgement of a text is exact.
-  pub exact : (text : List ℕ) → Exact s text
-  exact text = record {
-    accepts = (valid-spells text, spells-valid text);
-    breaks = λ n. (named-breaks text n, breaks-named text n);
-    broken = spells-or-breaks text;
-  }

@@ -15,7 +15,7 @@ use Rattle.sheet_format.proofs.Names.{Names}
 use Rattle.answer_texts.specs.TextLines.{TextLine, termsOf}
 use Rattle.answer_texts.specs.Numbering.{symbolsOf, shown}
 use Rattle.answer_texts.specs.Spelling.{join}
-use Rattle.answer_texts.specs.Spelled.{Stage, opening, bindings, sequents, Proceeds, Writable, Beginning, unlines}
+use Rattle.answer_texts.specs.Spelled.{Stage, opening, bindings, sequents, Proceeds, Writable, BeginsBy, BreaksBy, unlines}
 use Rattle.text_judging.specs.Reading.{readLine}
 use Rattle.text_judging.specs.Judging.{Seen, showSymbols, allow, Progress, progress, judgeRead, judgeLine}
 use Rattle.answer_texts.specs.Judgements.{Judgement, valid, invalid}
@@ -67,6 +67,13 @@ progress-parts none u q h = nothing q h
 progress-parts (some a) none q h = nothing q h
 progress-parts (some a) (some u) q h =
     let e : record { stage = a; seen = u } ≡ q = cc in (ap (λ (p : Progress). some (p .stage)) e, ap (λ (p : Progress). some (p .seen)) e)
+
+-- The bytes are a beginning, and a line breaks, where the case of letters counts.
+abbrev pub BeginsExactly : Sheet → List ℕ → Type 0
+BeginsExactly s bytes = BeginsBy (λ a b. a ≡ b) s bytes
+
+abbrev pub BreaksExactly : Sheet → List ℕ → ℕ → Type 0
+BreaksExactly s text n = BreaksBy (λ a b. a ≡ b) s text n
 
 -- Text lines that the bytes ls spell lead from one progress to another.
 pub record Passed (s : Sheet) (ls : List (List ℕ)) (p q : Progress) : Type 0 where
@@ -250,7 +257,7 @@ module _ (s : Sheet) (names : Names (s .symbols)) where
   -- beginnings
 
   -- Lines that pass from the start are a beginning.
-  pub passed-beginning : (ls : List (List ℕ)) (q : Progress) → Passed s ls start q → Beginning s (unlines ls)
+  pub passed-beginning : (ls : List (List ℕ)) (q : Progress) → Passed s ls start q → BeginsExactly s (unlines ls)
   passed-beginning ls q h = record {
     textLines = h .textLines;
     stage = q .stage;
@@ -261,7 +268,7 @@ module _ (s : Sheet) (names : Names (s .symbols)) where
   }
 
   -- The lines of a beginning pass from the start.
-  pub beginning-passed : (ls : List (List ℕ)) → All (Without lf) ls → Beginning s (unlines ls) → (q : Progress) × Passed s ls start q
+  pub beginning-passed : (ls : List (List ℕ)) → All (Without lf) ls → BeginsExactly s (unlines ls) → (q : Progress) × Passed s ls start q
   beginning-passed ls e b =
       let r = numbered-shows (b .textLines) in (
         record { stage = b .stage; seen = r .0 },

@@ -9,5 +9,8 @@ pub mod Showings
 pub mod Numbering
 pub mod Stages
 pub mod Judge
+pub mod SmallLines
 pub mod Exact
+pub mod Capitals
+pub mod UpToCase
 pub mod Promises

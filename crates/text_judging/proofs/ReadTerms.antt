@@ -13,7 +13,7 @@ use Rattle.terms.specs.Terms.{leaf, app, Terms, nil, cons, count}
 use Rattle.terms.proofs.Lists.{all-append}
 use Rattle.sequents.specs.Symbols.{Symbol, made, leftover, Ground}
 use Rattle.sheet_format.specs.Limits.{maxNumber}
-use Rattle.sheet_format.specs.Bytes.{isDigit, isLetter, isNameByte, isName, decimal}
+use Rattle.sheet_format.specs.Bytes.{isDigit, isSmall, isCapital, isLetter, isNameByte, isName, decimal}
 use Rattle.sheet_format.specs.Nodes.{Declaration}
 use Rattle.sheet_format.proofs.Options.{OnSome, some-weaken}
 use Rattle.sheet_format.proofs.Bytes.{Graphic, letter-bounds, name-nonempty, name-length, name-letter, name-kinds, name-is-graphic}
@@ -46,7 +46,7 @@ read-name : (ds : List Declaration) (b r : List ℕ) (f : ℕ) → isName b ≡ 
 read-name ds [] r f h s = absurd (name-nonempty h)
 read-name ds (c ∷ cs) r f h s =
     let l = letter-bounds c (name-letter c cs h) in
-    readTerm-name f ds c (cs ++ r) (ne-eqb c 33 (λ e. omega arith)) (ne-eqb c 95 (λ e. omega arith))
+    readTerm-name f ds c (cs ++ r) (ne-eqb c 33 (λ e. omega arith)) (ne-eqb c 95 (l .2))
     ∙ ap (λ (x : Span). readApplication (readTerm f ds) (findName 0 ds (x .taken)) (x .rest))
     (span-append isNameByte (c ∷ cs) r (name-kinds (c ∷ cs) h) s)
 
@@ -72,13 +72,13 @@ read-application ds g ts a f r ns d s h =
 -- The spelling of arguments does not begin with a byte of a name, if what follows it does not.
 stops-arguments : (ts : Terms Symbol) (ds : List Declaration) (r : List ℕ) → Stops isNameByte r
     → Stops isNameByte (spellArguments ts ds ++ r)
-unfolding spellArguments isNameByte isLetter isDigit
+unfolding spellArguments isNameByte isLetter isSmall isCapital isDigit
 stops-arguments nil ds r h = h
 stops-arguments (cons t ts) ds r h = refl
 
 -- What stands after an argument does not begin with a byte of a name.
 stops-more : (ts : Terms Symbol) (ds : List Declaration) (r : List ℕ) → Stops isNameByte (spellMore ts ds ++ r)
-unfolding spellMore isNameByte isLetter isDigit
+unfolding spellMore isNameByte isLetter isSmall isCapital isDigit
 stops-more nil ds r = refl
 stops-more (cons t ts) ds r = refl
 

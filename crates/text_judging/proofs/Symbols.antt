@@ -13,7 +13,7 @@ use native.Mathlib.Omega.{arith}
 use Rattle.terms.specs.Terms.{leaf}
 use Rattle.sequents.specs.Symbols.{Symbol, Ground}
 use Rattle.sheet_format.specs.Limits.{maxNumber}
-use Rattle.sheet_format.specs.Bytes.{isDigit, number, decimal, sameBytes}
+use Rattle.sheet_format.specs.Bytes.{isDigit, number, decimal, sameBytes, foldedName}
 use Rattle.sheet_format.specs.Nodes.{Declaration}
 use Rattle.sheet_format.proofs.Options.{OnSome, cond-some, some-weaken}
 use Rattle.sheet_format.proofs.Bytes.{same-refl, same-equal}
@@ -109,7 +109,7 @@ find-from (e ∷ ds) k (suc g) d ns h f = go (sameBytes (d .name) (e .name)) ref
     go : (b : Bool) → sameBytes (d .name) (e .name) ≡ b
         → findName (suc k) ds (d .name) ≡ some (record { symbol = suc k + g; arity = d .arity })
         → findName k (e ∷ ds) (d .name) ≡ some (record { symbol = k + suc g; arity = d .arity })
-    go true q ih = absurd (let z = ns .distinct (suc g) 0 d e h refl (same-equal (d .name) (e .name) q) in omega arith)
+    go true q ih = absurd (let z = ns .distinct (suc g) 0 d e h refl (ap foldedName (same-equal (d .name) (e .name) q)) in omega arith)
     go false q ih = rw (q, findName) (ih ∙ ap (λ (x : ℕ). some (record { symbol = x; arity = d .arity })) s)
 
 -- The name of a function symbol is found at that symbol, from the first symbol on.

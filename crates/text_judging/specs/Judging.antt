@@ -19,6 +19,7 @@ use Rattle.sheet_format.specs.Sheets.{Sheet}
 use Rattle.answer_texts.specs.TextLines.{TextLine, resultLine, bindingLine, derivationLine, termsOf}
 use Rattle.answer_texts.specs.Numbering.{symbolsOf, sameSymbol}
 use Rattle.answer_texts.specs.Spelled.{Stage, opening, bindings, sequents, boundStage, blank}
+use Rattle.answer_texts.specs.Capitals.{smallSheet, smallText}
 use Rattle.answer_texts.specs.Judgements.{Judgement, valid, invalid}
 use Rattle.text_judging.specs.Reading.{readLine}
 
@@ -163,7 +164,12 @@ unfoldable pub judgeFrom : Sheet → List (List ℕ) → List ℕ → ℕ → Pr
 judgeFrom s [] r k p = judgeEnd (p .stage) r k
 judgeFrom s (l ∷ ls) r k p = elim (judgeLine s l p) [ none ↦ invalid k | some q ↦ judgeFrom s ls r (suc k) q ]
 
-unfoldable pub judge : Sheet → List ℕ → Judgement
-judge s text =
+-- The judgement where the case of letters counts.
+unfoldable pub judgeExactly : Sheet → List ℕ → Judgement
+judgeExactly s text =
     let l = linesOf text in
     judgeFrom s (l .whole) (l .rest) 1 (record { stage = opening; seen = record { ofMade = []; ofLeftover = [] } })
+
+-- Request W-201: names are compared folded.
+unfoldable pub judge : Sheet → List ℕ → Judgement
+judge s text = judgeExactly (smallSheet s) (smallText text)

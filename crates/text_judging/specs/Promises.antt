@@ -4,10 +4,14 @@ use Prim.Native.Nat.{ℕ, suc}
 use mathlib.Core.Path.{_≡_}
 use mathlib.Core.List.{List}
 use mathlib.Core.Logic.{_↔_}
+use Rattle.terms.specs.Lists.{All}
 use Rattle.sheet_format.specs.Sheets.{Sheet, sheet, readSheet}
-use Rattle.answer_texts.specs.Spelled.{SpellsDerivation, BreaksAfter}
+use Rattle.answer_texts.specs.TextLines.{TextLine}
+use Rattle.answer_texts.specs.Spelling.{spell}
+use Rattle.answer_texts.specs.Capitals.{smallText, smallNames, smallSheet}
+use Rattle.answer_texts.specs.Spelled.{Writable, SpellsDerivation, BreaksAfter}
 use Rattle.answer_texts.specs.Judgements.{valid, invalid}
-use Rattle.text_judging.specs.Judging.{judge}
+use Rattle.text_judging.specs.Judging.{judgeExactly, judge}
 
 -- T6: valid exactly if the text spells a derivation of an instance, and otherwise the first line that breaks.
 pub record Exact (s : Sheet) (text : List ℕ) : Type 0 where
@@ -18,3 +22,12 @@ pub record Exact (s : Sheet) (text : List ℕ) : Type 0 where
 
 abbrev pub CheckerExact : Type 0
 CheckerExact = (bytes : List ℕ) (s : Sheet) → readSheet bytes ≡ sheet s → (text : List ℕ) → Exact s text
+
+-- Request W-201: what makes texts the same up to case is folding, and it folds the names and nothing else.
+abbrev pub FoldsNames : Type 0
+FoldsNames = (bytes : List ℕ) (s : Sheet) → readSheet bytes ≡ sheet s → (xs : List TextLine) → All (Writable (s .symbols)) xs
+    → smallText (spell (s .symbols) xs) ≡ spell (smallNames (s .symbols)) xs
+
+-- Request W-201: over a sheet with small names, a text with small names is judged as before.
+abbrev pub JudgesAsBefore : Type 0
+JudgesAsBefore = (s : Sheet) (text : List ℕ) → smallSheet s ≡ s → smallText text ≡ text → judge s text ≡ judgeExactly s text

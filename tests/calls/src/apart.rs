@@ -1,17 +1,18 @@
-//! Whether a program is told from the independent implementation: by the generated calls, by the stored cases, and by
-//! the proofs that it writes.
+//! Whether a program is told from the independent implementation: by the generated calls, by the stored cases and
+//! texts, and by the proofs that it writes.
 //!
 //! It is told apart by the first call after which anything differs: the code returned, the numbers handed back, the
 //! text, or a number of any buffer.
 
 use std::env;
 
+use reference::api::work_demanded;
 use reference::limits::{TABLE_NUMBERS, TEXT_BYTES, WORK_NUMBERS};
 use reference::{answer, check, interface, Outcome, Verdict};
 
-use crate::generate::{checks, runs, sheet, RunCall};
+use crate::generate::{checks, runs, sheet, CheckCall, RunCall};
 use crate::perform::{After, Check, Run};
-use crate::stored::cases;
+use crate::stored::{cases, stored_checks, StoredCheck};
 
 /// The units with which a sheet is tried outside the generated calls.
 const BUDGET: u32 = 2_000;
@@ -38,6 +39,22 @@ pub fn by_cases(run: &impl Run) -> Option<String> {
     let differs = |sheet: Vec<u8>| tried(run, &sheet) != tried(&interface::run, &sheet);
     let mut cases = cases().into_iter();
     cases.find_map(|(name, sheet)| differs(sheet).then_some(name))
+}
+
+/// The first stored text that tells the checker apart.
+pub fn by_texts(check: &impl Check) -> Option<String> {
+    let differs = |case: &StoredCheck| {
+        let call = CheckCall {
+            sheet: case.sheet.clone(),
+            text: case.text.clone(),
+            table: TABLE_NUMBERS,
+            work: work_demanded(&case.text),
+            result: 3,
+            dirt: 0,
+        };
+        call.perform(check) != call.perform(interface::check)
+    };
+    stored_checks().into_iter().find(differs).map(|case| case.name)
 }
 
 /// How many proofs the engine writes for sheets that are told no. Such a sheet has no derivation, so the checker must
@@ -84,6 +101,7 @@ pub fn report(run: impl Run, check: impl Check) {
             "runs" => by_runs(&run, seeds).map(seed),
             "checks" => by_checks(&check, seeds).map(seed),
             "cases" => by_cases(&run),
+            "texts" => by_texts(&check),
             "proofs" => Some(false_proofs(&run))
                 .filter(|&count| count > 0)
                 .map(|count| count.to_string()),

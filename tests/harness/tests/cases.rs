@@ -1,6 +1,6 @@
 //! The stored cases and the rehearsed sheets of document 01, through the Rust bindings.
 
-use calls::stored::{cases, stored};
+use calls::stored::{cases, stored, stored_checks};
 use rules::{check, run, Outcome, Refusal, Run, Verdict};
 
 /// A run with buffers that are as long as they must be.
@@ -36,6 +36,20 @@ fn stored_cases() {
                 Outcome::Refused(_) => {}
             }
         }
+    }
+}
+
+#[test]
+fn stored_texts() {
+    let checks = stored_checks();
+    assert!(checks.len() > 20);
+    for case in checks {
+        let printed = match verdict(&case.sheet, &case.text) {
+            Verdict::Valid => "valid\n".to_string(),
+            Verdict::NotValid(line) => format!("not valid\t{line}\n"),
+            Verdict::Refused(Refusal { number, line }) => format!("X\t{number}\t{line}\n"),
+        };
+        assert_eq!(printed.as_bytes(), case.verdict, "{}", case.name);
     }
 }
 

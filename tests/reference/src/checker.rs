@@ -6,7 +6,7 @@
 use std::collections::HashMap;
 use std::rc::Rc;
 
-use crate::field::{fields, is_name_byte, lines, number, Line};
+use crate::field::{fields, is_name_byte, lines, number, same_name, Line};
 use crate::formula::{Member, Members, Node, Shape};
 use crate::limits::LARGEST_BUDGET;
 use crate::list::List;
@@ -366,10 +366,10 @@ impl<'a> Checker<'a> {
         }))
     }
 
-    /// The function symbol of that name; predicates are no terms.
+    /// The function symbol of that name, in any mix of cases (W-201); predicates are no terms.
     fn function(&self, name: &[u8]) -> Option<usize> {
         let mut symbols = self.sheet.symbols.iter();
-        symbols.position(|symbol| symbol.name == name && !symbol.predicate)
+        symbols.position(|symbol| same_name(&symbol.name, name) && !symbol.predicate)
     }
 }
 

@@ -41,13 +41,26 @@ pub fn number(field: &[u8]) -> Option<u32> {
     (value <= LARGEST_NUMBER).then_some(value)
 }
 
-/// "Names are 1 to 16 of a to z, 0 to 9 and `_`, a letter first."
+/// "Names are 1 to 16 of a to z, 0 to 9 and `_`, a letter first", and since W-201 they "may now hold A to Z".
 pub fn is_name(field: &[u8]) -> bool {
     (1..=NAME_BYTES).contains(&field.len())
-        && field[0].is_ascii_lowercase()
+        && field[0].is_ascii_alphabetic()
         && field.iter().all(|&byte| is_name_byte(byte))
 }
 
 pub fn is_name_byte(byte: u8) -> bool {
-    byte.is_ascii_lowercase() || byte.is_ascii_digit() || byte == b'_'
+    byte.is_ascii_alphabetic() || byte.is_ascii_digit() || byte == b'_'
+}
+
+/// W-201: "two names are equal if they differ only in the case of those letters".
+pub fn same_name(left: &[u8], right: &[u8]) -> bool {
+    left.iter().map(small).eq(right.iter().map(small))
+}
+
+/// A capital letter as the small one; any other byte as it is.
+fn small(byte: &u8) -> u8 {
+    match byte {
+        b'A'..=b'Z' => byte - b'A' + b'a',
+        _ => *byte,
+    }
 }

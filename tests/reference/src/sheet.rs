@@ -2,7 +2,7 @@
 
 use std::rc::Rc;
 
-use crate::field::{fields, is_name, lines, number};
+use crate::field::{fields, is_name, lines, number, same_name};
 use crate::formula::{members, Members, Node, Shape, Symbol, VariableSet};
 use crate::limits::{CLAUSES, LARGEST_ARITY, NODES, SYMBOLS, VARIABLES};
 use crate::refusal::Refusal;
@@ -122,7 +122,7 @@ impl Reader {
         if self.symbols.len() == SYMBOLS {
             return Err(7);
         }
-        if self.symbols.iter().any(|symbol| symbol.name == name) {
+        if self.symbols.iter().any(|symbol| same_name(&symbol.name, name)) {
             return Err(8);
         }
         self.symbols.push(Symbol {

@@ -131,6 +131,7 @@ impl Writer<'_> {
         self.put(format!("!{number}@{}", constant.level).as_bytes())
     }
 
+    /// W-201: names "are written as declared".
     fn name(&mut self, node: &Rc<Node>) -> Result<(), TooLong> {
         let sheet = self.sheet;
         let symbol = node.symbol().expect("an application has a symbol");

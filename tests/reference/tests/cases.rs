@@ -1,6 +1,7 @@
-//! The stored cases: the runner's output and the text with 50,000 units, byte for byte; the checker on these texts.
+//! The stored cases: the runner's output and the text with 50,000 units, byte for byte; the checker on these texts and
+//! on the stored ones.
 
-use calls::stored::{cases, stored};
+use calls::stored::{cases, stored, stored_checks};
 use reference::{answer, check, runner, Outcome, Verdict};
 
 #[test]
@@ -31,5 +32,19 @@ fn largest_budget() {
                 assert!((1..=50_000).contains(&units));
             }
         }
+    }
+}
+
+#[test]
+fn checker_output() {
+    let checks = stored_checks();
+    assert!(checks.len() > 20);
+    for case in checks {
+        let printed = match check(&case.sheet, &case.text) {
+            Verdict::Valid => "valid\n".to_string(),
+            Verdict::Invalid(line) => format!("not valid\t{line}\n"),
+            Verdict::Refused(refusal) => format!("X\t{}\t{}\n", refusal.number, refusal.line),
+        };
+        assert_eq!(printed.as_bytes(), case.verdict, "{}", case.name);
     }
 }

@@ -2,9 +2,9 @@
 
 mod common;
 
-use std::collections::BTreeMap;
+use std::collections::{BTreeMap, BTreeSet};
 
-use calls::generate::{checks, damaged, sheet};
+use calls::generate::{changed_case, checks, damaged, respelled_text, sheet};
 use calls::random::Random;
 use common::naive::Judge;
 use reference::{answer, check, check_text, engine_run, Outcome, Refusal, Verdict};
@@ -126,6 +126,77 @@ fn budgets_are_monotone() {
             }
         }
     }
+}
+
+/// W-201: a third of the sheets have capitals in their names, some of these declare a name again, and the engine writes
+/// names as declared.
+#[test]
+fn capitals_occur() {
+    let (mut small, mut capital, mut again, mut written) = (0, 0, 0, 0);
+    for seed in 0..SHEETS {
+        let (family, sheet) = sheet(seed);
+        let lines = sheet.split(|&byte| byte == b'\n');
+        let names: Vec<&[u8]> = lines
+            .filter_map(|line| line.strip_prefix(b"F\t").or(line.strip_prefix(b"P\t")))
+            .map(|line| line.split(|&byte| byte == b'\t').next().unwrap_or(line))
+            .collect();
+        if !names.iter().any(|name| name.iter().any(u8::is_ascii_uppercase)) {
+            small += 1;
+            continue;
+        }
+        capital += 1;
+        let (outcome, _, text) = answer(&sheet, budget(seed), 65_535);
+        let folded: BTreeSet<Vec<u8>> = names.iter().map(|name| name.to_ascii_lowercase()).collect();
+        let exact: BTreeSet<&[u8]> = names.iter().copied().collect();
+        if folded.len() < exact.len() {
+            again += 1;
+            let refused = matches!(outcome, Outcome::Refused(Refusal { number: 1..=11, .. }));
+            assert!(refused, "seed {seed}, {family:?}");
+        }
+        let terms = text
+            .split(|&byte| byte == b'\n')
+            .filter(|line| line.starts_with(b"B\t"));
+        for term in terms.filter_map(|line| line.get(4..)) {
+            let in_term = |byte: &u8| byte.is_ascii_alphanumeric() || b"_!@".contains(byte);
+            for name in term.split(|byte| !in_term(byte)).filter(|name| !name.is_empty()) {
+                let symbol = b"_!".contains(&name[0]);
+                assert!(symbol || exact.contains(name), "seed {seed}, {family:?}");
+                written += usize::from(!symbol && name.iter().any(u8::is_ascii_uppercase));
+            }
+        }
+    }
+    println!(
+        "{small} sheets in small letters, {capital} with capitals, {again} with a name again; {written} names written"
+    );
+    assert!(small > SHEETS / 2 && capital > SHEETS / 5 && again > 20 && written > 100);
+}
+
+/// W-201: a proof with its names in any mix of cases is valid, and a letter or word in another case breaks its line.
+#[test]
+fn respelled_texts() {
+    let mut respelled = 0;
+    for seed in 0..SHEETS {
+        let (family, sheet) = sheet(seed);
+        let (Outcome::Proved, _, text) = answer(&sheet, budget(seed), 65_535) else {
+            continue;
+        };
+        let mut random = Random::new(seed ^ 0xCA5E);
+        let changed = respelled_text(&text, &mut random);
+        assert_eq!(check(&sheet, &changed), Verdict::Valid, "seed {seed}, {family:?}");
+        respelled += usize::from(changed != text);
+        let changed = changed_case(&text, &mut random);
+        let place = (0..text.len())
+            .find(|&place| text[place] != changed[place])
+            .expect("a change");
+        let line = 1 + text[..place].iter().filter(|&&byte| byte == b'\n').count() as u32;
+        assert_eq!(
+            check(&sheet, &changed),
+            Verdict::Invalid(line),
+            "seed {seed}, {family:?}"
+        );
+    }
+    println!("{respelled} texts respelled");
+    assert!(respelled > 500);
 }
 
 fn dirty(random: &mut Random, numbers: usize) -> Vec<u32> {

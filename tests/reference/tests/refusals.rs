@@ -256,7 +256,7 @@ fn numbers() {
 
 #[test]
 fn names() {
-    for name in ",A,aB,_a,1a,a-b,a.b,abcdefghijklmnopq,\u{e9},a\u{e9},!,a b".split(',') {
+    for name in ",_a,1a,a-b,a.b,abcdefghijklmnopq,\u{e9},a\u{e9},!,a b".split(',') {
         is(format!("F\t{name}\t0\n").as_bytes(), 6, 1);
         is(format!("P\t{name}\t0\n").as_bytes(), 6, 1);
     }

@@ -10,14 +10,14 @@ use borrow.Author.Tests.{eq-eqb, ne-eqb, le-leb, lt-leb}
 use Rattle.node_table.specs.Layout.{nameStart}
 use Rattle.scanning.specs.declared.Reach.{Reach}
 use Rattle.scanning.specs.declared.Reach.the-variants.{To, Differs}
-use Rattle.scanning.specs.Ranges.{sameRange}
+use Rattle.scanning.specs.Ranges.{sameFolded}
 use Rattle.scanning.specs.Scanning.{nameSize}
 use Rattle.scanning.specs.Frames.{slotStart, slotEnd}
 use Rattle.scanning.specs.Instances.{sameSlots, matchRange, matchName, matchSlot, matchInstance, endsAt, isInstance}
 
 -- terms of the text
 
-pub slots-same : (x : List ℕ) (s e i j n m : ℕ) (z : Bool) → (s ≡ i → ⊥) → n ≡ e - s → m ≡ j - i → n ≡ m → z ≡ sameRange n x s x i
+pub slots-same : (x : List ℕ) (s e i j n m : ℕ) (z : Bool) → (s ≡ i → ⊥) → n ≡ e - s → m ≡ j - i → n ≡ m → z ≡ sameFolded n x s x i
     → z ≡ sameSlots x s e i j
 unfolding sameSlots
 slots-same x s e i j n m z d p q h k = rw (ne-eqb s i d, ← p, ← q, eq-eqb n m h) k
@@ -28,12 +28,12 @@ slots-other x s e i j n m d p q h = rw (ne-eqb s i d, ← p, ← q, ne-eqb n m h
 
 -- ranges
 
-pub range-there : (n : ℕ) (a : List ℕ) (s : ℕ) (x : List ℕ) (i l : ℕ) (z : Bool) → l ≡ length x - i → n ≤ l → z ≡ sameRange n a s x i
+pub range-there : (n : ℕ) (a : List ℕ) (s : ℕ) (x : List ℕ) (i l : ℕ) (z : Bool) → l ≡ length x - i → n ≤ l → z ≡ sameFolded n a s x i
     → z ≡ true → To (i + n) ≡ matchRange n a s x i
 unfolding matchRange
 range-there n a s x i l z e h p q = rw (← e, le-leb n l h, ← p, q)
 
-pub range-differs : (n : ℕ) (a : List ℕ) (s : ℕ) (x : List ℕ) (i l : ℕ) (z : Bool) → l ≡ length x - i → n ≤ l → z ≡ sameRange n a s x i
+pub range-differs : (n : ℕ) (a : List ℕ) (s : ℕ) (x : List ℕ) (i l : ℕ) (z : Bool) → l ≡ length x - i → n ≤ l → z ≡ sameFolded n a s x i
     → z ≡ false → Differs ≡ matchRange n a s x i
 unfolding matchRange
 range-differs n a s x i l z e h p q = rw (← e, le-leb n l h, ← p, q)

@@ -14,7 +14,7 @@ use borrow.Author.Tests.{eq-eqb, ne-eqb, eqb-true, eqb-false, ltb-true, ltb-fals
 use Rattle.node_table.specs.Layout.{kindOf, labelOf, variableKind}
 use Rattle.scanning.specs.declared.Reach.{Reach}
 use Rattle.scanning.specs.declared.Reach.the-variants.{To, Differs}
-use Rattle.scanning.specs.Ranges.{sameRange}
+use Rattle.scanning.specs.Ranges.{sameFolded}
 use Rattle.scanning.specs.Instances.{matchRange, matchName, matchSlot, argumentCount, argumentOf, matchMore, matchArguments}
 use Rattle.scanning.specs.Instances.{matchApplication, matchInstance}
 use Rattle.instances.specs.OpenNodes.{opensOf, matchHead, markBefore, matchChildren}
@@ -40,7 +40,7 @@ onward-end Differs = refl
 
 range-forward : (n : ℕ) (a : List ℕ) (s : ℕ) (x : List ℕ) (i e : ℕ) → matchRange n a s x i ≡ To e → i ≤ e
 unfolding matchRange
-range-forward n a s x i e h = go (leb n (length x - i)) (sameRange n a s x i) h
+range-forward n a s x i e h = go (leb n (length x - i)) (sameFolded n a s x i) h
   where
     go : (y z : Bool) → cond y (cond z (To (i + n)) Differs) Differs ≡ To e → i ≤ e
     go true true k = let q : i + n ≡ e = cc in omega arith

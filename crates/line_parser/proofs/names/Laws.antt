@@ -7,41 +7,111 @@ use mathlib.Core.Bool.{Bool, true, false, _&&_}
 use mathlib.Core.Path.{_≡_, refl}
 use mathlib.Core.List.{List, [], _∷_}
 use mathlib.Core.Option.{none}
+use lib.Dec.{eqb, leb}
 use lib.ListN.{length, drop, take, getD, drop-of-length-le}
 use lib.Seq.{drop-cons}
 use borrow.Author.Tests.{le-leb, lt-leb, ne-eqb}
 use Rattle.sheet_format.specs.Limits.{maxName}
-use Rattle.sheet_format.specs.Bytes.{isDigit, isLetter, isNameByte, nameBytes, isName}
-use Rattle.line_parser.specs.Fields.{fieldLen, firstField, firstName}
+use Rattle.sheet_format.specs.Bytes.{isDigit, isSmall, isCapital, isLetter, isNameByte, nameBytes, isName}
+use Rattle.line_parser.specs.Fields.{isOtherNameByte, fieldLen, firstField, firstName}
 use Rattle.line_parser.proofs.fields.Laws.{rest-part}
 
 -- names
 
+-- A test and false is false.
+and-false : (t : Bool) → (t && false) ≡ false
+and-false true = refl
+and-false false = refl
+
+-- A test and true is the test.
+and-true : (t : Bool) → (t && true) ≡ t
+and-true true = refl
+and-true false = refl
+
 module _ (b : ℕ) where
-  -- A letter is a name byte.
-  pub byte-letter : isLetter b ≡ true → true ≡ isNameByte b
-  unfolding isNameByte
-  byte-letter e = rw e
+  -- A byte above Z is no capital.
+  pub capital-past : 90 < b → false ≡ isCapital b
+  unfolding isCapital
+  capital-past h = rw (lt-leb b 90 h, and-false (leb 65 b))
 
-  -- The byte `_` is a name byte.
-  pub byte-mark : b ≡ 95 → true ≡ isNameByte b
-  unfolding isNameByte isLetter isDigit
-  byte-mark e = rw e
+  -- A byte to Z is a capital exactly if it is A or after it.
+  pub capital-from : b ≤ 90 → leb 65 b ≡ isCapital b
+  unfolding isCapital
+  capital-from h = rw (le-leb b 90 h, and-true (leb 65 b))
 
-  -- A byte below 0 that is neither a letter nor `_` is no name byte.
-  pub byte-low : isLetter b ≡ false → (b ≡ 95 → ⊥) → b < 48 → false ≡ isNameByte b
-  unfolding isNameByte isDigit
-  byte-low e n l = rw (e, lt-leb 48 b l, ne-eqb b 95 n)
+  -- A byte below a is a letter exactly if it is a capital.
+  pub letter-low : b < 97 → isCapital b ≡ isLetter b
+  unfolding isLetter isSmall
+  letter-low h = rw (lt-leb 97 b h)
 
-  -- A byte above 9 that is neither a letter nor `_` is no name byte.
-  pub byte-high : isLetter b ≡ false → (b ≡ 95 → ⊥) → 48 ≤ b → 57 < b → false ≡ isNameByte b
-  unfolding isNameByte isDigit
-  byte-high e n k l = rw (e, le-leb 48 b k, lt-leb b 57 l, ne-eqb b 95 n)
+  -- A byte above z is no letter.
+  pub letter-high : 122 < b → false ≡ isLetter b
+  unfolding isLetter isSmall isCapital
+  letter-high h =
+      let k : 90 < b = omega arith in
+      rw (lt-leb b 122 h, lt-leb b 90 k, and-false (leb 97 b), and-false (leb 65 b))
 
-  -- A digit is a name byte.
-  pub byte-digit : isLetter b ≡ false → 48 ≤ b → b ≤ 57 → true ≡ isNameByte b
-  unfolding isNameByte isDigit
-  byte-digit e k l = rw (e, le-leb 48 b k, le-leb b 57 l)
+  -- A byte from a to z is a letter.
+  pub letter-small : 97 ≤ b → b ≤ 122 → true ≡ isLetter b
+  unfolding isLetter isSmall
+  letter-small h k = rw (le-leb 97 b h, le-leb b 122 k)
+
+  -- A byte below a is a name byte exactly if it is one that is no small letter.
+  pub byte-early : b < 97 → isOtherNameByte b ≡ isNameByte b
+  unfolding isNameByte isOtherNameByte isLetter isSmall
+  byte-early h = rw (lt-leb 97 b h)
+
+  -- A byte above z is no name byte.
+  pub byte-past : 122 < b → false ≡ isNameByte b
+  unfolding isNameByte isLetter isSmall isCapital isDigit
+  byte-past h =
+      let k : 90 < b = omega arith in
+      let l : 57 < b = omega arith in
+      rw (
+        lt-leb b 122 h,
+        lt-leb b 90 k,
+        lt-leb b 57 l,
+        and-false (leb 97 b),
+        and-false (leb 65 b),
+        and-false (leb 48 b),
+        ne-eqb b 95 (λ e. omega arith),
+      )
+
+  -- A byte from a to z is a name byte.
+  pub byte-small : 97 ≤ b → b ≤ 122 → true ≡ isNameByte b
+  unfolding isNameByte isLetter isSmall
+  byte-small h k = rw (le-leb 97 b h, le-leb b 122 k)
+
+  -- A byte below 0 is none of A to Z, 0 to 9 and `_`.
+  pub other-low : b < 48 → false ≡ isOtherNameByte b
+  unfolding isOtherNameByte isCapital isDigit
+  other-low h =
+      let k : b < 65 = omega arith in
+      rw (lt-leb 48 b h, lt-leb 65 b k, ne-eqb b 95 (λ e. omega arith))
+
+  -- A digit is one of them.
+  pub other-digit : 48 ≤ b → b ≤ 57 → true ≡ isOtherNameByte b
+  unfolding isOtherNameByte isCapital isDigit
+  other-digit h k =
+      let l : b < 65 = omega arith in
+      rw (le-leb 48 b h, le-leb b 57 k, lt-leb 65 b l)
+
+  -- A byte between 9 and A is none of them.
+  pub other-between : 57 < b → b < 65 → false ≡ isOtherNameByte b
+  unfolding isOtherNameByte isCapital isDigit
+  other-between h k = rw (lt-leb b 57 h, lt-leb 65 b k, and-false (leb 48 b), ne-eqb b 95 (λ e. omega arith))
+
+  -- A capital is one of them.
+  pub other-capital : 65 ≤ b → b ≤ 90 → true ≡ isOtherNameByte b
+  unfolding isOtherNameByte isCapital
+  other-capital h k = rw (le-leb 65 b h, le-leb b 90 k)
+
+  -- Above Z the byte `_` is.
+  pub other-mark : 90 < b → eqb b 95 ≡ isOtherNameByte b
+  unfolding isOtherNameByte isCapital isDigit
+  other-mark h =
+      let k : 57 < b = omega arith in
+      rw (lt-leb b 90 h, lt-leb b 57 k, and-false (leb 65 b), and-false (leb 48 b))
 
 module _ (f : List ℕ) (i : ℕ) where
   -- At a name byte, the bytes after it decide.
@@ -58,16 +128,6 @@ module _ (f : List ℕ) (i : ℕ) where
   pub bytes-end : length f ≤ i → nameBytes (drop i f) ≡ true
   unfolding nameBytes
   bytes-end h = rw (drop-of-length-le f h)
-
--- A test and false is false.
-and-false : (t : Bool) → (t && false) ≡ false
-and-false true = refl
-and-false false = refl
-
--- A test and true is the test.
-and-true : (t : Bool) → (t && true) ≡ t
-and-true true = refl
-and-true false = refl
 
 -- An empty field is no name.
 pub name-empty : (f : List ℕ) → length f ≡ 0 → isName f ≡ false

@@ -11,9 +11,10 @@ use lib.ListN.{length, drop, length-drop, drop-of-length-le}
 use borrow.Author.Tests.{ltb-true, ltb-false}
 use Rattle.sheet_format.proofs.Bytes.{linesOf-other}
 use Rattle.sheet_format.specs.Limits.{tableNumbers}
-use Rattle.sheet_format.specs.Bytes.{lf, SplitLines, extendLine, linesOf}
+use Rattle.sheet_format.specs.Bytes.{lf, SplitLines, extendLine, linesOf, sameName}
 use Rattle.sheet_format.specs.SheetLines.{parseLine}
-use Rattle.sheet_format.specs.Sheets.{Sheet, refusal, sheet, refused, Table, next, stop, last, atEnd, afterGoal, readFrom, readSheet}
+use Rattle.sheet_format.specs.Sheets.{Sheet, refusal, sheet, refused, Table, next, stop, last, atEnd, afterGoal, readFrom}
+use Rattle.sheet_format.specs.Sheets.{readSheetBy, sheetForm, readSheet}
 use Rattle.sheet_format.specs.Sheets.{Read as SheetRead, Taken as SheetTaken, takeLine as sheetLine}
 use Rattle.node_table.specs.Decoding.{goalAt, declarationsFrom, clausesFrom, decodeSheet}
 use Rattle.node_table.specs.WellMade.{IsGoal}
@@ -34,7 +35,7 @@ use Rattle.sheet_reader.proofs.sheet_lines.Steps.{between, next-adds, l
 
 -- The sheet that the bytes b make of the table, the first of them on that line.
 unfoldable pub readOn : List ℕ → ℕ → Table → SheetRead
-readOn b line table = readFrom (linesOf b .whole) (linesOf b .rest) line table
+readOn b line table = readFrom sheetForm (linesOf b .whole) (linesOf b .rest) line table
 
 -- The same after a line of which that is made, b the bytes after it.
 unfoldable afterLine : SheetTaken → List ℕ → ℕ → Table → SheetRead
@@ -46,14 +47,14 @@ afterLine (last g) b line table =
 module _ (s : List ℕ) (at line : ℕ) (table : Table) where
   -- A whole line is taken, and reading goes on after its LF.
   on-line : (end : ℕ) → at ≤ length s → end ≡ lineEnd s at → (end ≡ length s → ⊥)
-      → readOn (drop at s) line table ≡ afterLine (sheetLine table (parseLine (between s at end))) (drop (end + 1) s) line table
-  unfolding readOn readFrom afterLine
+      → readOn (drop at s) line table ≡ afterLine (sheetLine sameName table (parseLine (between s at end))) (drop (end + 1) s) line table
+  unfolding readOn readFrom sheetForm afterLine
   on-line end h e n =
-      ap (λ (l : SplitLines). readFrom (l .whole) (l .rest) line table) (line-at s at end h e n)
-      ∙ go (sheetLine table (parseLine (between s at end))) refl
+      ap (λ (l : SplitLines). readFrom sheetForm (l .whole) (l .rest) line table) (line-at s at end h e n)
+      ∙ go (sheetLine sameName table (parseLine (between s at end))) refl
     where
-      go : (x : SheetTaken) → sheetLine table (parseLine (between s at end)) ≡ x
-          → readFrom (between s at end ∷ linesOf (drop (end + 1) s) .whole) (linesOf (drop (end + 1) s) .rest) line table ≡ afterLine x
+      go : (x : SheetTaken) → sheetLine sameName table (parseLine (between s at end)) ≡ x
+          → readFrom sheetForm (between s at end ∷ linesOf (drop (end + 1) s) .whole) (linesOf (drop (end + 1) s) .rest) line table ≡ afterLine x
           (drop (end + 1) s) line table
       go (next u) e = rw (e, readFrom)
       go (stop n) e = rw (e, readFrom)
@@ -63,7 +64,7 @@ module _ (s : List ℕ) (at line : ℕ) (table : Table) where
   on-open : (end : ℕ) → at < length s → end ≡ lineEnd s at → end ≡ length s → readOn (drop at s) line table ≡ refused (refusal 6 line)
   unfolding readOn readFrom atEnd
   on-open end h e n =
-      ap (λ (l : SplitLines). readFrom (l .whole) (l .rest) line table) (open-at s at end (omega arith) e n)
+      ap (λ (l : SplitLines). readFrom sheetForm (l .whole) (l .rest) line table) (open-at s at end (omega arith) e n)
       ∙ some-left (drop at s) (omega (arith, length-drop at s))
     where
       some-left : (b : List ℕ) → 0 < length b → atEnd b line ≡ refused (refusal 6 line)
@@ -132,7 +133,7 @@ pub record Reading (bytes t₀ t : List ℕ) (k : Counts) (at line : ℕ) : Type
 
 -- The invariant `Reading` holds before the first line.
 pub reading-begins : (bytes t : List ℕ) → tableNumbers ≤ length t → Reading bytes t t (counts 0 0 0) 0 1
-unfolding readSheet readOn tableOf declarationsFrom nodesFrom clausesFrom
+unfolding readSheet readSheetBy readOn tableOf declarationsFrom nodesFrom clausesFrom
 reading-begins bytes t h = record {
   within = omega arith;
   few = omega arith;
@@ -166,11 +167,11 @@ module _ (bytes t₀ t t′ : List ℕ) (k : Counts) (at line end : ℕ) (x : Ta
   ends = end-within bytes at end (h .within) e
 
   -- The code makes of the line what document 01's definition makes of it.
-  follows : Follows bytes t k (made t′ x) (sheetLine (tableOf bytes t k) (parseLine (between bytes at end)))
+  follows : Follows bytes t k (made t′ x) (sheetLine sameName (tableOf bytes t k) (parseLine (between bytes at end)))
   follows = rw m (line-follows bytes t k (h .stands) at end (ends .0) (ends .1))
 
   -- The sheet is what the definition makes of the line and of the bytes after it.
-  ahead-line : readSheet bytes ≡ afterLine (sheetLine (tableOf bytes t k) (parseLine (between bytes at end))) (drop (end + 1) bytes) line
+  ahead-line : readSheet bytes ≡ afterLine (sheetLine sameName (tableOf bytes t k) (parseLine (between bytes at end))) (drop (end + 1) bytes) line
       (tableOf bytes t k)
   ahead-line = h .ahead ∙ on-line bytes at line (tableOf bytes t k) end (h .within) e n
 
@@ -189,7 +190,7 @@ module _ (bytes t₀ t t′ : List ℕ) (k : Counts) (at line end : ℕ) (x : Ta
   pub reading-on : (j : Counts) → x ≡ Next j → Reading bytes t₀ t′ j (end + 1) (line + 1)
   unfolding Agrees afterLine
   reading-on j q =
-      let a = subst (λ (y : Taken). Agrees bytes t′ k y (sheetLine (tableOf bytes t k) (parseLine (between bytes at end)))) q
+      let a = subst (λ (y : Taken). Agrees bytes t′ k y (sheetLine sameName (tableOf bytes t k) (parseLine (between bytes at end)))) q
       (follows .agrees) in
       let w = reading-line h e n in
       let d = next-adds (tableOf bytes t k) (parseLine (between bytes at end)) (tableOf bytes t′ j) (a .0) in
@@ -213,7 +214,7 @@ module _ (bytes t₀ t t′ : List ℕ) (k : Counts) (at line end : ℕ) (x : Ta
   pub reading-stops : (number : ℕ) (r : Read) → x ≡ Stop number → r ≡ refusedRead number line → ReadContract bytes t₀ t′ r
   unfolding Agrees afterLine readOf WellRead NamedRead Counted
   reading-stops number r q z =
-      let a = subst (λ (y : Taken). Agrees bytes t′ k y (sheetLine (tableOf bytes t k) (parseLine (between bytes at end)))) q
+      let a = subst (λ (y : Taken). Agrees bytes t′ k y (sheetLine sameName (tableOf bytes t k) (parseLine (between bytes at end)))) q
       (follows .agrees) in
       rw z (record {
         read = ahead-line ∙ ap (λ (y : SheetTaken). afterLine y (drop (end + 1) bytes) line (tableOf bytes t k)) a;
@@ -232,11 +233,11 @@ module _ (bytes t₀ t t′ : List ℕ) (k : Counts) (at line end : ℕ) (x : Ta
       here : EndsAt bytes t k (h .stands) at end (ends .0) (ends .1) t′ goal (parseLine (between bytes at end))
       here = line-last bytes t k (h .stands) at end (ends .0) (ends .1) t′ goal (ap (made t′) (sym q) ∙ m)
 
-      agreed : (sheetLine (tableOf bytes t k) (parseLine (between bytes at end)) ≡ last (goalAt t goal)) × (goal < k .nodes) × IsGoal t goal
+      agreed : (sheetLine sameName (tableOf bytes t k) (parseLine (between bytes at end)) ≡ last (goalAt t goal)) × (goal < k .nodes) × IsGoal t goal
       agreed =
-          subst (λ (u : List ℕ). (sheetLine (tableOf bytes t k) (parseLine (between bytes at end)) ≡ last (goalAt u goal))
+          subst (λ (u : List ℕ). (sheetLine sameName (tableOf bytes t k) (parseLine (between bytes at end)) ≡ last (goalAt u goal))
           × (goal < k .nodes) × IsGoal u goal) (here .same)
-          (subst (λ (y : Taken). Agrees bytes t′ k y (sheetLine (tableOf bytes t k) (parseLine (between bytes at end)))) q
+          (subst (λ (y : Taken). Agrees bytes t′ k y (sheetLine sameName (tableOf bytes t k) (parseLine (between bytes at end)))) q
           (follows .agrees))
 
       ahead-goal : readSheet bytes ≡ afterGoal (linesOf (drop (end + 1) bytes) .whole) (linesOf (drop (end + 1) bytes) .rest) (suc line)

@@ -9,12 +9,12 @@ use lib.Dec.{ltb}
 use lib.ListN.{length, getElem?}
 use Rattle.formulas.specs.Formulas.{Goal, Clause}
 use Rattle.sheet_format.specs.Limits.{variableNames, maxSymbols, maxNodes, maxClauses}
-use Rattle.sheet_format.specs.Bytes.{linesOf}
+use Rattle.sheet_format.specs.Bytes.{linesOf, sameName}
 use Rattle.sheet_format.specs.SheetLines.{SheetLine, declareLine, nodeLine, clauseLine, goalLine, parseLine}
 use Rattle.sheet_format.specs.Nodes.{Node, nodeOf, isSomething}
 use Rattle.sheet_format.specs.Sheets.{Sheet, Refusal, refusal, Read, sheet, refused, Table, Taken, next, stop, last, isDeclared}
 use Rattle.sheet_format.specs.Sheets.{takeDeclaration, addNode, takeNode, anyFree, addClause, clauseAt, takeClause, lastGoal, goalAt}
-use Rattle.sheet_format.specs.Sheets.{takeLine, atEnd, afterGoal, readFrom, readSheet}
+use Rattle.sheet_format.specs.Sheets.{takeLine, atEnd, afterGoal, readFrom, readSheetBy, sheetForm, readSheet}
 
 -- A line that is refused, and a sheet.
 abbrev LateLine : Taken → Type 0
@@ -58,12 +58,12 @@ goalAt-late none = omega arith
 goalAt-late (some n) = lastGoal-late (n .goal)
 
 -- The refusals of any line are past 5.
-takeLine-late : (t : Table) (o : Option SheetLine) → LateLine (takeLine t o)
+takeLine-late : (t : Table) (o : Option SheetLine) → LateLine (takeLine sameName t o)
 unfolding takeLine takeDeclaration takeNode takeClause
 takeLine-late t none = omega arith
 takeLine-late t (some (declareLine k n a)) =
     cond-late (not (ltb (length (t .symbols)) maxSymbols)) (stop 7) _ (omega arith)
-    (cond-late (isDeclared n (t .symbols)) (stop 8) _ (omega arith) tt)
+    (cond-late (isDeclared sameName n (t .symbols)) (stop 8) _ (omega arith) tt)
 takeLine-late t (some (nodeLine l)) =
     cond-late (not (ltb (length (t .nodes)) maxNodes)) (stop 7) _ (omega arith) (addNode-late t (nodeOf (t .symbols) (t .nodes) l))
 takeLine-late t (some (clauseLine n)) =
@@ -83,14 +83,14 @@ afterGoal-late [] (c ∷ cs) k s = omega arith
 afterGoal-late (l ∷ ls) r k s = omega arith
 
 -- The refusals of a sheet's lines are past 5.
-readFrom-late : (ls : List (List ℕ)) (r : List ℕ) (k : ℕ) (t : Table) → LateRead (readFrom ls r k t)
-unfolding readFrom
+readFrom-late : (ls : List (List ℕ)) (r : List ℕ) (k : ℕ) (t : Table) → LateRead (readFrom sheetForm ls r k t)
+unfolding readFrom sheetForm
 readFrom-late [] r k t = atEnd-late r k
-readFrom-late (l ∷ ls) r k t = go (takeLine t (parseLine l)) (takeLine-late t (parseLine l)) (λ u. readFrom-late ls r (suc k) u)
+readFrom-late (l ∷ ls) r k t = go (takeLine sameName t (parseLine l)) (takeLine-late t (parseLine l)) (λ u. readFrom-late ls r (suc k) u)
   where
-    go : (x : Taken) → LateLine x → ((u : Table) → LateRead (readFrom ls r (suc k) u))
+    go : (x : Taken) → LateLine x → ((u : Table) → LateRead (readFrom sheetForm ls r (suc k) u))
         → LateRead (elim x [
-          | next u ↦ readFrom ls r (suc k) u
+          | next u ↦ readFrom sheetForm ls r (suc k) u
           | stop n ↦ refused (refusal n k)
           | last g ↦ afterGoal ls r (suc k) (record { symbols = t .symbols; clauses = t .clauses; goal = g })
         ])
@@ -99,6 +99,6 @@ readFrom-late (l ∷ ls) r k t = go (takeLine t (parseLine l)) (takeLine-late t 
     go (last g) h ih = afterGoal-late ls r (suc k) (record { symbols = t .symbols; clauses = t .clauses; goal = g })
 
 pub refused-late : (bytes : List ℕ) (r : Refusal) → readSheet bytes ≡ refused r → 6 ≤ r .number
-unfolding readSheet
+unfolding readSheet readSheetBy
 refused-late bytes r e =
     subst LateRead e (readFrom-late (linesOf bytes .whole) (linesOf bytes .rest) 1 (record { symbols = []; nodes = []; clauses = [] }))

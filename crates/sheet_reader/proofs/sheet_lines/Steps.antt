@@ -11,6 +11,7 @@ use lib.ListN.{length, take, drop, getElem?, length-take, length-drop, length-ap
 use lib.Seq.{take-take, drop-drop, length-take-le}
 use Rattle.formulas.specs.Formulas.{Goal, Clause}
 use Rattle.sheet_format.specs.Limits.{variableNames, maxSymbols, maxNodes, maxClauses}
+use Rattle.sheet_format.specs.Bytes.{sameName}
 use Rattle.sheet_format.specs.SheetLines.{SheetLine, declareLine, nodeLine, clauseLine, goalLine, parseLine}
 use Rattle.sheet_format.specs.SheetLines.{NodeLine as SheetNode}
 use Rattle.sheet_format.specs.Nodes.{nodeOf, isSomething}
@@ -167,12 +168,12 @@ adds-one table l n = record { nodes = length-append (table .nodes) (n ∷ []); g
 
 module _ (table : Table) where
   -- Of every line.
-  line-adds : (o : Option SheetLine) → OnTaken (Adds table o) (IsLast o) (sheetLine table o)
+  line-adds : (o : Option SheetLine) → OnTaken (Adds table o) (IsLast o) (sheetLine sameName table o)
   unfolding sheetLine sheetDeclaration sheetNode addNode sheetClause clauseAt addClause goalAt lastGoal OnTaken IsLast nodesIn goalOr
   line-adds none = tt
   line-adds (some (declareLine function name arity)) =
       cond-on _ _ (not (ltb (length (table .symbols)) maxSymbols)) _ _ tt
-      (cond-on _ _ (isDeclared name (table .symbols)) _ _ tt (adds-none _ _ _ refl refl (λ m. refl)))
+      (cond-on _ _ (isDeclared sameName name (table .symbols)) _ _ tt (adds-none _ _ _ refl refl (λ m. refl)))
   line-adds (some (nodeLine l)) =
       cond-on _ _ (not (ltb (length (table .nodes)) maxNodes)) _ _ tt (go (nodeOf (table .symbols) (table .nodes) l))
     where
@@ -199,12 +200,12 @@ module _ (table : Table) where
       at (some m) = go (m .goal)
 
   -- A line that is taken adds its nodes and names no goal.
-  pub next-adds : (o : Option SheetLine) (u : Table) → sheetLine table o ≡ next u → Adds table o u
+  pub next-adds : (o : Option SheetLine) (u : Table) → sheetLine sameName table o ≡ next u → Adds table o u
   unfolding OnTaken
   next-adds o u e = subst (OnTaken (Adds table o) (IsLast o)) e (line-adds o)
 
   -- A line that ends the sheet is a Q line.
-  last-is : (o : Option SheetLine) (g : Goal) → sheetLine table o ≡ last g → IsLast o
+  last-is : (o : Option SheetLine) (g : Goal) → sheetLine sameName table o ≡ last g → IsLast o
   unfolding OnTaken
   last-is o g e = subst (OnTaken (Adds table o) (IsLast o)) e (line-adds o)
 
@@ -230,7 +231,7 @@ refused-number (some (goalLine m)) n e = absurd (let z : _≡_ {A = ℕ} 0 1 = c
 module _ (bytes t : List ℕ) (k : Counts) (h : Decodes bytes t k) where
   -- A line that makes a node is answered as document 01's definitions say.
   node-follows : (l : NodeLine) → FormedNodeLine (nodeBack l) → FormedNode l
-      → Follows bytes t k (takeNode t k l) (sheetLine (tableOf bytes t k) (some (nodeLine (nodeBack l))))
+      → Follows bytes t k (takeNode t k l) (sheetLine sameName (tableOf bytes t k) (some (nodeLine (nodeBack l))))
   unfolding takeNode nodeBack nodeList FormedNode
   node-follows (Variable v) f g = follows-variable bytes t k h v f
   node-follows (Apply f ns) p g = follows-application bytes t k h f (ns .count) (ns .a) (ns .b) (ns .c) (ns .d) g
@@ -256,7 +257,7 @@ module _ (bytes t : List ℕ) (k : Counts) (h : Decodes bytes t k) where
 
     -- Any parsed line is answered as document 01's definitions say.
     answer-follows : (r : Line) → r ≡ lineAnswer (parseLine (between bytes at end))
-        → Follows bytes t k (takeLine bytes t k at r) (sheetLine (tableOf bytes t k) (lineBack (between bytes at end) r))
+        → Follows bytes t k (takeLine bytes t k at r) (sheetLine sameName (tableOf bytes t k) (lineBack (between bytes at end) r))
     unfolding takeLine sheetLine lineBack
     answer-follows (Declare function n arity) e =
         let d = declare-bounds (between bytes at end) function n arity e in
@@ -270,11 +271,11 @@ module _ (bytes t : List ℕ) (k : Counts) (h : Decodes bytes t k) where
     answer-follows (RefusedLine n) e = rw (refused-number (parseLine (between bytes at end)) n e) malformed-follows
 
     -- The line as it is read is answered as document 01's definitions say.
-    pub line-follows : Follows bytes t k (lineTaken bytes t k at end) (sheetLine (tableOf bytes t k) (parseLine (between bytes at end)))
+    pub line-follows : Follows bytes t k (lineTaken bytes t k at end) (sheetLine sameName (tableOf bytes t k) (parseLine (between bytes at end)))
     unfolding lineTaken
     line-follows =
         let r = lineAnswer (parseLine (between bytes at end)) in
-        subst (λ (o : Option SheetLine). Follows bytes t k (takeLine bytes t k at r) (sheetLine (tableOf bytes t k) o))
+        subst (λ (o : Option SheetLine). Follows bytes t k (takeLine bytes t k at r) (sheetLine sameName (tableOf bytes t k) o))
         (sym (line-is (between bytes at end) r refl)) (answer-follows r refl)
 
     -- The answer to a Q line: the table stays, and the line names the goal's node.
@@ -283,11 +284,11 @@ module _ (bytes t : List ℕ) (k : Counts) (h : Decodes bytes t k) where
       pub named : o ≡ some (goalLine goal)
 
     -- A line that is no Q line does not have the answer of one.
-    other-line : (m : Made) (o : Option SheetLine) (t′ : List ℕ) (goal : ℕ) → Follows bytes t k m (sheetLine (tableOf bytes t k) o)
+    other-line : (m : Made) (o : Option SheetLine) (t′ : List ℕ) (goal : ℕ) → Follows bytes t k m (sheetLine sameName (tableOf bytes t k) o)
         → made t′ (Last goal) ≡ m → (IsLast o → ⊥) → EndsAt t′ goal o
     unfolding Agrees
     other-line m o t′ goal f e n =
-        let g : Follows bytes t k (made t′ (Last goal)) (sheetLine (tableOf bytes t k) o) = rw e f in
+        let g : Follows bytes t k (made t′ (Last goal)) (sheetLine sameName (tableOf bytes t k) o) = rw e f in
         absurd (n (last-is (tableOf bytes t k) o _ (g .agrees .0)))
 
     -- Any parsed line that ends the sheet leaves the table and names the goal's node.

@@ -9,7 +9,8 @@ use mathlib.Core.List.{List, [], _∷_}
 use lib.Dec.{eqb}
 use lib.ListN.{length, take, drop, getD, set, drop-of-length-le}
 use lib.Seq.{drop-cons, length-take-le}
-use borrow.Author.Tests.{lt-leb, eq-eqb, ne-eqb}
+use borrow.Author.Tests.{lt-leb}
+use Rattle.sheet_format.specs.Bytes.{folded}
 use Rattle.node_table.specs.Layout.{symbolAt}
 use Rattle.table_builder.specs.declared.node_info.Counts.{Counts}
 use Rattle.table_builder.specs.declared.node_info.Taken.the-variants.{Next, Stop}
@@ -26,17 +27,20 @@ symbol-puts t t₀ t₁ t₂ i start len word e₀ e₁ e₂ = rw (e₂, e₁, e
 -- names
 
 module _ (s : List ℕ) (at i : ℕ) (name : List ℕ) where
-  same-step : i < length name → sameAt s (at + i) (drop i name) ≡ cond (eqb (getD s (at + i) 0) (getD name i 0))
+  same-step : i < length name → sameAt s (at + i) (drop i name) ≡ cond (eqb (folded (getD s (at + i) 0)) (folded (getD name i 0)))
       (sameAt s (at + (i + 1)) (drop (i + 1) name)) false
   unfolding sameAt
   same-step h = rw (drop-cons name i 0 h, ← add-assoc at i 1, add-one i)
 
-  pub same-on : (b : ℕ) → i < length name → b ≡ getD s (at + i) 0 → b ≡ getD name i 0
-      → sameAt s (at + i) (drop i name) ≡ sameAt s (at + (i + 1)) (drop (i + 1) name)
-  same-on b h e f = same-step h ∙ simp (eq-eqb _ _ (sym e ∙ f))
+  -- At the same letter, the bytes after it decide.
+  pub same-on : (b : ℕ) (same : Bool) → i < length name → b ≡ getD s (at + i) 0 → same ≡ eqb (folded b) (folded (getD name i 0))
+      → same ≡ true → sameAt s (at + i) (drop i name) ≡ sameAt s (at + (i + 1)) (drop (i + 1) name)
+  same-on b same h e f g = same-step h ∙ rw (← e, ← f, g)
 
-  pub same-off : (b : ℕ) → i < length name → b ≡ getD s (at + i) 0 → (b ≡ getD name i 0 → ⊥) → sameAt s (at + i) (drop i name) ≡ false
-  same-off b h e n = same-step h ∙ simp (ne-eqb _ _ (λ f. n (e ∙ f)))
+  -- At another letter, the name does not stand there.
+  pub same-off : (b : ℕ) (same : Bool) → i < length name → b ≡ getD s (at + i) 0 → same ≡ eqb (folded b) (folded (getD name i 0))
+      → same ≡ false → sameAt s (at + i) (drop i name) ≡ false
+  same-off b same h e f g = same-step h ∙ rw (← e, ← f, g)
 
   pub same-end : length name ≤ i → sameAt s (at + i) (drop i name) ≡ true
   unfolding sameAt

@@ -74,7 +74,7 @@ pub range-none : (a : List ℕ) (i : ℕ) (b : List ℕ) (j : ℕ) → true ≡ 
 unfolding sameRange
 range-none a i b j = refl
 
-range-last : (k : ℕ) (a : List ℕ) (i : ℕ) (b : List ℕ) (j : ℕ)
+pub range-last : (k : ℕ) (a : List ℕ) (i : ℕ) (b : List ℕ) (j : ℕ)
     → sameRange (suc k) a i b j ≡ (sameRange k a i b j && eqb (getD a (i + k) 0) (getD b (j + k) 0))
 unfolding sameRange
 range-last zero a i b j =

@@ -6,13 +6,13 @@ use mathlib.Core.Bool.{Bool, true, false}
 use mathlib.Core.List.{List}
 use borrow.Author.Tests.{eq-eqb, ne-eqb}
 use Rattle.node_table.specs.Layout.{nameStart}
-use Rattle.scanning.specs.Ranges.{sameRange}
+use Rattle.scanning.specs.Ranges.{sameFolded}
 use Rattle.scanning.specs.Scanning.{nameSize, isNamed, symbolFrom}
 
 -- symbols
 
 pub named-same : (b t : List ℕ) (k : ℕ) (x : List ℕ) (i e n m s p : ℕ) (z : Bool) → n ≡ nameSize b t k → m ≡ e - i → m ≡ n
-    → p ≡ nameStart t k → s ≡ p → z ≡ sameRange n x i b s → z ≡ isNamed b t k x i e
+    → p ≡ nameStart t k → s ≡ p → z ≡ sameFolded n x i b s → z ≡ isNamed b t k x i e
 unfolding isNamed
 named-same b t k x i e n m s p z en em h ep es ez =
     let d : e - i ≡ nameSize b t k = sym em ∙ h ∙ en in

@@ -45,10 +45,10 @@ pub fn damaged(bytes: &[u8], random: &mut Random) -> Vec<u8> {
 
 /// Bytes without a plan: any at all, or lines of letters, numbers, names and tabs in any order.
 pub fn noise(random: &mut Random) -> Vec<u8> {
-    const PIECES: [&str; 40] = [
+    const PIECES: [&str; 42] = [
         "F", "P", "V", "A", "Y", "&", "|", ">", "E", "U", "C", "Q", "R", "B", "D", "\t", "\t", "\t", "\t", "\n", "\n",
         "\n", "0", "1", "2", "3", "10", "65535", "65536", "a", "p", "f", "_0@0", "!0@1", "(", ")", ",", "proved",
-        "clause", "some",
+        "clause", "some", "Pp", "SOME",
     ];
     let most = if random.one_in(50) { 20_000 } else { 120 };
     let length = random.below(most);
@@ -61,9 +61,9 @@ pub fn noise(random: &mut Random) -> Vec<u8> {
 
 /// A line of a right form with small numbers: what it names may not be there.
 fn line_of_any_form(random: &mut Random) -> Vec<u8> {
-    const FORMS: [&str; 14] = [
+    const FORMS: [&str; 16] = [
         "F f# n", "P p# n", "F a# 0", "V n", "A n", "A n n", "A n n n", "Y", "& # #", "| # #", "> # #", "E n #",
-        "U n #", "C #",
+        "U n #", "C #", "F A# 0", "P P# n",
     ];
     let form = if random.one_in(12) { "Q #" } else { *random.pick(&FORMS) };
     let small = random.below(5).to_string();

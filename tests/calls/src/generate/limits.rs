@@ -9,7 +9,7 @@ use crate::random::Random;
 pub fn limits(random: &mut Random) -> Vec<u8> {
     let past = random.below(2);
     match random.below(24) {
-        0 => symbols(past),
+        0 => symbols(past, random),
         1 => nodes(past, random),
         2 | 3 => clauses(past),
         4..=6 => members(past, random),
@@ -22,12 +22,14 @@ pub fn limits(random: &mut Random) -> Vec<u8> {
     }
 }
 
-fn symbols(past: usize) -> Vec<u8> {
+/// 256 or 257 symbols, the last of them now and then declared before, which is refused under another number.
+fn symbols(past: usize, random: &mut Random) -> Vec<u8> {
     let mut builder = Builder::new(false);
     for number in 0..255 + past {
         builder.function(&format!("a{number}"), 0);
     }
-    let p = builder.predicate("p", 0);
+    let last = *random.pick(&["p", "p", "a7"]);
+    let p = builder.predicate(last, 0);
     let atom = builder.apply(p, &[]);
     builder.clause(atom);
     builder.goal(atom)

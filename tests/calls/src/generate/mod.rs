@@ -3,6 +3,7 @@
 
 pub mod builder;
 mod calls;
+mod capitals;
 mod damage;
 mod formulas;
 mod language;
@@ -15,11 +16,13 @@ mod terms;
 mod texts;
 
 pub use calls::{checks, runs, runs_of, CheckCall, RunCall};
+pub use capitals::{changed_case, respelled_text};
 pub use damage::{damaged, noise};
 pub use special::special_text;
 pub use texts::changed_text;
 
 use crate::random::Random;
+use capitals::with_capitals;
 
 #[derive(Clone, Copy, PartialEq, Eq, Debug, PartialOrd, Ord)]
 pub enum Family {
@@ -76,10 +79,17 @@ pub const FAMILIES: [Family; 16] = [
     Family::Damaged,
 ];
 
-/// The sheet of a seed; the families take turns.
+/// The sheet of a seed; the families take turns. A third of the sheets have capitals in their names, and longer names,
+/// but for the sheets at a limit, where the length of a name counts.
 pub fn sheet(seed: u64) -> (Family, Vec<u8>) {
     let family = FAMILIES[(seed % FAMILIES.len() as u64) as usize];
-    (family, of_family(family, &mut Random::new(seed)))
+    let sheet = of_family(family, &mut Random::new(seed));
+    let random = &mut Random::new(seed ^ 0xCA9);
+    let ending = match family {
+        Family::Limits => "",
+        _ => *random.pick(&["", "_1", "bc", "z_y"]),
+    };
+    (family, with_capitals(sheet, ending, random))
 }
 
 pub fn of_family(family: Family, random: &mut Random) -> Vec<u8> {

@@ -1,12 +1,13 @@
 //! Answer texts: right ones that the engine does not write, nearly right ones, and ones made for a part of the checker.
 
+use super::capitals::{changed_case, respelled_text, shifted_name};
 use super::damage::damaged;
 use super::symbols::{joined, pieces, renumbered, replaced, symbols, Piece, Symbol};
 use crate::random::Random;
 
 /// A proof's text with something changed, often so that it is still right.
 pub fn changed_text(sheet: &[u8], text: &[u8], random: &mut Random) -> Vec<u8> {
-    match random.below(20) {
+    match random.below(25) {
         0..=2 => damaged(text, random),
         3..=10 => changed_symbols(sheet, text, random),
         11 => first_line(text, random),
@@ -14,7 +15,10 @@ pub fn changed_text(sheet: &[u8], text: &[u8], random: &mut Random) -> Vec<u8> {
         14 => changed_place(text, random),
         15 | 16 => changed_end(text, random),
         17 => exchanged_fields(text, random),
-        _ => changed_name(sheet, text, random),
+        18 | 19 => changed_name(sheet, text, random),
+        20..=22 => respelled_text(text, random),
+        23 => shifted_name(text, random),
+        _ => changed_case(text, random),
     }
 }
 
@@ -273,13 +277,13 @@ fn exchanged_fields(text: &[u8], random: &mut Random) -> Vec<u8> {
 fn changed_name(sheet: &[u8], text: &[u8], random: &mut Random) -> Vec<u8> {
     let names = declared(sheet, &["F", "P"]);
     let starts: Vec<usize> = (1..text.len())
-        .filter(|&place| text[place].is_ascii_lowercase() && b"\t(,".contains(&text[place - 1]))
+        .filter(|&place| text[place].is_ascii_alphabetic() && b"\t(,".contains(&text[place - 1]))
         .collect();
     if names.is_empty() || starts.is_empty() {
         return damaged(text, random);
     }
     let start = *random.pick(&starts);
-    let name_byte = |byte: &&u8| byte.is_ascii_lowercase() || byte.is_ascii_digit() || **byte == b'_';
+    let name_byte = |byte: &&u8| byte.is_ascii_alphanumeric() || **byte == b'_';
     let end = start + text[start..].iter().take_while(name_byte).count();
     let name = match random.below(4) {
         0 => [&text[start..end], b"()"].concat(),

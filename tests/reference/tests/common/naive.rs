@@ -1,5 +1,6 @@
 //! A second judge of answer texts, by plain substitution: sequents are written out, terms are compared as trees, and a
 //! term's spelling is right if printing what was read gives it back. For sheets that are right and unfold to little.
+//! Names are read in small letters on both sides (W-201).
 
 use std::collections::HashMap;
 
@@ -31,7 +32,7 @@ const MOST_NODES: usize = 3_000;
 
 /// The lines of a right sheet that make symbols and nodes.
 struct Lines<'a> {
-    symbols: Vec<(&'a str, usize, bool)>,
+    symbols: Vec<(String, usize, bool)>,
     nodes: Vec<(&'a str, Vec<usize>)>,
     /// How much each node unfolds to.
     sizes: Vec<usize>,
@@ -42,7 +43,7 @@ impl Lines<'_> {
         let (letter, numbers) = &self.nodes[node];
         match *letter {
             "V" => Term::Variable(numbers[0] as u8),
-            _ => Term::Applied(self.symbols[numbers[0]].0.to_string(), self.terms(&numbers[1..])),
+            _ => Term::Applied(self.symbols[numbers[0]].0.clone(), self.terms(&numbers[1..])),
         }
     }
 
@@ -54,7 +55,7 @@ impl Lines<'_> {
         let (letter, numbers) = &self.nodes[node];
         let part = |place: usize| Box::new(self.formula(numbers[place]));
         match *letter {
-            "A" => Formula::Atom(self.symbols[numbers[0]].0.to_string(), self.terms(&numbers[1..])),
+            "A" => Formula::Atom(self.symbols[numbers[0]].0.clone(), self.terms(&numbers[1..])),
             "Y" => Formula::True,
             "&" => Formula::And(part(0), part(1)),
             "|" => Formula::Or(part(0), part(1)),
@@ -80,7 +81,10 @@ impl Judge {
             let fields: Vec<&str> = line.split('\t').collect();
             let numbers: Vec<usize> = fields[1..].iter().map(|field| field.parse().unwrap_or(0)).collect();
             match fields[0] {
-                "F" | "P" => lines.symbols.push((fields[1], numbers[1], fields[0] == "F")),
+                "F" | "P" => {
+                    let name = fields[1].to_ascii_lowercase();
+                    lines.symbols.push((name, numbers[1], fields[0] == "F"));
+                }
                 letter @ ("C" | "Q") => {
                     if lines.sizes[numbers[0]] > MOST_NODES {
                         return None;
@@ -89,7 +93,7 @@ impl Judge {
                     if letter == "Q" {
                         let functions = lines.symbols.iter().filter(|(_, _, function)| *function);
                         return Some(Judge {
-                            functions: functions.map(|&(name, arity, _)| (name.to_string(), arity)).collect(),
+                            functions: functions.map(|(name, arity, _)| (name.clone(), *arity)).collect(),
                             goal: formula,
                             program,
                         });
@@ -252,7 +256,8 @@ impl<'a> Reading<'a> {
     }
 
     fn term(&mut self, field: &str, level: usize) -> Option<Term> {
-        let (term, rest) = self.read(field, level)?;
+        let field = field.to_ascii_lowercase();
+        let (term, rest) = self.read(&field, level)?;
         (rest.is_empty() && print(&term) == field).then_some(term)
     }
 

@@ -16,19 +16,20 @@ abbrev μ-loop : tie.MeasureT-loop
 loop-holds : tie.Need-loop-holds Inv-loop μ-loop
 loop-holds c = (search needs, same-none _ _ _)
 
-returns : tie.Need-returns Inv-loop μ-loop
-returns c =
-    let at-loop = c .before .before .before .before in
-    sym (at-loop .loop .inv .1 ∙ same-off _ _ _ _ _ (c .before .before .before .loop-test .taken) (c .before .before .byte .ensures)
-    (c .if1 .taken))
-
 loop-again : tie.Need-loop-again Inv-loop μ-loop
 loop-again c =
-    let at-loop = c .before .before .before .before in (
+    let at-byte = c .before .before .before in (
       search needs,
-      at-loop .loop .inv .1
-          ∙ same-on _ _ _ _ _ (c .before .before .before .loop-test .taken) (c .before .before .byte .ensures) (c .if1 .left),
+      at-byte .before .before .loop .inv .1
+          ∙ same-on _ _ _ _ _ _ (at-byte .before .loop-test .taken) (at-byte .byte .ensures) (c .before .same-letter .ensures)
+          (c .if1 .taken),
     )
+
+returns : tie.Need-returns Inv-loop μ-loop
+returns c =
+    let at-byte = c .before .before .before in
+    sym (at-byte .before .before .loop .inv .1
+    ∙ same-off _ _ _ _ _ _ (at-byte .before .loop-test .taken) (at-byte .byte .ensures) (c .before .same-letter .ensures) (c .if1 .left))
 
 returns-2 : tie.Need-returns-2 Inv-loop μ-loop
 returns-2 c = sym (c .before .loop .inv .1 ∙ same-end _ _ _ _ (c .loop-test .left))
@@ -36,5 +37,5 @@ returns-2 c = sym (c .before .loop .inv .1 ∙ same-end _ _ _ _ (c .loop-test .l
 pub same-at-spec : {M : Type 1} → statement M
 same-at-spec =
     tie.close
-    (tie.spec Inv-loop μ-loop loop-holds (λ c. search needs) (λ c κs. search needs) (λ c. search needs) returns
-    (λ c. search needs) (λ c. search needs) loop-again returns-2)
+    (tie.spec Inv-loop μ-loop loop-holds (λ c. search needs) (λ c κs. search needs) (λ c. search needs) (λ c κs. search needs)
+    (λ c. search needs) (λ c. search needs) loop-again returns returns-2)

@@ -8,7 +8,7 @@ returns c =
     let at-monus = c .before .before .before .before in
     let at-name-size = at-monus .before in
     named-same _ _ _ _ _ _ _ _ _ _ _ (at-name-size .name-size .ensures .0) (at-monus .monus .ensures)
-    (c .before .before .before .if1 .taken) (c .before .before .name-start .ensures) (c .before .widen .ensures .0) (c .same-range .ensures)
+    (c .before .before .before .if1 .taken) (c .before .before .name-start .ensures) (c .before .widen .ensures .0) (c .is-spelled .ensures)
 
 returns-2 : tie.Need-returns-2
 returns-2 c = named-other _ _ _ _ _ _ _ _ (c .before .before .name-size .ensures .0) (c .before .monus .ensures) (c .if1 .left)

@@ -1,0 +1,2 @@
+-- Laws of folding, for the code's proofs.
+pub mod Laws
