@@ -14,7 +14,7 @@ use Rattle.search.specs.Promises.{WellFormed, FollowsSteps}
 use Rattle.sheet_format.specs.Limits.{tableNumbers, maxBudget}
 use Rattle.sheet_format.specs.Buffers.{demanded}
 use Rattle.sheet_format.specs.Sheets.{Sheet, Refusal, Read, sheet, readSheetBy, readSheet}
-use Rattle.sheet_format.specs.FormerNames.{formerForm, SmallNames}
+use Rattle.sheet_format.specs.FormerNames.{formerForm, NamesInSmallLetters}
 use Rattle.answer_texts.specs.Spelling.{spentText}
 use Rattle.answer_texts.specs.Spelled.{SpellsAsDeclared}
 use Rattle.answer_texts.specs.Promises.{DerivesText}
@@ -48,13 +48,13 @@ pub record RunContract (bytes : List ℕ) (budget : ℕ) (table work answer tabl
 
 -- Request W-201: "The engine answers sheets with names all in small letters as before." The run is the same.
 abbrev pub RunsAsBefore : Type 0
-RunsAsBefore = (bytes : List ℕ) → SmallNames bytes → (budget t w a : ℕ)
+RunsAsBefore = (bytes : List ℕ) → NamesInSmallLetters bytes → (budget t w a : ℕ)
     → engineRun bytes budget t w a ≡ engineRunBy (readSheetBy formerForm) bytes budget t w a
 
 -- So is what a caller is handed back, and what each lent buffer then holds.
 abbrev pub AnswersAsBefore : Type 0
 AnswersAsBefore =
-    (bytes : List ℕ) → SmallNames bytes → (budget : ℕ) (table work answer table′ work′ answer′ : List ℕ) (r : HandedBack)
+    (bytes : List ℕ) → NamesInSmallLetters bytes → (budget : ℕ) (table work answer table′ work′ answer′ : List ℕ) (r : HandedBack)
     → RunContract bytes budget table work answer table′ work′ answer′ r
     → let former = engineRunBy (readSheetBy formerForm) bytes budget (length table) (length work) (length answer) in
     (r ≡ handedBack former) × (table′ ≡ tableAfter former table) × (work′ ≡ workAfter former budget work)

@@ -29,5 +29,5 @@ formerForm = record { line = λ l. withoutCapitals (parseLine l); same = sameByt
 abbrev pub DeclaresSmall : List ℕ → Type 0
 DeclaresSmall l = (k : Bool) (n : List ℕ) (a : ℕ) → parseLine l ≡ some (declareLine k n a) → hasCapital n ≡ false
 
-abbrev pub SmallNames : List ℕ → Type 0
-SmallNames bytes = All DeclaresSmall (linesOf bytes .whole)
+abbrev pub NamesInSmallLetters : List ℕ → Type 0
+NamesInSmallLetters bytes = All DeclaresSmall (linesOf bytes .whole)

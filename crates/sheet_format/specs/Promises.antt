@@ -3,8 +3,8 @@ use mathlib.Core.Path.{_≡_}
 use mathlib.Core.List.{List}
 use Prim.Native.Nat.{ℕ}
 use Rattle.sheet_format.specs.Sheets.{readSheetBy, readSheet}
-use Rattle.sheet_format.specs.FormerNames.{formerForm, SmallNames}
+use Rattle.sheet_format.specs.FormerNames.{formerForm, NamesInSmallLetters}
 
 -- A sheet with names all in small letters is read as before, and what is no sheet is refused as before.
 abbrev pub ReadsAsBefore : Type 0
-ReadsAsBefore = (bytes : List ℕ) → SmallNames bytes → readSheet bytes ≡ readSheetBy formerForm bytes
+ReadsAsBefore = (bytes : List ℕ) → NamesInSmallLetters bytes → readSheet bytes ≡ readSheetBy formerForm bytes
