@@ -93,7 +93,8 @@ uint32_t rules_run(const uint8_t *sheet, size_t sheet_len, uint32_t budget, uint
 
 /* Checks an answer text against a sheet, and trusts neither: valid means that the text spells a derivation of an
  * instance of the sheet's goal. The text of a run that came to no or spent is not valid, at line 1. A text may spell
- * names in capitals or small letters, whichever the sheet has; rules_run writes them as the sheet declares them.
+ * names in capitals or small letters, whichever the sheet has; rules_run writes them as the sheet declares them. It may
+ * have any number from 0 to 65,535 where any term may stand, whether or not the sheet has it.
  *
  * Returns one of enum rules_verdict and puts RULES_CHECK_RESULTS numbers into `result`, as far as it is long; further
  * numbers of `result` are untouched. `table` and `work` are left as rules_run leaves them, the work numbers being

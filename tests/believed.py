@@ -9,8 +9,8 @@ import sys
 
 ROOT = os.path.join(os.path.dirname(os.path.abspath(__file__)), "..", "crates")
 STATEMENTS = [
-    ("engine_spec", "Promises", ["RunContract", "AnswersAsBefore", "CallersTold", "ToldAgain", "Retry", "BuffersDoNotMatter"]),
-    ("checker_spec", "Promises", ["CheckContract", "CallersJudged", "BuffersDoNotMatter"]),
+    ("engine_spec", "Promises", ["RunContract", "AnswersAsBefore", "AnswersWithoutNumbers", "CallersTold", "ToldAgain", "Retry", "BuffersDoNotMatter"]),
+    ("checker_spec", "Promises", ["CheckContract", "CallersJudged", "BuffersDoNotMatter", "OldProofsCheck"]),
     ("promises", "Accepted", ["RunChecks"]),
     ("engine_spec", "Handed", ["handed"]),
     ("checker_spec", "Handed", ["handed"]),

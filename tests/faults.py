@@ -28,7 +28,7 @@ SECONDS = 300
 NOT_TOLD_APART = {"engine_sides_exchanged"}
 
 # The wrong programs of document 01 itself ("What a hurried programmer would do", "What the desk may rely on", c), two that show in the
-# text alone, and those of W-201: the stored cases or texts must tell them apart too.
+# text alone, and those of W-201 and W-204: the stored cases or texts must tell them apart too.
 LISTED = {
     "engine_spent_at_once",
     "engine_units_off_by_one",
@@ -58,11 +58,52 @@ LISTED = {
     "names_exact",
     "repeated_names_exact",
     "underscore_folded",
+    "checker_number_65536",
+    "checker_number_for_every",
+    "checker_number_is_its_symbol",
+    "checker_number_leading_zeros",
+    "checker_number_of_level_1",
+    "checker_number_of_the_sheet_alone",
+    "checker_number_refused",
+    "checker_number_with_arguments",
+    "checker_number_with_empty_brackets",
+    "checker_number_with_letters",
+    "checker_numbers_in_one_byte",
+    "engine_number_free_in_range_check",
+    "engine_number_in_base_sixteen",
+    "engine_number_matches_a_symbol_in_two_bytes",
+    "engine_number_matches_its_symbol",
+    "engine_number_matches_made_constant",
+    "engine_number_of_level_1",
+    "engine_number_pair_free",
+    "engine_number_with_leading_zeros",
+    "engine_number_with_sign",
+    "engine_numbers_in_one_byte",
+    "engine_numbers_never_match",
+    "n_line_65536",
+    "n_line_in_one_byte",
+    "n_line_leading_zeros",
+    "n_line_makes_no_node",
+    "n_line_names_a_symbol",
+    "n_line_no_term",
+    "n_line_past_the_last_node",
+    "n_line_refused",
+    "n_line_with_two_numbers",
+    "n_line_without_number",
+    "number_of_size_0",
+    "number_of_size_2",
 }
 
 # These find proofs where there are none, and the checker must turn them down. Without the occurs check a false proof holds an endless
 # term, so that its text is refused under 12.
-UNSOUND = {"engine_constants_beforehand", "engine_levels_not_lowered", "engine_assumption_kept"}
+UNSOUND = {
+    "engine_constants_beforehand",
+    "engine_levels_not_lowered",
+    "engine_assumption_kept",
+    "engine_number_matches_its_symbol",
+    "engine_number_matches_made_constant",
+    "engine_numbers_in_one_byte",
+}
 
 # The files in which an edit can make the engine find such proofs.
 SEARCH = {"src/formula.rs", "src/search.rs", "src/unification.rs"}

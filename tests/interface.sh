@@ -48,7 +48,7 @@ members() {
     printf 'C\t%d\nQ\t0\n' $(($1 - 1))
 }
 
-# Document 01, "Rehearsed sheets": budgets, the answer buffer, limits; an example of docs/SHEETS.md. The others are stored cases.
+# Document 01, "Rehearsed sheets": budgets, the answer buffer, limits; two examples of docs/SHEETS.md. The others are stored cases.
 strobe=examples/strobe.sheet
 proved='R\tproved\t3\nD\tclause\t1\nvalid\n'
 expect_text "$proved" $strobe 3
@@ -61,6 +61,9 @@ expect_text 'X\t3\t0\n' $strobe 0
 : >"$work/empty"
 expect_text 'X\t11\t1\n' "$work/empty"
 expect_text 'R\tproved\t11\nB\t0\tSTROBE\nB\t1\tOld_Vic\nD\tclause\t1\tOld_Vic\nD\tclause\t2\nvalid\n' examples/capitals.sheet
+expect_text 'R\tproved\t29\nB\t0\t514\nD\tclause\t1\t514\t7\nD\tand\nD\tclause\t3\nD\tclause\t4\nvalid\n' examples/channels.sheet
+# Request W-204: a unit for each of the five nodes of g(1,g(2,3)).
+expect_text 'R\tspent\t9\n' tests/cases/w204_range_check_through_n.sheet 9
 members 64 >"$work/members64"
 expect_text 'R\tproved\t2\nD\tclause\t1\nvalid\n' "$work/members64"
 members 65 >"$work/members65"

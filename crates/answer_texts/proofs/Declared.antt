@@ -8,14 +8,15 @@ use mathlib.Core.Option.{Option, none, some}
 use lib.Dec.{eqb}
 use lib.ListN.{getElem?}
 use borrow.Author.Tests.{eqb-true, eq-eqb}
+use Rattle.terms.specs.Terms.{Functor, sheetSymbol, numeral}
 use Rattle.formulas.proofs.Free.{and-parts}
 use Rattle.sheet_format.specs.Bytes.{decimal, isName}
 use Rattle.sheet_format.specs.Nodes.{Declaration}
 use Rattle.sheet_format.proofs.Indexing.{at-all}
 use Rattle.sheet_format.proofs.Names.{Names}
-use Rattle.sheet_format.proofs.Formed.{Declares}
+use Rattle.sheet_format.proofs.Formed.{Takes, Declares}
 use Rattle.answer_texts.specs.Spelling.{nameIn, nameOf}
-use Rattle.answer_texts.specs.Spelled.{hasArity}
+use Rattle.answer_texts.specs.Spelled.{WritableFunctor, hasArity}
 
 -- The bytes of a symbol's number and level.
 abbrev pub marked : ℕ → ℕ → List ℕ
@@ -46,3 +47,9 @@ name-at ds g d h = ap nameIn h
 pub name-of : (ds : List Declaration) (g n : ℕ) → Names ds → Declares ds true g n → isName (nameOf ds g) ≡ true
 name-of ds g n ns h =
     rw (name-at ds g (h .declaration) (h .at)) (at-all (λ d. isName (d .name) ≡ true) ds g (h .declaration) (ns .named) (h .at))
+
+-- What the sheet lets stand before so many arguments can be written before them.
+pub takes-writable : (ds : List Declaration) (g : Functor) (n : ℕ) → Takes ds g n → WritableFunctor ds g n
+unfolding Takes WritableFunctor
+takes-writable ds (sheetSymbol g) n h = arity-has ds g n h
+takes-writable ds (numeral m) n h = h

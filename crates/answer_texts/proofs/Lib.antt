@@ -4,6 +4,7 @@ pub mod Declared
 pub mod FirstShowings
 pub mod SoundNumbers
 pub mod SoundWritable
+pub mod FormerTexts
 pub mod TextSound
 pub mod Promises
 pub mod Capitals

@@ -13,7 +13,7 @@ use Rattle.sheet_format.specs.Nodes.{Declaration}
 use Rattle.answer_texts.specs.TextLines.{TextLine, resultLine, bindingLine, derivationLine, lineTerms, termsOf, renameTextLine}
 use Rattle.answer_texts.specs.Numbering.{symbolsIn, symbolsInAll, symbolsOf, shown, sameSymbol, isMade, madeOnly, leftoverOnly}
 use Rattle.answer_texts.specs.Numbering.{without, firsts, indexOf, numberingOf, numbered}
-use Rattle.answer_texts.specs.Spelling.{nameOf, spellSymbol, spellTerm, spellArguments, spellMore, join, textLine, spellTerms}
+use Rattle.answer_texts.specs.Spelling.{spellFunctor, spellSymbol, spellTerm, spellArguments, spellMore, join, textLine, spellTerms}
 use Rattle.answer_texts.specs.Spelling.{lineFields, textFields, spell, proofText}
 
 -- numbers and symbols shown
@@ -103,7 +103,7 @@ module _ (ds : List Declaration) (r : Renaming) where
     term-spelled (leaf s) = symbol-spelled r s
     term-spelled (app f ts) =
         let h = arguments-spelled ts in
-        let e = length-append (nameOf ds f) (spellArguments (substitutes ts (renamed r)) ds) in
+        let e = length-append (spellFunctor ds f) (spellArguments (substitutes ts (renamed r)) ds) in
         omega arith
 
     arguments-spelled : (ts : Terms Symbol) → length (symbolsInAll ts) ≤ length (spellArguments (substitutes ts (renamed r)) ds)

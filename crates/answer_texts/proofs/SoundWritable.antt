@@ -17,16 +17,16 @@ use Rattle.search.proofs.FormedStores.{SymbolUpTo}
 use Rattle.search.proofs.Bounds.{ShownUpTo}
 use Rattle.sheet_format.specs.Limits.{maxNumber}
 use Rattle.sheet_format.specs.Nodes.{Declaration}
-use Rattle.sheet_format.proofs.Formed.{Declares, FormedTerm as SheetTerm, FormedTerms as SheetTerms, FormedGoal as SheetGoal}
+use Rattle.sheet_format.proofs.Formed.{Takes, FormedTerm as SheetTerm, FormedTerms as SheetTerms, FormedGoal as SheetGoal}
 use Rattle.sheet_format.proofs.Formed.{FormedClause as SheetClause}
 use Rattle.answer_texts.specs.TextLines.{TextLine, bindingLine, derivationLine, answerLines, renameTextLine}
 use Rattle.answer_texts.specs.Spelled.{SmallSymbol, WritableTerm, WritableTerms, WritableLine, Writable}
-use Rattle.answer_texts.proofs.Declared.{arity-has}
+use Rattle.answer_texts.proofs.Declared.{takes-writable}
 use Rattle.answer_texts.proofs.SoundNumbers.{NumbersUpTo}
 
--- The function symbols that are declared, with their arity.
+-- What the sheet lets stand before arguments, with their number.
 abbrev pub declared : List Declaration → Arities
-declared ds f n = Declares ds true f n
+declared ds f n = Takes ds f n
 
 -- what is well-formed on a sheet is so in the search
 
@@ -69,7 +69,7 @@ mutual
 
   writable-term : (t : Ground) (ds : List Declaration) → FormedTerm t (declared ds) SmallSymbol → WritableTerm t ds
   writable-term (leaf s) ds h = h
-  writable-term (app f ts) ds h = (arity-has ds f (count ts) (h .0), writable-terms ts ds (h .1))
+  writable-term (app f ts) ds h = (takes-writable ds f (count ts) (h .0), writable-terms ts ds (h .1))
 
   writable-terms : (ts : Terms Symbol) (ds : List Declaration) → FormedTerms ts (declared ds) SmallSymbol → WritableTerms ts ds
   writable-terms nil ds h = tt

@@ -5,6 +5,7 @@ use mathlib.Core.List.{List}
 use native.Mathlib.Omega.{arith}
 use lib.ListN.{length}
 use Rattle.terms.specs.Lists.{All}
+use Rattle.terms.specs.Numberless.{Numberless}
 use Rattle.terms.proofs.Lists.{all-weaken}
 use Rattle.formulas.specs.Formulas.{freeVariables}
 use Rattle.sequents.specs.Symbols.{Symbol}
@@ -22,11 +23,13 @@ use Rattle.sheet_format.specs.Limits.{maxBudget, maxTextBytes}
 use Rattle.sheet_format.specs.Sheets.{Sheet}
 use Rattle.sheet_format.proofs.Formed.{FormedClause as SheetClause}
 use Rattle.sheet_format.proofs.Good.{Good, good}
-use Rattle.answer_texts.specs.TextLines.{TextLine, answerLines}
+use Rattle.sheet_format.proofs.Numberless.{numberless-sheet}
+use Rattle.answer_texts.specs.TextLines.{TextLine, termsOf, answerLines}
 use Rattle.answer_texts.specs.Numbering.{shown, numberingOf, numbered}
 use Rattle.answer_texts.specs.Spelling.{proofText}
 use Rattle.answer_texts.specs.Spelled.{Writable}
-use Rattle.answer_texts.specs.Promises.{searchText, TextSound, TextFollows}
+use Rattle.answer_texts.specs.Promises.{searchText, TextSound, TextAsBefore, TextFollows}
+use Rattle.answer_texts.proofs.FormerTexts.{lines-numberless}
 use Rattle.answer_texts.proofs.SoundNumbers.{numbers-le}
 use Rattle.answer_texts.proofs.SoundWritable.{declared, sheet-goal, sheet-clause, names-free, answer-writable}
 
@@ -66,6 +69,21 @@ textSound bytes s read budget n store path few e short =
           (numbered (answerLines n (freeVariables (s .goal)) (finalEnvironment store) ls))) (sym (tree .1))
           (lines-writable s (good bytes s read) budget n store path most e short);
       spelled = ap (λ ls. proofText (s .symbols) (answerLines n (freeVariables (s .goal)) (finalEnvironment store) ls)) (sym (tree .1));
+    }
+
+-- Request W-204: over a sheet without N lines it is a text of those before.
+pub textAsBefore : TextAsBefore
+unfolding searchText textSound finalEnvironment
+textAsBefore bytes s read h budget n store path few e short =
+    let t = textSound bytes s read budget n store path few e short in
+    let sound = soundness (s .clauses) (s .goal) budget n store path e in
+    let tree = trees (instanceOf (s .clauses) (s .goal) (finalEnvironment store)) .lines-tree (finalLines store path) (sound .derives) in
+    record {
+      spells = t;
+      numberless =
+          subst (λ (ls : List (Line Symbol)). All (λ x. All Numberless (termsOf x))
+          (answerLines n (freeVariables (s .goal)) (finalEnvironment store) ls)) (sym (tree .1))
+          (lines-numberless s (good bytes s read) (numberless-sheet bytes s read h) budget n store path e);
     }
 
 -- T4: the derivation sequence that the search has followed is the one that the text spells.

@@ -5,5 +5,6 @@ pub mod Numbering
 pub mod Spelling
 pub mod Capitals
 pub mod Spelled
+pub mod FormerTexts
 pub mod Judgements
 pub mod Promises

@@ -8,7 +8,7 @@ use mathlib.Core.Option.{Option, none, some}
 use lib.Dec.{eqb}
 use lib.ListN.{length, take, getElem?}
 use Rattle.terms.specs.Lists.{All, update}
-use Rattle.terms.specs.Terms.{leaf, app, Terms, nil, cons, count}
+use Rattle.terms.specs.Terms.{Functor, sheetSymbol, numeral, leaf, app, Terms, nil, cons, count}
 use Rattle.formulas.specs.Formulas.{freeVariables}
 use Rattle.sequents.specs.Symbols.{Symbol, made, leftover, Ground, level}
 use Rattle.sequents.specs.Sequents.{Environment, Sequent, Line, plain, Dsome, Dall, Dclause}
@@ -23,11 +23,16 @@ use Rattle.answer_texts.specs.Numbering.{numbered}
 use Rattle.answer_texts.specs.Spelling.{spell, proofText}
 use Rattle.answer_texts.specs.Capitals.{SameText}
 
--- What can be written: terms over the function symbols that the sheet declares, each applied to its arity of terms; "Numbers
+-- What can be written: terms over the function symbols that the sheet declares, each applied to its arity of terms; numbers as
+-- terms, applied to none ("Any n may stand in a derivation and its text, whether or not the sheet has it"); "Numbers
 -- are ... up to 65,535", which is for places, for numbers and for levels.
 unfoldable pub hasArity : ℕ → Option Declaration → Bool
 hasArity n none = false
 hasArity n (some d) = d .function && eqb (d .arity) n
+
+unfoldable pub WritableFunctor : List Declaration → Functor → ℕ → Type 0
+WritableFunctor ds (sheetSymbol f) n = hasArity n (getElem? ds f) ≡ true
+WritableFunctor ds (numeral m) n = (n ≡ 0) × (m ≤ maxNumber)
 
 unfoldable pub SmallSymbol : Symbol → Type 0
 SmallSymbol (made n k) = (n ≤ maxNumber) × (k ≤ maxNumber)
@@ -36,7 +41,7 @@ SmallSymbol (leftover n k) = (n ≤ maxNumber) × (k ≤ maxNumber)
 unfoldable mutual
   pub WritableTerm : Ground → List Declaration → Type 0
   WritableTerm (leaf s) ds = SmallSymbol s
-  WritableTerm (app f ts) ds = (hasArity (count ts) (getElem? ds f) ≡ true) × WritableTerms ts ds
+  WritableTerm (app f ts) ds = WritableFunctor ds f (count ts) × WritableTerms ts ds
 
   pub WritableTerms : Terms Symbol → List Declaration → Type 0
   WritableTerms nil ds = Unit {0}
@@ -87,7 +92,7 @@ boundStage s (v ∷ vs) e = bindings (v ∷ vs) e
 
 -- Before the B lines; no name that stands free keeps this value.
 unfoldable pub blank : Environment Symbol
-blank v = app 0 nil
+blank v = app (sheetSymbol 0) nil
 
 -- The line is right at this stage; K holds of the stage after it.
 unfoldable pub Allowed : Sheet → TextLine → Stage → (Stage → Type 0) → Type 0

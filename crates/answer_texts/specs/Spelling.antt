@@ -4,7 +4,7 @@ use Prim.Native.Char.{code}
 use mathlib.Core.List.{List, [], _∷_, _++_, map}
 use mathlib.Core.Option.{Option, none, some}
 use lib.ListN.{getElem?}
-use Rattle.terms.specs.Terms.{leaf, app, Terms, nil, cons}
+use Rattle.terms.specs.Terms.{Functor, sheetSymbol, numeral, leaf, app, Terms, nil, cons}
 use Rattle.sequents.specs.Symbols.{Symbol, made, leftover, Ground}
 use Rattle.sequents.specs.Sequents.{Word, Dtrue, Dand, Dleft, Dright, Dassume, Line, plain, Dsome, Dall, Dclause}
 use Rattle.sheet_format.specs.Bytes.{ascii, tab, lf, decimal}
@@ -20,6 +20,11 @@ nameIn (some d) = d .name
 unfoldable pub nameOf : List Declaration → ℕ → List ℕ
 nameOf ds f = nameIn (getElem? ds f)
 
+-- A symbol by its name; a number "in base ten" (W-204).
+unfoldable pub spellFunctor : List Declaration → Functor → List ℕ
+spellFunctor ds (sheetSymbol f) = nameOf ds f
+spellFunctor ds (numeral n) = decimal n
+
 -- "a leftover variable as `_number@level`, a made constant as `!number@level`"
 unfoldable pub spellSymbol : Symbol → List ℕ
 spellSymbol (made n k) = code "!" ∷ (decimal n ++ (code "@" ∷ decimal k))
@@ -29,7 +34,7 @@ spellSymbol (leftover n k) = code "_" ∷ (decimal n ++ (code "@" ∷ decimal k)
 unfoldable mutual
   pub spellTerm : Ground → List Declaration → List ℕ
   spellTerm (leaf s) ds = spellSymbol s
-  spellTerm (app f ts) ds = nameOf ds f ++ spellArguments ts ds
+  spellTerm (app f ts) ds = spellFunctor ds f ++ spellArguments ts ds
 
   pub spellArguments : Terms Symbol → List Declaration → List ℕ
   spellArguments nil ds = []

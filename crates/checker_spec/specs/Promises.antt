@@ -1,4 +1,4 @@
--- Promises T1, T6 and T10 about the checker (demands 1 and 2).
+-- Promises T1, T6 and T10 about the checker (demands 1 and 2), and request W-204 of it.
 use Prim.Native.Nat.{ℕ, suc, _≤_}
 use mathlib.Core.Path.{_≡_}
 use mathlib.Core.List.{List}
@@ -7,7 +7,9 @@ use lib.ListN.{length}
 use Rattle.sheet_format.specs.Limits.{maxSheetBytes, tableNumbers, maxTextBytes}
 use Rattle.sheet_format.specs.Buffers.{demanded}
 use Rattle.sheet_format.specs.Sheets.{Sheet, sheet, readSheet}
+use Rattle.answer_texts.specs.Capitals.{SameText}
 use Rattle.answer_texts.specs.Spelled.{SpellsDerivation, BreaksAfter}
+use Rattle.answer_texts.specs.FormerTexts.{SpellsBefore}
 use Rattle.answer_texts.specs.Judgements.{Judgement, valid, invalid}
 use Rattle.checker_spec.specs.CheckText.{Checked, judged, checkRefused, countLf, checkText, tableAfter, workAfter}
 
@@ -67,3 +69,9 @@ abbrev pub BuffersDoNotMatter : Type 0
 BuffersDoNotMatter = (bytes text table work table′ work′ : List ℕ) (r : HandedBack) (table₂ work₂ table₂′ work₂′ : List ℕ) (r₂ : HandedBack)
     → CheckContract bytes text table work table′ work′ r → CheckContract bytes text table₂ work₂ table₂′ work₂′ r₂
     → length table ≡ length table₂ → length work ≡ length work₂ → r ≡ r₂
+
+-- Request W-204 in the numbers handed back: an old proof still checks, where nothing is turned back.
+abbrev pub OldProofsCheck : Type 0
+OldProofsCheck =
+    (bytes text table work table′ work′ : List ℕ) (r : HandedBack) → CheckContract bytes text table work table′ work′ r
+    → (s : Sheet) → readSheet bytes ≡ sheet s → SpellsBefore SameText s text → (r .verdict ≡ 3 → ⊥) → r .verdict ≡ 0

@@ -70,7 +70,7 @@ refusal-number r f v = (ap (λ (b : HandedBack). b .outcome) v, ap (λ (b : Hand
 
 module _ (bytes : List ℕ) (budget : ℕ) (table work answer table′ work′ answer′ : List ℕ) (r : HandedBack)
     (c : RunContract bytes budget table work answer table′ work′ answer′ r) where
-  result : Result
+  abbrev result : Result
   result = engineRun bytes budget (length table) (length work) (length answer)
 
   -- Told an outcome, the run has an answer.
@@ -93,6 +93,20 @@ module _ (bytes : List ℕ) (budget : ℕ) (table work answer table′ work′ a
           rw v (answered-answers bytes budget (length table) (length work) (length answer) x e .bufferFits)
       go (turnedBack f) e = let n = refusal-number r f (c .value ∙ ap handedBack e) .1 in omega arith
 
+  -- What holds of the text of an answer that tells proved holds of what then lies in the answer buffer.
+  pub proved-told : (P : Sheet → List ℕ → Type 0) → ((x : Answer) → result ≡ answered x → x .outcome ≡ reportedProved
+      → (s : Sheet) × (readSheet bytes ≡ sheet s) × P s (x .text)) → (s : Sheet) → readSheet bytes ≡ sheet s → r .outcome ≡ 0
+      → P s (take (r .length) answer′)
+  unfolding result outcomeNumber
+  proved-told P f s read h =
+      let q = the-answer (omega arith) in
+      let p = f (q .0) (q .1) (proved-number _ (sym (q .2 .outcome) ∙ h)) in
+      let e : p .0 ≡ s = same-sheet (p .0) s (p .1) read in
+      rw (q .2 .text) (subst (λ (y : Sheet). P y (q .0 .text)) e (p .2))
+    where
+      same-sheet : (x y : Sheet) → readSheet bytes ≡ sheet x → readSheet bytes ≡ sheet y → x ≡ y
+      same-sheet x y e f = cc
+
   caller-told : RunSound → AllDemand2 → AllDemand3 → CallerTold bytes budget answer answer′ r
   unfolding result outcomeNumber
   caller-told sound steps demand = record {
@@ -100,11 +114,7 @@ module _ (bytes : List ℕ) (budget : ℕ) (table work answer table′ work′ a
         let q = the-answer h in
         let p = answered-answers bytes budget (length table) (length work) (length answer) (q .0) (q .1) in
         (p .s, p .read);
-    spells = λ s read h.
-        let q = the-answer (omega arith) in
-        let p = sound bytes budget (length table) (length work) (length answer) (q .0) (q .1) (proved-number _ (sym (q .2 .outcome) ∙ h)) in
-        let e : p .0 ≡ s = same-sheet (p .0) s (p .1) read in
-        rw (q .2 .text) (subst (λ (y : Sheet). SpellsAsDeclared y (q .0 .text)) e (p .2));
+    spells = proved-told SpellsAsDeclared (sound bytes budget (length table) (length work) (length answer));
     neverNo = λ s read h e d.
         let q = the-answer (omega arith) in
         demand bytes s read .neverNo e d budget (length table) (length work) (length answer) (q .0) (q .1)
@@ -137,9 +147,6 @@ module _ (bytes : List ℕ) (budget : ℕ) (table work answer table′ work′ a
         ((λ e. p .0 (spent-number _ (sym (q .2 .outcome) ∙ e))), (λ k. q .2 .outcome ∙ ap outcomeNumber (p .1 k)));
     fits = text-fits;
   }
-    where
-      same-sheet : (x y : Sheet) → readSheet bytes ≡ sheet x → readSheet bytes ≡ sheet y → x ≡ y
-      same-sheet x y e f = cc
 
 pub callers-told : RunSound → AllDemand2 → AllDemand3 → CallersTold
 callers-told sound steps demand bytes budget table work answer table′ work′ answer′ r c =

@@ -4,45 +4,52 @@ use mathlib.Core.Path.{_≡_, refl, sym, _∙_, ap, subst}
 use mathlib.Core.List.{List}
 use native.Mathlib.Omega.{arith}
 use lib.ListN.{length}
+use Rattle.sequents.specs.Sequents.{Line}
+use Rattle.unification.specs.Store.{Leaf, Store}
 use Rattle.search.specs.Search.{SearchOutcome, ends, spent, proved, noProof, search}
-use Rattle.sheet_format.specs.Limits.{maxBudget, maxTextBytes}
-use Rattle.sheet_format.specs.Sheets.{Sheet, Read, sheet, readSheet}
+use Rattle.sheet_format.specs.Limits.{maxTextBytes}
+use Rattle.sheet_format.specs.Sheets.{Sheet, sheet, readSheet}
 use Rattle.sheet_format.proofs.Good.{good}
+use Rattle.sheet_format.specs.FormerLines.{WithoutNumberLines}
 use Rattle.sheet_format.proofs.FormerNames.{readsAsBefore}
+use Rattle.sheet_format.proofs.FormerLines.{readsWithoutNumbers}
 use Rattle.answer_texts.specs.Spelled.{SpellsAsDeclared}
+use Rattle.answer_texts.specs.FormerTexts.{SpellsBefore}
 use Rattle.answer_texts.specs.Promises.{searchText}
-use Rattle.answer_texts.proofs.Promises.{textSound}
-use Rattle.engine_spec.specs.EngineRun.{Reported, reportedProved, reportedNo, reportedSpent, Answer, Result, answered, answerTo, engineRunBy}
+use Rattle.answer_texts.proofs.Promises.{textSound, textAsBefore}
+use Rattle.engine_spec.specs.EngineRun.{reportedProved, Answer, Result, answered, answerTo, engineRunBy}
 use Rattle.engine_spec.specs.EngineRun.{engineRun, tableAfter, workAfter, answerAfter}
-use Rattle.engine_spec.specs.Promises.{handedBack, RunsAsBefore, AnswersAsBefore, RunSound, AllDemand2, AllDemand3}
+use Rattle.engine_spec.specs.Promises.{handedBack, RunsAsBefore, AnswersAsBefore, RunsWithoutNumbers, AnswersWithoutNumbers, RunSound, AllDemand2, AllDemand3}
 use Rattle.engine_spec.specs.Promises.{BuffersDoNotMatter, CallersTold, ToldAgain, Retry}
 use Rattle.engine_spec.proofs.Answered.{answered-answers}
 use Rattle.engine_spec.proofs.Demand3.{demand2, demand3}
 use Rattle.engine_spec.proofs.Buffers as Buffers
-use Rattle.engine_spec.proofs.Callers.{callers-told, told-again, told-retry}
+use Rattle.engine_spec.proofs.Callers.{proved-told, callers-told, told-again, told-retry}
 
--- The text of an answer that tells proved spells a derivation of an instance of the goal.
-spells : (bytes : List ℕ) (s : Sheet) (budget : ℕ) (o : SearchOutcome) (x : Answer) → readSheet bytes ≡ sheet s → budget ≤ maxBudget
-    → search budget (s .clauses) (s .goal) ≡ o
-    → x ≡ answerTo s budget o → x .outcome ≡ reportedProved → length (x .text) ≤ maxTextBytes → SpellsAsDeclared s (x .text)
+-- What holds of the text of a proved search holds of the text of an answer that tells proved.
+proved-text : (P : List ℕ → Type 0) (s : Sheet) (budget : ℕ) (o : SearchOutcome) (x : Answer)
+    → ((n : ℕ) (store : Store) (path : List (Line Leaf)) → search budget (s .clauses) (s .goal) ≡ ends (proved store path) n
+    → length (searchText s store path n) ≤ maxTextBytes → P (searchText s store path n))
+    → search budget (s .clauses) (s .goal) ≡ o → x ≡ answerTo s budget o → x .outcome ≡ reportedProved → length (x .text) ≤ maxTextBytes
+    → P (x .text)
 unfolding answerTo
-spells bytes s budget (ends (proved store path) n) x read few q e h short =
+proved-text P s budget (ends (proved store path) n) x f q e h short =
     let t : x .text ≡ searchText s store path n = ap (λ (y : Answer). y .text) e in
-    subst (SpellsAsDeclared s) (sym t)
-    (textSound bytes s read budget n store path few q (subst (λ (b : List ℕ). length b ≤ maxTextBytes) t short))
-spells bytes s budget (ends noProof n) x read few q e h short =
+    subst P (sym t) (f n store path q (subst (λ (b : List ℕ). length b ≤ maxTextBytes) t short))
+proved-text P s budget (ends noProof n) x f q e h short =
     absurd (let p = sym (ap (λ (y : Answer). y .outcome) e) ∙ h in let z : _≡_ {A = ℕ} 0 1 = cc in omega arith)
-spells bytes s budget spent x read few q e h short =
+proved-text P s budget spent x f q e h short =
     absurd (let p = sym (ap (λ (y : Answer). y .outcome) e) ∙ h in let z : _≡_ {A = ℕ} 0 1 = cc in omega arith)
 
 -- T5: a text that is told as proved spells a derivation of an instance of the goal.
 pub runSound : RunSound
 runSound bytes budget t w a x e h =
-    let r = answered-answers bytes budget t w a x e in (
-      r .s,
+    let r = answered-answers bytes budget t w a x e in
+    let s = r .s in (
+      s,
       r .read,
-      spells bytes (r .s) budget (search budget (r .s .clauses) (r .s .goal)) x (r .read) (r .passed .most) refl (r .is) h
-          (r .textFits),
+      proved-text (SpellsAsDeclared s) s budget (search budget (s .clauses) (s .goal)) x
+          (λ n store path q short. textSound bytes s (r .read) budget n store path (r .passed .most) q short) refl (r .is) h (r .textFits),
     )
 
 -- Request W-201: the run on a sheet with small names is as before.
@@ -58,6 +65,36 @@ answersAsBefore bytes h budget table work answer table′ work′ answer′ r c 
       c .tableEnd ∙ ap (λ (x : Result). tableAfter x table) e,
       c .workEnd ∙ ap (λ (x : Result). workAfter x budget work) e,
       c .answerEnd ∙ ap (λ (x : Result). answerAfter x answer) e,
+    )
+
+-- Request W-204: the run on a sheet without N lines is as before.
+pub runsWithoutNumbers : RunsWithoutNumbers
+unfolding engineRun engineRunBy
+runsWithoutNumbers bytes h budget t w a = rw (readsWithoutNumbers bytes h)
+
+-- A text that is told as proved holds no number then.
+run-before : (bytes : List ℕ) → WithoutNumberLines bytes → (budget t w a : ℕ) (x : Answer) → engineRun bytes budget t w a ≡ answered x
+    → x .outcome ≡ reportedProved → (s : Sheet) × (readSheet bytes ≡ sheet s) × SpellsBefore (λ b c. b ≡ c) s (x .text)
+run-before bytes free budget t w a x e h =
+    let r = answered-answers bytes budget t w a x e in
+    let s = r .s in (
+      s,
+      r .read,
+      proved-text (SpellsBefore (λ b c. b ≡ c) s) s budget (search budget (s .clauses) (s .goal)) x
+          (λ n store path q short. textAsBefore bytes s (r .read) free budget n store path (r .passed .most) q short) refl (r .is) h
+          (r .textFits),
+    )
+
+-- So are what is handed back and the lent buffers.
+pub answersWithoutNumbers : AnswersWithoutNumbers
+answersWithoutNumbers bytes h budget table work answer table′ work′ answer′ r c =
+    let e = runsWithoutNumbers bytes h budget (length table) (length work) (length answer) in (
+      c .value ∙ ap handedBack e,
+      c .tableEnd ∙ ap (λ (x : Result). tableAfter x table) e,
+      c .workEnd ∙ ap (λ (x : Result). workAfter x budget work) e,
+      c .answerEnd ∙ ap (λ (x : Result). answerAfter x answer) e,
+      proved-told bytes budget table work answer table′ work′ answer′ r c (SpellsBefore (λ b c. b ≡ c))
+          (run-before bytes h budget (length table) (length work) (length answer)),
     )
 
 -- T4: the run follows the derivation steps of CS-1992-17, for every sheet.

@@ -1,4 +1,4 @@
--- Promises T1, T5, T8 and T10 about the engine's run (demands 1 to 3), and request W-201 of the run.
+-- Promises T1, T5, T8 and T10 about the engine's run (demands 1 to 3), and requests W-201 and W-204 of the run.
 use Prim.Native.Nat.{ℕ, _≤_, _<_}
 use mathlib.Core.Path.{_≡_}
 use mathlib.Core.List.{List}
@@ -15,8 +15,10 @@ use Rattle.sheet_format.specs.Limits.{tableNumbers, maxBudget}
 use Rattle.sheet_format.specs.Buffers.{demanded}
 use Rattle.sheet_format.specs.Sheets.{Sheet, Refusal, Read, sheet, readSheetBy, readSheet}
 use Rattle.sheet_format.specs.FormerNames.{formerForm, NamesInSmallLetters}
+use Rattle.sheet_format.specs.FormerLines.{formWithoutNumbers, WithoutNumberLines}
 use Rattle.answer_texts.specs.Spelling.{spentText}
 use Rattle.answer_texts.specs.Spelled.{SpellsAsDeclared}
+use Rattle.answer_texts.specs.FormerTexts.{SpellsBefore}
 use Rattle.answer_texts.specs.Promises.{DerivesText}
 use Rattle.engine_spec.specs.EngineRun.{Reported, reportedProved, reportedNo, reportedSpent, Answer, Result, answered, turnedBack}
 use Rattle.engine_spec.specs.EngineRun.{answerTo, engineRunBy, engineRun, tableAfter, workAfter, answerAfter}
@@ -59,6 +61,21 @@ AnswersAsBefore =
     → let former = engineRunBy (readSheetBy formerForm) bytes budget (length table) (length work) (length answer) in
     (r ≡ handedBack former) × (table′ ≡ tableAfter former table) × (work′ ≡ workAfter former budget work)
     × (answer′ ≡ answerAfter former answer)
+
+-- Request W-204: on a sheet without N lines the run is as before,
+abbrev pub RunsWithoutNumbers : Type 0
+RunsWithoutNumbers = (bytes : List ℕ) → WithoutNumberLines bytes → (budget t w a : ℕ)
+    → engineRun bytes budget t w a ≡ engineRunBy (readSheetBy formWithoutNumbers) bytes budget t w a
+
+-- and so are what a caller is handed back and what each lent buffer then holds; where proved is told, no number stands as a term in the text.
+abbrev pub AnswersWithoutNumbers : Type 0
+AnswersWithoutNumbers =
+    (bytes : List ℕ) → WithoutNumberLines bytes → (budget : ℕ) (table work answer table′ work′ answer′ : List ℕ) (r : HandedBack)
+    → RunContract bytes budget table work answer table′ work′ answer′ r
+    → let former = engineRunBy (readSheetBy formWithoutNumbers) bytes budget (length table) (length work) (length answer) in
+    (r ≡ handedBack former) × (table′ ≡ tableAfter former table) × (work′ ≡ workAfter former budget work)
+    × (answer′ ≡ answerAfter former answer)
+    × ((s : Sheet) → readSheet bytes ≡ sheet s → r .outcome ≡ 0 → SpellsBefore (λ a b. a ≡ b) s (take (r .length) answer′))
 
 -- T5 of the run: what is told as proved spells a derivation of an instance of the goal, names as declared (request W-201).
 abbrev pub RunSound : Type 0

@@ -1,4 +1,4 @@
--- Going along with the spelling of an instance, one symbol at a time: what a turn of the loop reads.
+-- Going along with the spelling of an instance, one symbol or number at a time: what a turn of the loop reads.
 use Prim.Native.Nat.{ℕ}
 use Prim.Native.Char.{code}
 use mathlib.Core.Bool.{cond}
@@ -6,12 +6,12 @@ use mathlib.Core.List.{List}
 use lib.Dec.{eqb, ltb}
 use Rattle.node_table.specs.Layout.{kindOf, labelOf, variableKind}
 use Rattle.scanning.specs.declared.Reach.{Reach}
-use Rattle.scanning.specs.Instances.{matchName, matchSlot, argumentCount, matchMore, matchInstance}
+use Rattle.scanning.specs.Instances.{matchFunctor, matchSlot, argumentCount, matchMore, matchInstance}
 
--- The term of a name, or the symbol of an application, at node m in frame g stands at position i.
+-- The term of a name, or the symbol or number of an application, at node m in frame g stands at position i.
 unfoldable pub matchHead : List ℕ → List ℕ → List ℕ → List ℕ → ℕ → ℕ → ℕ → Reach
 matchHead b t x w g m i =
-    cond (eqb (kindOf t m) variableKind) (matchSlot x w g (labelOf t m) i) (matchName b t (labelOf t m) x i)
+    cond (eqb (kindOf t m) variableKind) (matchSlot x w g (labelOf t m) i) (matchFunctor b t (labelOf t m) x i)
 
 -- 1 if children of node m follow its symbol.
 unfoldable pub opensOf : List ℕ → ℕ → ℕ

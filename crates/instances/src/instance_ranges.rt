@@ -13,16 +13,18 @@ use node_table::kind;
 use node_table::kinds;
 use node_table::label;
 use node_table::name_start;
+use scanning::Number;
 use scanning::Reach;
 use sheet_format::limits;
 use term_scanner::folded_ranges::same_folded;
 use term_scanner::ranges::monus;
 use term_scanner::ranges::same_range;
 use term_scanner::symbol_names::name_size;
+use term_scanner::tokens::scan_number;
 ghost use mathlib.Core.Path.{_≡_};
 ghost use Prim.Native.Nat.{_+_, _-_, _<_};
-ghost use Rattle.scanning.specs.Instances.{sameSlots, matchRange, matchName, matchSlot, argumentCount, argumentOf, matchInstance};
-ghost use Rattle.scanning.specs.Instances.{isInstance};
+ghost use Rattle.scanning.specs.Instances.{sameSlots, matchRange, matchName, matchNumber, matchFunctor, matchSlot, argumentCount};
+ghost use Rattle.scanning.specs.Instances.{argumentOf, matchInstance, isInstance};
 ghost use Rattle.instances.specs.OpenNodes.{opensOf, matchHead, markBefore, matchChildren};
 
 // The most nodes that are open at a time, and a number above every number of children (specs/Instances.antt).
@@ -77,6 +79,29 @@ fn match_name(sheet: &[u8], t: &[u32], k: u32, text: &[u8], i: usize) -> Reach
     match_range(n, sheet, widen(name_start(t, k)), text, i)
 }
 
+// Whether the number n does: it is the number at position i.
+fn match_number(n: u32, text: &[u8], i: usize) -> Reach
+    ensures { λ r. ⌜ r ≡ matchNumber n (now (text .entry)) i ⌝ }
+{
+    let Number::Value(m, e) = scan_number(text, i) else {
+        return Reach::Differs;
+    };
+    if m == n {
+        return Reach::To(e);
+    }
+    Reach::Differs
+}
+
+// Whether what the label l stands for does, a symbol or a number.
+fn match_functor(sheet: &[u8], t: &[u32], l: u32, text: &[u8], i: usize) -> Reach
+    ensures { λ r. ⌜ r ≡ matchFunctor (now (sheet .entry)) (now (t .entry)) l (now (text .entry)) i ⌝ }
+{
+    if l < limits::MAX_SYMBOLS {
+        return match_name(sheet, t, l, text, i);
+    }
+    match_number(l - limits::MAX_SYMBOLS, text, i)
+}
+
 // Whether the term of name v in frame g does.
 fn match_slot(text: &[u8], w: &[u32], g: u32, v: u32, i: usize) -> Reach
     ensures { λ r. ⌜ r ≡ matchSlot (now (text .entry)) (now (w .entry)) g v i ⌝ }
@@ -112,7 +137,7 @@ fn opens(t: &[u32], m: u32) -> usize
     1
 }
 
-// Whether the instance's symbol, or a name's term, stands at position i, and where it ends.
+// Whether the instance's symbol or number, or a name's term, stands at position i, and where it ends.
 fn match_head(
     sheet: &[u8],
     t: &[u32],
@@ -125,11 +150,11 @@ fn match_head(
         (instance .node) i ⌝ }
 {
     let m = instance.node;
-    let name = label(t, m);
+    let l = label(t, m);
     if kind(t, m) == kinds::VARIABLE {
-        return match_slot(text, w, instance.frame, name, i);
+        return match_slot(text, w, instance.frame, l, i);
     }
-    match_name(sheet, t, name, text, i)
+    match_functor(sheet, t, l, text, i)
 }
 
 // The byte before the j-th of n children, or after the last one.

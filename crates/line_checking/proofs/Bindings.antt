@@ -35,14 +35,13 @@ use Rattle.scanning.specs.declared.Scan.the-variants.{Term as Scanned, Malforme
 use Rattle.scanning.specs.Ranges.{scanNumber}
 use Rattle.scanning.specs.Frames.{bindFrame}
 use Rattle.scanning.proofs.Positions.{byte-is, drop-next, drop-past}
-use Rattle.scanning.proofs.Ranges.{begins}
+use Rattle.scanning.proofs.Ranges.{begins, read-decimal}
 use Rattle.scanning.proofs.TermsInText.{SpelledAt, spelling-injective}
 use Rattle.answer_texts.specs.Capitals.{smallFrom}
 use Rattle.text_judging.proofs.SmallLines.{smallLine}
 use Rattle.scanning.proofs.Folding.{number-folded}
 use Rattle.scanning.proofs.Records.{Room}
 use Rattle.scanning.proofs.Frames.{frame-bind}
-use Rattle.scanning.proofs.SymbolsInText.{read-decimal}
 use Rattle.scanning.proofs.InstanceSpelling.{Frame, frame-fewer}
 use Rattle.line_checking.specs.declared.Registers.{Registers}
 use Rattle.line_checking.specs.Sequents.{Made, made, broken, withBinding, withSequent, freeFrom as nextFree, boundFrom, bound}

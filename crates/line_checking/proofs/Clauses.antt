@@ -39,7 +39,7 @@ use Rattle.scanning.specs.Ranges.{scanNumber}
 use Rattle.scanning.specs.Frames.{copyRanges}
 use Rattle.scanning.proofs.InstanceSpelling.{Frame, frame-fewer}
 use Rattle.scanning.proofs.Instances.{AtomIn, same-atoms}
-use Rattle.scanning.proofs.SymbolsInText.{read-decimal}
+use Rattle.scanning.proofs.Ranges.{read-decimal}
 use Rattle.scanning.proofs.Records.{Room, Kept, kept-then, kept-room, copy-kept}
 use Rattle.scanning.proofs.Frames.{frame-kept, frame-copy}
 use Rattle.answer_texts.specs.Capitals.{smallFrom}

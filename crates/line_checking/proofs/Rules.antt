@@ -8,7 +8,7 @@ use mathlib.Core.List.{List, [], _∷_, _++_, append-cancel-left}
 use mathlib.Core.Option.{none, some}
 use lib.Dec.{eqb, leb}
 use lib.ListN.{length, drop, length-append}
-use borrow.Author.Tests.{eqb-true, eq-eqb, ne-eqb}
+use borrow.Author.Tests.{eqb-true, eqb-false, eq-eqb, ne-eqb}
 use Rattle.terms.specs.Lists.{update}
 use Rattle.terms.proofs.Lists.{length-map}
 use Rattle.terms.specs.Terms.{leaf, app, count, levelBy}
@@ -17,9 +17,8 @@ use Rattle.formulas.proofs.Free.{or-left, or-right}
 use Rattle.sequents.specs.Symbols.{Symbol, made, leftover, symbolLevel, Ground, level}
 use Rattle.sequents.specs.Sequents.{Environment, hypothesis, Program, Sequent, sequent, Dtrue, Dand, Dleft, Dright, Dassume, Line, plain}
 use Rattle.sequents.specs.Sequents.{Dsome, Dall, Dclause}
-use Rattle.sheet_format.specs.Bytes.{ascii, lf, isName, isLetter, isSmall, isCapital, folded}
+use Rattle.sheet_format.specs.Bytes.{ascii, lf, isLetter, isSmall, isCapital, folded}
 use Rattle.sheet_format.specs.Nodes.{Declaration}
-use Rattle.sheet_format.proofs.Bytes.{letter-bounds, name-nonempty, name-letter}
 use Rattle.sheet_format.proofs.Formed.{FormedGoal}
 use Rattle.sheet_format.specs.Limits.{variableNames}
 use Rattle.node_table.specs.Layout.{kindOf, labelOf, childOf, forallKind, existsKind, impliesKind, orKind, andKind, trueKind}
@@ -27,11 +26,12 @@ use Rattle.node_table.specs.Decoding.{goalAt, clauseAtNode}
 use Rattle.node_table.specs.WellMade.{IsGoal, GoalNode}
 use Rattle.node_table.proofs.Decoding.{Nodes, nodes-of, goal-true, goal-and, goal-or, goal-implies, goal-exists, goal-forall}
 use Rattle.answer_texts.specs.TextLines.{derivationLine}
-use Rattle.answer_texts.specs.Spelling.{nameOf, spellSymbol, spellTerm, spellArguments, spellWord, textFields, lineFields, join}
+use Rattle.answer_texts.specs.Spelling.{spellFunctor, spellSymbol, spellTerm, spellArguments, spellWord, textFields, lineFields, join}
 use Rattle.answer_texts.specs.Spelled.{WritableTerm, WritableLine, sequents}
 use Rattle.text_judging.specs.Judging.{infer, isPlain, sameWord, wordNumber, inferSome, inferAll, inferConstant}
+use Rattle.text_judging.proofs.Functors.{Starts, functor-starts}
 use Rattle.text_judging.proofs.Reading.{lineBytes}
-use Rattle.answer_texts.proofs.Declared.{marked, has-arity, name-of}
+use Rattle.answer_texts.proofs.Declared.{marked}
 use Rattle.scanning.specs.Fields as fields
 use Rattle.scanning.proofs.Positions.{byte-is, within}
 use Rattle.scanning.specs.declared.Scan.{Scan}
@@ -599,12 +599,12 @@ module _ (c : Setting) (filled : Filled c) (q : ℕ) (w : List ℕ) (room : Room
               same d x z = ap level (sym z)
           fits (leaf (leftover a j)) o s = absurd (let z : _≡_ {A = ℕ} 33 95 = cc in omega arith)
           fits (app f us) o s =
-              absurd (named (nameOf ds f) (spellArguments us ds) o
-              (name-of ds f (count us) (names-of c filled) (has-arity ds f (count us) (s .writable .0))))
+              absurd (other (spellFunctor ds f) (spellArguments us ds) o
+              (functor-starts ds f (count us) (names-of c filled) (s .writable .0)))
             where
-              named : (a b : List ℕ) → 33 ∷ m ≡ a ++ b → isName a ≡ true → ⊥
-              named [] b z x = name-nonempty x
-              named (d ∷ a) b z x = let h = letter-bounds d (name-letter d a x) in let o : 33 ≡ d = cc in omega arith
+              other : (a b : List ℕ) → 33 ∷ m ≡ a ++ b → Starts a → ⊥
+              other [] b z x = x
+              other (d ∷ a) b z x = let h = eqb-false d 33 (x .0) in let o : 33 ≡ d = cc in h (sym o)
 
           go : TermCase c (i + 6) e (33 ∷ m) → R (allConstant t (c .text) w r q (i + 6) e)
           go (no-term a h) =

@@ -10,8 +10,9 @@ use mathlib.Core.Option.{Option, none, some}
 use lib.ListN.{length, drop, take, getD}
 use borrow.Author.Tests.{ne-eqb}
 use Rattle.sheet_format.specs.Bytes.{tab, fields}
-use Rattle.sheet_format.specs.SheetLines.{variableLine, trueLine, SheetLine, nodeLine, clauseLine, goalLine, numbers, declaration, noNumber}
-use Rattle.sheet_format.specs.SheetLines.{oneNumber, twoNumbers, withVariable, application, lineOf, ofFields, parseLine}
+use Rattle.sheet_format.specs.SheetLines.{variableLine, numberLine, trueLine, SheetLine, nodeLine, clauseLine, goalLine, numbers}
+use Rattle.sheet_format.specs.SheetLines.{declaration, noNumber, oneNumber, twoNumbers, withVariable, application, lineOf, ofFields}
+use Rattle.sheet_format.specs.SheetLines.{parseLine}
 use Rattle.line_parser.proofs.fields.Laws.{rest-part}
 use Rattle.line_parser.proofs.fields.Fields.{numbers-some}
 use Rattle.line_parser.specs.declared.lines.NodeLine.the-variants.{True}
@@ -36,6 +37,11 @@ module _ (c : ℕ) (fs : List (List ℕ)) where
   pub letter-V : c ≡ code "V" → oneNumber (λ v. nodeLine (variableLine v)) (withVariable (numbers fs)) ≡ lineOf c fs
   unfolding lineOf
   letter-V e = rw e
+
+  -- The letter N begins the line of a number as a term.
+  pub letter-N : c ≡ code "N" → oneNumber (λ n. nodeLine (numberLine n)) (numbers fs) ≡ lineOf c fs
+  unfolding lineOf
+  letter-N e = rw e
 
   -- The letter A begins the line of an application.
   pub letter-A : c ≡ code "A" → application (numbers fs) ≡ lineOf c fs
@@ -76,15 +82,17 @@ true-alone l s = go (numbers (fields s)) (numbers-some s)
     go (some (n ∷ ns)) h = refl
 
 -- Any other letter with a field after it makes a malformed line.
-pub letter-other : (c : ℕ) (s : List ℕ) → (c ≡ code "F" → ⊥) → (c ≡ code "P" → ⊥) → (c ≡ code "V" → ⊥) → (c ≡ code "A" → ⊥)
+pub letter-other : (c : ℕ) (s : List ℕ) → (c ≡ code "F" → ⊥) → (c ≡ code "P" → ⊥) → (c ≡ code "V" → ⊥) → (c ≡ code "N" → ⊥)
+    → (c ≡ code "A" → ⊥)
     → ((c ≡ code "&") ⊎ ((c ≡ code ">") ⊎ (c ≡ code "|")) → ⊥) → ((c ≡ code "E") ⊎ (c ≡ code "U") → ⊥)
     → (c ≡ code "C" → ⊥) → (c ≡ code "Q" → ⊥) → malformed ≡ lineAnswer (lineOf c (fields s))
 unfolding lineOf lineAnswer
-letter-other c s f p v a o q l g =
+letter-other c s f p v n a o q l g =
     simp (
       ne-eqb c (code "F") f,
       ne-eqb c (code "P") p,
       ne-eqb c (code "V") v,
+      ne-eqb c (code "N") n,
       ne-eqb c (code "A") a,
       true-alone (nodeLine trueLine) s,
       ne-eqb c (code "&") (λ e. o (inl e)),

@@ -7,11 +7,12 @@ use mathlib.Core.Option.{Option, none, some}
 use lib.Dec.{eqb, leb, ltb}
 use lib.ListN.{length, getD, take, drop}
 use Rattle.sheet_format.specs.Limits.{maxArity}
-use Rattle.sheet_format.specs.SheetLines.{NodeLine as SheetNode, variableLine, applyLine, trueLine, andLine, orLine, impliesLine, someLine}
-use Rattle.sheet_format.specs.SheetLines.{everyLine, SheetLine, declareLine, nodeLine, clauseLine, goalLine, twoNumbers, withVariable}
+use Rattle.sheet_format.specs.SheetLines.{NodeLine as SheetNode, variableLine, numberLine, applyLine, trueLine, andLine, orLine}
+use Rattle.sheet_format.specs.SheetLines.{impliesLine, someLine, everyLine, SheetLine, declareLine, nodeLine, clauseLine, goalLine}
+use Rattle.sheet_format.specs.SheetLines.{twoNumbers, withVariable}
 use Rattle.line_parser.specs.declared.lines.Nodes.{Nodes}
 use Rattle.line_parser.specs.declared.lines.NodeLine.{NodeLine}
-use Rattle.line_parser.specs.declared.lines.NodeLine.the-variants.{Variable, Apply, True, And, Or, Implies, Exists, Forall}
+use Rattle.line_parser.specs.declared.lines.NodeLine.the-variants.{Variable, Numeral, Apply, True, And, Or, Implies, Exists, Forall}
 use Rattle.line_parser.specs.declared.lines.Line.{Line}
 use Rattle.line_parser.specs.declared.lines.Line.the-variants.{Declare, Node, Clause, Goal, Refused}
 use Rattle.line_parser.specs.declared.lines.One.{One}
@@ -26,6 +27,7 @@ nodesOf ns = record { count = length ns; a = getD ns 0 0; b = getD ns 1 0; c = g
 -- The answer for a line that makes a node.
 unfoldable pub nodeAnswer : SheetNode → NodeLine
 nodeAnswer (variableLine v) = Variable v
+nodeAnswer (numberLine n) = Numeral n
 nodeAnswer (applyLine f ns) = Apply f (nodesOf ns)
 nodeAnswer trueLine = True
 nodeAnswer (andLine n m) = And n m
@@ -55,6 +57,7 @@ nodeList ns = take (ns .count) (ns .a ∷ ns .b ∷ ns .c ∷ ns .d ∷ [])
 -- The node line that an answer stands for.
 unfoldable pub nodeBack : NodeLine → SheetNode
 nodeBack (Variable v) = variableLine v
+nodeBack (Numeral n) = numberLine n
 nodeBack (Apply f ns) = applyLine f (nodeList ns)
 nodeBack True = trueLine
 nodeBack (And n m) = andLine n m

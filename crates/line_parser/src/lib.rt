@@ -9,6 +9,7 @@ use line_kinds::read_clause;
 use line_kinds::read_connective;
 use line_kinds::read_declaration;
 use line_kinds::read_goal;
+use line_kinds::read_numeral;
 use line_kinds::read_quantifier;
 use line_kinds::read_variable;
 use lines::Line;
@@ -27,6 +28,7 @@ fn read_fields(s: &[u8], letter: u8) -> Line
         b'F' => read_declaration(s, true),
         b'P' => read_declaration(s, false),
         b'V' => read_variable(s),
+        b'N' => read_numeral(s),
         b'A' => read_application(s),
         b'&' | b'|' | b'>' => read_connective(s, letter),
         b'E' | b'U' => read_quantifier(s, letter),

@@ -13,7 +13,7 @@ use outcomes::refusals;
 use sheet_format::limits;
 ghost use mathlib.Core.Path.{_≡_};
 ghost use Rattle.sheet_format.specs.Bytes.{fields};
-ghost use Rattle.sheet_format.specs.SheetLines.{nodeLine, variableLine, clauseLine, goalLine, numbers, declaration, oneNumber};
+ghost use Rattle.sheet_format.specs.SheetLines.{nodeLine, variableLine, numberLine, clauseLine, goalLine, numbers, declaration, oneNumber};
 ghost use Rattle.sheet_format.specs.SheetLines.{withVariable, application};
 ghost use Rattle.line_parser.specs.Lines.{lineAnswer, oneAnswer, arityAnswer, connectiveOf, quantifierOf};
 
@@ -55,6 +55,16 @@ pub fn read_variable(s: &[u8]) -> Line
         return Line::Refused(refusals::MALFORMED);
     }
     Line::Node(NodeLine::Variable(v))
+}
+
+// N: a number as a term (request W-204).
+pub fn read_numeral(s: &[u8]) -> Line
+    ensures { λ r. ⌜ r ≡ lineAnswer (oneNumber (λ n. nodeLine (numberLine n)) (numbers (fields (now (s .entry))))) ⌝ }
+{
+    let One::Only(n) = one_number(s) else {
+        return Line::Refused(refusals::MALFORMED);
+    };
+    Line::Node(NodeLine::Numeral(n))
 }
 
 // C: a clause's node.

@@ -21,6 +21,7 @@ pub struct Nodes {
 // A line that makes a node.
 pub enum NodeLine {
     Variable(u32),
+    Numeral(u32),
     Apply(u32, Nodes),
     True,
     And(u32, u32),

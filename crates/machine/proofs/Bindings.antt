@@ -9,7 +9,7 @@ use lib.Dec.{eqb}
 use lib.ListN.{length}
 use borrow.Author.Tests.{eqb-true, ne-eqb, eq-eqb}
 use Rattle.terms.specs.Lists.{All}
-use Rattle.terms.specs.Terms.{Term, leaf, app, Terms, Leaves}
+use Rattle.terms.specs.Terms.{Functor, Term, leaf, app, Terms, Leaves}
 use Rattle.unification.specs.Store.{Leaf, var, con, Binding, look1, look, boundTo}
 use Rattle.unification.specs.Promises.{Below, BelowBinding, Unbound, WellBound}
 use Rattle.unification.proofs.Look.{look1-other}
@@ -100,7 +100,7 @@ hop1-other (leaf (con c k)) b h = refl
 hop1-other (app f ts) b h = refl
 
 -- Looking through an application gives it back in no turn.
-pub look-app : (bs : List Binding) (f : ℕ) (ts : Terms Leaf) → (look bs (app f ts) ≡ app f ts) × (hops bs (app f ts) ≡ 0)
+pub look-app : (bs : List Binding) (f : Functor) (ts : Terms Leaf) → (look bs (app f ts) ≡ app f ts) × (hops bs (app f ts) ≡ 0)
 unfolding look look1 hops hop1
 look-app [] f ts = (refl, refl)
 look-app (b ∷ bs) f ts = let r = look-app bs f ts in (rw (r .0), rw (r .0, r .1))

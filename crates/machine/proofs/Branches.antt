@@ -6,7 +6,7 @@ use mathlib.Core.Path.{_≡_, refl, sym, ap, ap₂, _∙_, fun-ext, subst}
 use mathlib.Core.List.{List, [], _∷_}
 use lib.Dec.{ltb}
 use borrow.Author.Tests.{ltb-true, ne-eqb}
-use Rattle.terms.specs.Terms.{leaf, app, nil}
+use Rattle.terms.specs.Terms.{sheetSymbol, leaf, app, nil}
 use Rattle.formulas.specs.Formulas.{Clause}
 use Rattle.sequents.specs.Sequents.{Environment, Program, hypothesis, Sequent, Line}
 use Rattle.sequents.specs.Derivations.{sheetProgram}
@@ -31,7 +31,7 @@ pub first-environment : (w : List ℕ) → environmentAt w 0 ≡ startEnvironmen
 unfolding environmentAt startEnvironment slotOf
 first-environment w = fun-ext (λ v. go v (ltb v 8) refl)
   where
-    go : (v : ℕ) (b : Bool) → ltb v 8 ≡ b → cond b (leaf (leafOf w (variableWord v))) (app 0 nil) ≡ cond b (leaf (var v)) (app 0 nil)
+    go : (v : ℕ) (b : Bool) → ltb v 8 ≡ b → cond b (leaf (leafOf w (variableWord v))) (app (sheetSymbol 0) nil) ≡ cond b (leaf (var v)) (app (sheetSymbol 0) nil)
     go v true q = let l = ltb-true v 8 q in ap leaf (ap (leafOf w) (variable-small v (omega arith)) ∙ variable-leaf w v)
     go v false q = refl
 

@@ -17,6 +17,7 @@ use Rattle.search.specs.Steps.{settle}
 use Rattle.sheet_format.specs.Limits.{maxBudget, maxNodes, numbersPerUnit}
 use Rattle.node_table.specs.Layout.{childCount, labelOf}
 use Rattle.node_table.specs.Decoding.{argumentsAt}
+use Rattle.node_table.proofs.Functors.{labels-compare}
 use Rattle.machine.specs.declared.Registers.{Registers}
 use Rattle.machine.specs.Fields as fields
 use Rattle.machine.specs.Records.{made, putPairs}
@@ -182,6 +183,7 @@ module _ (T : Table) (w : List ℕ) (r : Registers) (s : Store) (b : Branch) (ds
         ← l′,
         ← z,
         ← z′,
+        labels-compare (labelOf (T .numbers) m) (labelOf (T .numbers) n),
       )
       (go (eqb (labelOf (T .numbers) m) (labelOf (T .numbers) n)) refl)
     where

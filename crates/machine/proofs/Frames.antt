@@ -9,7 +9,7 @@ use lib.Dec.{ltb, eqb}
 use lib.ListN.{length}
 use borrow.Author.Tests.{ltb-true, ltb-false, eqb-true, eqb-false, ne-eqb}
 use Rattle.terms.specs.Lists.{update}
-use Rattle.terms.specs.Terms.{leaf, app, nil}
+use Rattle.terms.specs.Terms.{sheetSymbol, leaf, app, nil}
 use Rattle.sequents.specs.Sequents.{Environment, assign}
 use Rattle.unification.specs.Store.{Leaf, var, Store, past, fresh, freshLevels, freshVariables}
 use Rattle.unification.specs.Promises.{Formed}
@@ -61,7 +61,7 @@ unfolding environmentAt
 environment-same w w′ f e = fun-ext (λ v. go v (ltb v 8) refl)
   where
     go : (v : ℕ) (b : Bool) → ltb v 8 ≡ b
-        → cond b (leaf (leafOf w′ (slotOf w′ f v))) (app 0 nil) ≡ cond b (leaf (leafOf w (slotOf w f v))) (app 0 nil)
+        → cond b (leaf (leafOf w′ (slotOf w′ f v))) (app (sheetSymbol 0) nil) ≡ cond b (leaf (leafOf w (slotOf w f v))) (app (sheetSymbol 0) nil)
     go v true q = ap leaf (leaf-same w w′ (slotOf w′ f v) e ∙ ap (leafOf w) (slot-same w w′ f v (ltb-true v 8 q) e))
     go v false q = refl
 
@@ -139,7 +139,7 @@ made-held w w′ u f e h s =
     }
   where
     go : (v : ℕ) (q : Bool) → ltb v 8 ≡ q
-        → cond q (leaf (leafOf w′ (slotOf w′ (suc u) v))) (app 0 nil) ≡ cond q (leaf (leafOf w (slotOf w f v))) (app 0 nil)
+        → cond q (leaf (leafOf w′ (slotOf w′ (suc u) v))) (app (sheetSymbol 0) nil) ≡ cond q (leaf (leafOf w (slotOf w f v))) (app (sheetSymbol 0) nil)
     go v true q =
         let l = ltb-true v 8 q in ap leaf (ap (leafOf w′) (made-slot w′ u v ∙ s v l)
         ∙ leaf-extends u w w′ (slotOf w f v) e (slot-leaf u w f v l h))
@@ -185,17 +185,17 @@ slot-made w u v a e l b h la ea m = record {
     slot i k false q = rw (other i k (eqb-false i v q)) (m .frame .1 i k)
 
     go : (i : ℕ) (p : Bool) → ltb i 8 ≡ p → (c : Bool) → eqb i v ≡ c
-        → ((x : Unit {0}) → cond (ltb i 8) (leaf (leafOf w (slotOf w (suc u) i))) (app 0 nil) ≡ e i)
-        → cond p (leaf (leafOf w′ (slotOf w′ (suc u) i))) (app 0 nil) ≡ cond c (leaf l) (e i)
+        → ((x : Unit {0}) → cond (ltb i 8) (leaf (leafOf w (slotOf w (suc u) i))) (app (sheetSymbol 0) nil) ≡ e i)
+        → cond p (leaf (leafOf w′ (slotOf w′ (suc u) i))) (app (sheetSymbol 0) nil) ≡ cond c (leaf l) (e i)
     go i true p true q k =
         ap leaf (leaves (slotOf w′ (suc u) i)
         ∙ ap (leafOf w) (made-slot w′ u i ∙ ap (λ (j : ℕ). field w′ u (fields.frame + j)) (eqb-true i v q) ∙ same) ∙ ea)
     go i true p false q k =
         let o = other i (ltb-true i 8 p) (eqb-false i v q) in
         ap leaf (leaves (slotOf w′ (suc u) i) ∙ ap (leafOf w) (made-slot w′ u i ∙ o ∙ sym (made-slot w u i)))
-        ∙ subst (λ (z : Bool). cond z (leaf (leafOf w (slotOf w (suc u) i))) (app 0 nil) ≡ e i) p (k tt)
+        ∙ subst (λ (z : Bool). cond z (leaf (leafOf w (slotOf w (suc u) i))) (app (sheetSymbol 0) nil) ≡ e i) p (k tt)
     go i false p true q k = absurd (let x = ltb-false i 8 p in let y = eqb-true i v q in omega arith)
-    go i false p false q k = subst (λ (z : Bool). cond z (leaf (leafOf w (slotOf w (suc u) i))) (app 0 nil) ≡ e i) p (k tt)
+    go i false p false q k = subst (λ (z : Bool). cond z (leaf (leafOf w (slotOf w (suc u) i))) (app (sheetSymbol 0) nil) ≡ e i) p (k tt)
 
 -- A frame that was made stays where frames stay.
 pub made-same : (w w′ : List ℕ) (u : ℕ) (e : Environment Leaf) → SameFrames w w′ → FrameMade w u e → FrameMade w′ u e

@@ -4,9 +4,9 @@ use native.Mathlib.Omega.{arith}
 use mathlib.Core.Path.{_≡_, sym, ap, _∙_}
 use mathlib.Core.List.{List}
 use Rattle.terms.specs.Terms.{leaf, app}
-use Rattle.node_table.specs.Layout.{kindOf, childCount, labelOf, childOf, arityOf, variableKind, applicationKind}
-use Rattle.node_table.specs.Decoding.{termAt, argumentsAt}
-use Rattle.node_table.specs.WellMade.{IsTerm, Arguments, WellMade}
+use Rattle.node_table.specs.Layout.{kindOf, childCount, labelOf, childOf, variableKind, applicationKind}
+use Rattle.node_table.specs.Decoding.{functorOf, termAt, argumentsAt}
+use Rattle.node_table.specs.WellMade.{IsTerm, labelArity, Arguments, WellMade}
 use Rattle.node_table.proofs.Decoding.{Nodes, nodes-of, term-variable, term-application}
 
 pub record Table : Type 0 where
@@ -48,7 +48,7 @@ module _ (T : Table) where
   -- Equal symbols have equally many.
   pub same-count : (n m : ℕ) → Applied n → Applied m → labelOf (T .numbers) n ≡ labelOf (T .numbers) m
       → childCount (T .numbers) n ≡ childCount (T .numbers) m
-  same-count n m a b e = a .1 .many ∙ ap (arityOf (T .numbers)) e ∙ sym (b .1 .many)
+  same-count n m a b e = a .1 .many ∙ ap (labelArity (T .numbers)) e ∙ sym (b .1 .many)
 
   -- A variable's name is below 8.
   pub name-small : (n : ℕ) → TermOf n → kindOf (T .numbers) n ≡ variableKind → labelOf (T .numbers) n < 8
@@ -67,5 +67,5 @@ module _ (T : Table) where
   variable-is n h e = term-variable (T .numbers) (T .nodes) nodes-are n (h .0) (h .1) e
 
   -- The term of an application's node is its symbol with its arguments.
-  pub application-is : (n : ℕ) → ApplicationOf n → termAt (T .numbers) n ≡ app (labelOf (T .numbers) n) (argumentsAt (T .numbers) n)
+  pub application-is : (n : ℕ) → ApplicationOf n → termAt (T .numbers) n ≡ app (functorOf (labelOf (T .numbers) n)) (argumentsAt (T .numbers) n)
   application-is n h = term-application (T .numbers) (T .nodes) nodes-are n (h .0) (h .1) (h .2)

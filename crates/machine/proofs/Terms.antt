@@ -6,13 +6,13 @@ use mathlib.Core.Path.{_≡_, refl, sym, ap, ap₂, _∙_, fun-ext, subst}
 use mathlib.Core.List.{List}
 use lib.Dec.{ltb, eqb}
 use borrow.Author.Tests.{ltb-true, lt-ltb, eqb-true, eqb-false, ne-eqb}
-use Rattle.terms.specs.Terms.{Term, leaf, app, nil, Terms, substitute, substitutes}
+use Rattle.terms.specs.Terms.{Functor, sheetSymbol, Term, leaf, app, nil, Terms, substitute, substitutes}
 use Rattle.unification.specs.Store.{Leaf, var, con}
 use Rattle.unification.proofs.Stores.{below-more}
 use Rattle.search.proofs.Invariant.{EnvironmentBelow}
 use Rattle.sheet_format.specs.Limits.{maxBudget, maxNodes, variableNames}
 use Rattle.node_table.specs.Layout.{kindOf, labelOf, variableKind}
-use Rattle.node_table.specs.Decoding.{termAt, argumentsAt}
+use Rattle.node_table.specs.Decoding.{functorOf, termAt, argumentsAt}
 use Rattle.machine.specs.Fields as fields
 use Rattle.machine.specs.Words.{closureWord, slotOf, wordOf, leafOf, environmentAt, termOf, tagOf}
 use Rattle.machine.proofs.Words.{variable-small, closure-small, tag-is, name-is, node-is, frame-is, zero-tag}
@@ -93,7 +93,7 @@ unfolding environmentAt
 environment-extends n w w′ f e h = fun-ext (λ v. go v (ltb v 8) refl)
   where
     go : (v : ℕ) (b : Bool) → ltb v 8 ≡ b
-        → cond b (leaf (leafOf w′ (slotOf w′ f v))) (app 0 nil) ≡ cond b (leaf (leafOf w (slotOf w f v))) (app 0 nil)
+        → cond b (leaf (leafOf w′ (slotOf w′ f v))) (app (sheetSymbol 0) nil) ≡ cond b (leaf (leafOf w (slotOf w f v))) (app (sheetSymbol 0) nil)
     go v true q =
         let l = ltb-true v 8 q in
         ap leaf (ap (leafOf w′) (slot-extends n w w′ f v l e h) ∙ leaf-extends n w w′ (slotOf w f v) e (slot-leaf n w f v l h))
@@ -130,8 +130,8 @@ module _ (T : Table) where
   pub data WordAt (n x : ℕ) (w : List ℕ) : ℕ → Term Leaf → Type 0 where
     word-variable : {a y : ℕ} → a ≡ 4 * y + 1 → WordAt n x w a (leaf (var y))
     word-constant : {a c k : ℕ} → a ≡ 4 * c + 2 → c < n → field w c fields.constantLevel ≡ k → WordAt n x w a (leaf (con c k))
-    word-closure : {a g : ℕ} {ts : Terms Leaf} (m f : ℕ) → a ≡ 4 * (maxNodes * f + m) + 3 → ApplicationOf T m → FrameIn n x w f
-        → labelOf (T .numbers) m ≡ g
+    word-closure : {a : ℕ} {g : Functor} {ts : Terms Leaf} (m f : ℕ) → a ≡ 4 * (maxNodes * f + m) + 3 → ApplicationOf T m → FrameIn n x w f
+        → functorOf (labelOf (T .numbers) m) ≡ g
         → substitutes (argumentsAt (T .numbers) m) (environmentAt w f) ≡ ts → WordAt n x w a (app g ts)
 
   -- A term's word stays in an extended memory.

@@ -36,7 +36,8 @@ argumentWord t w a f = wordOf t w (childOf t (field w (a / maxArity - 1) f) (a %
 unfoldable pub duePairs : List ℕ → Registers → ℕ → Registers
 duePairs w r a = cond (eqb a 0) (proceed w r) (withPairs r a)
 
--- "Two applications: the same symbol, then their arguments; else fail." After them the pairs at e.
+-- "Two applications: the same symbol, then their arguments; else fail." Labels tell symbols and numbers (request W-204) apart. After them the
+-- pairs at e.
 unfoldable pub compareClosures : List ℕ → List ℕ → Registers → ℕ → ℕ → ℕ → Made
 compareClosures t w r e x y =
     cond (eqb (labelOf t (nodeOf x)) (labelOf t (nodeOf y)))

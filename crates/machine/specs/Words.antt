@@ -4,7 +4,7 @@ use Prim.Native.Nat.{ℕ, zero, suc, _+_, _-_, _*_, _/_, _%_}
 use mathlib.Core.Bool.{true, false, cond}
 use mathlib.Core.List.{List}
 use lib.Dec.{eqb, ltb}
-use Rattle.terms.specs.Terms.{Term, leaf, app, nil, substitute}
+use Rattle.terms.specs.Terms.{sheetSymbol, Term, leaf, app, nil, substitute}
 use Rattle.unification.specs.Store.{Leaf, var, con}
 use Rattle.sheet_format.specs.Limits.{maxNodes, variableNames}
 use Rattle.node_table.specs.Layout.{kindOf, labelOf, variableKind}
@@ -77,7 +77,7 @@ unfoldable pub leafOf : List ℕ → ℕ → Leaf
 leafOf w a = cond (eqb (tagOf a) variableTag) (var (nameOf a)) (con (nameOf a) (field w (nameOf a) fields.constantLevel))
 
 unfoldable pub environmentAt : List ℕ → ℕ → ℕ → Term Leaf
-environmentAt w f v = cond (ltb v variableNames) (leaf (leafOf w (slotOf w f v))) (app 0 nil)
+environmentAt w f v = cond (ltb v variableNames) (leaf (leafOf w (slotOf w f v))) (app (sheetSymbol 0) nil)
 
 unfoldable pub termOf : List ℕ → List ℕ → ℕ → Term Leaf
 termOf t w a = cond (eqb (tagOf a) closureTag) (substitute (termAt t (nodeOf a)) (environmentAt w (frameOf a))) (leaf (leafOf w a))

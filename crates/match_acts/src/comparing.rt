@@ -21,7 +21,7 @@ ghost use Prim.Native.Nat.{_+_};
 ghost use Rattle.machine.specs.Records.{made};
 ghost use Rattle.machine.specs.Matching.{compareClosures, compareLeaves, compareWords, comparePair};
 
-// Two applications: the same symbol, then their arguments, then the pairs at e.
+// Two applications: the same symbol or number, then their arguments, then the pairs at e.
 pub fn compare_closures(t: &[u32], w: &mut [u32], r: Registers, e: u32, x: u32, y: u32) -> Registers
     ensures { λ s. ⌜ made (now (w .exit)) s ≡ compareClosures (now (t .entry)) (now (w .entry)) r e x y ⌝ }
 {

@@ -11,7 +11,7 @@ use Rattle.terms.specs.Terms.{Term, leaf, app, cons}
 use Rattle.formulas.specs.Formulas.{Goal, atom, truth, and, or, implies, exists, forall, fact, rule, both, each}
 use Rattle.node_table.specs.Layout.{kindOf, childCount, labelOf, childOf, forallKind, impliesKind, andKind, atomKind, existsKind}
 use Rattle.node_table.specs.Layout.{orKind, trueKind, applicationKind, variableKind}
-use Rattle.node_table.specs.Decoding.{childrenBy, termBy, termAt, argumentsAt, goalBy, clauseBy, goalAt, clauseAtNode}
+use Rattle.node_table.specs.Decoding.{functorOf, childrenBy, termBy, termAt, argumentsAt, goalBy, clauseBy, goalAt, clauseAtNode}
 use Rattle.node_table.specs.WellMade.{IsTerm, IsGoal, IsClause, Arguments, TermNode, GoalNode, ClauseNode, WellMade}
 use Rattle.node_table.proofs.Same.{Same, same-self, same-kind, same-count, same-label, same-child}
 
@@ -67,7 +67,7 @@ module _ (f : ℕ) (t : List ℕ) (n : ℕ) where
   termBy-variable e = rw (termBy, e)
 
   pub termBy-application : kindOf t n ≡ applicationKind
-      → termBy (suc f) t n ≡ app (labelOf t n) (childrenBy (termBy f t) t n (childCount t n) 0)
+      → termBy (suc f) t n ≡ app (functorOf (labelOf t n)) (childrenBy (termBy f t) t n (childCount t n) 0)
   unfolding termBy
   termBy-application e = rw (termBy, e)
 
@@ -151,7 +151,7 @@ module _ (t u : List ℕ) (symbols nodes : ℕ) (same : Same t u symbols nodes) 
         (λ z. termBy-variable f u n (e ∙ z) ∙ ap leaf l ∙ sym (termBy-variable g t n z))
         (λ z.
         let y : kindOf t n ≡ applicationKind = omega arith in
-        termBy-application f u n (e ∙ y) ∙ ap₂ app l (arguments-agree (termBy f u) (termBy g t) n h (m .application y) ih)
+        termBy-application f u n (e ∙ y) ∙ ap₂ app (ap functorOf l) (arguments-agree (termBy f u) (termBy g t) n h (m .application y) ih)
         ∙ sym (termBy-application g t n y))
 
     pub term-agree : (f g n : ℕ) → n < f → n < g → n < nodes → IsTerm t n → termBy f u n ≡ termBy g t n
@@ -282,11 +282,11 @@ module _ (t : List ℕ) (nodes : ℕ) (made : Nodes t nodes) (n : ℕ) (h : n < 
   unfolding termAt
   term-variable i e = termBy-variable n t n e
 
-  pub term-application : IsTerm t n → kindOf t n ≡ applicationKind → termAt t n ≡ app (labelOf t n) (argumentsAt t n)
+  pub term-application : IsTerm t n → kindOf t n ≡ applicationKind → termAt t n ≡ app (functorOf (labelOf t n)) (argumentsAt t n)
   unfolding termAt argumentsAt
   term-application i e =
       termBy-application n t n e
-      ∙ ap (app (labelOf t n)) (arguments-agree t t 0 nodes (same-self t 0 nodes) (termBy n t) (termAt t) n h
+      ∙ ap (app (functorOf (labelOf t n))) (arguments-agree t t 0 nodes (same-self t 0 nodes) (termBy n t) (termAt t) n h
       (made .term n h i .application e) term-below)
 
   pub goal-atom : kindOf t n ≡ atomKind → goalAt t n ≡ atom (labelOf t n) (argumentsAt t n)

@@ -3,3 +3,4 @@ pub mod Same
 pub mod Decoding
 pub mod Nodes
 pub mod Bits
+pub mod Functors

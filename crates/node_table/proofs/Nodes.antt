@@ -1,17 +1,19 @@
 -- What is known of a node stays when the table changes elsewhere: in symbols, nodes and clauses that come after.
 use Prim.Native.Nat.{ℕ, _+_, _<_, _≤_}
 use native.Mathlib.Omega.{arith}
-use mathlib.Core.Path.{_≡_, sym, ap, ap₂, _∙_, subst}
-use mathlib.Core.Bool.{Bool}
+use mathlib.Core.Path.{_≡_, refl, sym, ap, ap₂, _∙_, subst}
+use mathlib.Core.Bool.{Bool, true, false, cond}
 use mathlib.Core.List.{List}
-use lib.Dec.{eqb}
+use lib.Dec.{eqb, ltb}
 use lib.ListN.{length}
+use borrow.Author.Tests.{ltb-true}
 use Rattle.terms.specs.Terms.{Term, size}
 use Rattle.formulas.specs.Formulas.{Goal, Clause, freeT, freeG, freeC}
 use Rattle.formulas.specs.Members.{members}
+use Rattle.sheet_format.specs.Limits.{maxSymbols}
 use Rattle.node_table.specs.Layout.{kindOf, labelOf, childOf, maskOf, bitOf, membersOf, arityOf, atomKind, applicationKind}
 use Rattle.node_table.specs.Decoding.{termAt, goalAt, clauseAtNode}
-use Rattle.node_table.specs.WellMade.{IsTerm, IsGoal, IsClause, Arguments, TermNode, GoalNode, ClauseNode}
+use Rattle.node_table.specs.WellMade.{IsTerm, IsGoal, IsClause, labelArity, Arguments, Declared, TermNode, GoalNode, ClauseNode}
 use Rattle.node_table.proofs.Same.{Same, same-kind, same-count, same-label, same-child, same-mask, same-goal, same-members}
 use Rattle.node_table.proofs.Same.{same-size, same-arity}
 use Rattle.node_table.proofs.Decoding.{Nodes, termAt-same, goalAt-same, clauseAt-same}
@@ -53,21 +55,28 @@ module _ (t u : List ℕ) (symbols nodes : ℕ) (s : Same t u symbols nodes) whe
         subst (λ (c : ℕ). (c < n) × IsClause u c) (sym (same-child t u symbols nodes s n h j l))
         (p, is-clause-same (childOf t n j) (omega arith) q)
 
-    pub arguments-same : labelOf t n < symbols → Arguments t n → Arguments u n
+    -- Declared symbols have their arities in the other table, and numbers take no arguments in either.
+    arity-same : (l : ℕ) → Declared symbols l → labelArity u l ≡ labelArity t l
+    unfolding labelArity
+    arity-same l d = go (ltb l maxSymbols) refl
+      where
+        go : (b : Bool) → ltb l maxSymbols ≡ b → cond b (arityOf u l) 0 ≡ cond b (arityOf t l) 0
+        go true e = same-arity t u symbols nodes s l (d (ltb-true l maxSymbols e))
+        go false e = refl
+
+    pub arguments-same : Declared symbols (labelOf t n) → Arguments t n → Arguments u n
     arguments-same l a =
         let e = same-label t u symbols nodes s n h in
         let c = same-count t u symbols nodes s n h in
         let few = a .few in
-        let symbol = a .symbol in
         record {
-          symbol = omega arith;
-          many = c ∙ a .many ∙ sym (ap (arityOf u) e ∙ same-arity t u symbols nodes s (labelOf t n) l);
+          many = c ∙ a .many ∙ sym (ap (labelArity u) e ∙ arity-same (labelOf t n) l);
           few = omega arith;
           terms = λ j k. term-child j (omega arith) (a .terms j (omega arith));
         }
 
   module _ (made : Nodes t nodes) (named : (n : ℕ) → n < nodes → applicationKind ≤ kindOf t n → kindOf t n ≤ atomKind
-      → labelOf t n < symbols) where
+      → Declared symbols (labelOf t n)) where
     -- An older node has its arguments in the other table.
     older : (n : ℕ) → n < nodes → (k : ℕ) → kindOf t n ≡ k → 1 ≤ k → k ≤ 2 → Arguments t n → Arguments u n
     older n h k e l m a = arguments-same n h (named n h (omega arith) (omega arith)) a

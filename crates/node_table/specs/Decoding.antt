@@ -1,15 +1,20 @@
 -- The table read back as trees. Children have smaller numbers than their node, so a node's own number is fuel enough.
-use Prim.Native.Nat.{ℕ, zero, suc}
-use mathlib.Core.Bool.{Bool, true, false}
+use Prim.Native.Nat.{ℕ, zero, suc, _-_}
+use mathlib.Core.Bool.{Bool, true, false, cond}
 use mathlib.Core.List.{List, [], _∷_}
-use lib.Dec.{eqb}
+use lib.Dec.{eqb, ltb}
 use lib.ListN.{take, drop}
-use Rattle.terms.specs.Terms.{Term, leaf, app, Terms, nil, cons}
+use Rattle.terms.specs.Terms.{Functor, sheetSymbol, numeral, Term, leaf, app, Terms, nil, cons}
 use Rattle.formulas.specs.Formulas.{Goal, atom, truth, and, or, implies, exists, forall, Clause, fact, rule, both, each}
+use Rattle.sheet_format.specs.Limits.{maxSymbols}
 use Rattle.sheet_format.specs.Nodes.{Declaration}
 use Rattle.sheet_format.specs.Sheets.{Sheet}
 use Rattle.node_table.specs.Layout.{kindOf, childCount, labelOf, childOf, isFunctionBit, nameStart, nameLength, arityOf, clauseNode}
 use Rattle.node_table.specs.Layout.{forallKind, impliesKind, andKind, existsKind, orKind, atomKind, variableKind}
+
+-- The label of an application: a symbol by its number, which is below 256; the number n, a term of request W-204, as 256 + n.
+unfoldable pub functorOf : ℕ → Functor
+functorOf l = cond (ltb l maxSymbols) (sheetSymbol l) (numeral (l - maxSymbols))
 
 -- The children from the j-th on, c of them, each read by r.
 unfoldable pub childrenBy : (ℕ → Term ℕ) → List ℕ → ℕ → ℕ → ℕ → Terms ℕ
@@ -22,7 +27,7 @@ termBy (suc f) t n =
     elim (eqb (kindOf t n) variableKind) [
       | true ↦ leaf (labelOf t n)
       | false ↦
-          app (labelOf t n) (childrenBy (termBy f t) t n (childCount t n) 0)
+          app (functorOf (labelOf t n)) (childrenBy (termBy f t) t n (childCount t n) 0)
     ]
 
 unfoldable pub termAt : List ℕ → ℕ → Term ℕ

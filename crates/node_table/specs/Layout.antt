@@ -27,7 +27,8 @@ nameLengthField = 1
 abbrev pub arityField : ℕ
 arityField = 2
 
--- Fields of a node: kind + 16 * number of children, the symbol or the variable, the children, what it is (below).
+-- Fields of a node: kind + 16 * number of children, the label (the symbol, the variable, or 256 + n for the number n), the children, what it
+-- is (below).
 abbrev pub headField : ℕ
 headField = 0
 
@@ -74,7 +75,7 @@ nodeAt n f = firstNode + (nodeNumbers * n + f)
 abbrev pub clauseAt : ℕ → ℕ
 clauseAt i = firstClause + i
 
--- Kinds: V, F applied, P applied (an atom), Y, &, |, >, E, U.
+-- Kinds: V, F applied or N, P applied (an atom), Y, &, |, >, E, U.
 abbrev pub variableKind : ℕ
 variableKind = 0
 

@@ -2,9 +2,9 @@
 -- engine and the checker rely on it.
 use Prim.Native.Nat.{ℕ, suc, _+_, _≤_, _<_}
 use mathlib.Core.Path.{_≡_}
-use mathlib.Core.Bool.{Bool, true, false}
+use mathlib.Core.Bool.{Bool, true, false, cond}
 use mathlib.Core.List.{List}
-use lib.Dec.{eqb}
+use lib.Dec.{eqb, ltb}
 use lib.ListN.{length}
 use Rattle.terms.specs.Terms.{size}
 use Rattle.formulas.specs.Formulas.{freeT, freeG, freeC}
@@ -24,10 +24,13 @@ IsGoal t n = goalBit t n ≡ 1
 abbrev pub IsClause : List ℕ → ℕ → Type 0
 IsClause t n = 1 ≤ membersOf t n
 
--- The children of an application or an atom: as many as the symbol's arity, at most four, all terms made before.
+-- How many arguments stand after a label: the arity of a symbol, none after a number.
+unfoldable pub labelArity : List ℕ → ℕ → ℕ
+labelArity t l = cond (ltb l maxSymbols) (arityOf t l) 0
+
+-- The children of an application or an atom: as many as stand after its label, at most four, all terms made before.
 pub record Arguments (t : List ℕ) (n : ℕ) : Type 0 where
-  pub symbol : labelOf t n < maxSymbols
-  pub many : childCount t n ≡ arityOf t (labelOf t n)
+  pub many : childCount t n ≡ labelArity t (labelOf t n)
   pub few : childCount t n ≤ maxArity
   pub terms : (j : ℕ) → j < childCount t n → (childOf t n j < n) × IsTerm t (childOf t n j)
 
@@ -75,6 +78,10 @@ pub record WellMade (t : List ℕ) (nodes clauses goal : ℕ) : Type 0 where
   pub goal-there : goal < nodes
   pub goal-is : IsGoal t goal
 
--- The applications of a table name symbols that are declared.
+-- A label that is a symbol is one that is declared.
+abbrev pub Declared : ℕ → ℕ → Type 0
+Declared symbols l = l < maxSymbols → l < symbols
+
+-- The applications of a table name symbols that are declared, or are numbers.
 abbrev pub Named : List ℕ → ℕ → ℕ → Type 0
-Named t nodes symbols = (n : ℕ) → n < nodes → IsTerm t n → kindOf t n ≡ applicationKind → labelOf t n < symbols
+Named t nodes symbols = (n : ℕ) → n < nodes → IsTerm t n → kindOf t n ≡ applicationKind → Declared symbols (labelOf t n)

@@ -26,7 +26,7 @@ use Rattle.node_table.specs.Layout.{nameStart, nameLength, isFunctionBit, arity
 use Rattle.printing.specs.Output.{emit, writeBytes, copyBytes, writeDigits, writeNumber, writeSymbol}
 use Rattle.printing.specs.Numbering.{withPosition, withVariables, withConstants, wrote, numberVariable, numberConstant, writeVariable}
 use Rattle.printing.specs.Numbering.{writeConstant}
-use Rattle.printing.specs.WriteTerms.{emitTo, writeName, separator, argumentsBy, bracketedBy, applicationBy, wordBy, writeTerm}
+use Rattle.printing.specs.WriteTerms.{emitTo, writeName, writeFunctor, separator, argumentsBy, bracketedBy, applicationBy, wordBy, writeTerm}
 use Rattle.printing.specs.WriteTerms.{termTo}
 use Rattle.printing.specs.WriteLines.{bytesTo, numberTo, resultTo, plainBytes, termLine, bindingsTo, prefixTo, clauseTo, lineTo}
 use Rattle.printing.specs.WriteLines.{linesTo}
@@ -49,7 +49,7 @@ unfolding field putField cellOf levelOf putCell putLevel putEntry putGoal putAss
     nodesAfter checkNode clauseOf clauseFrame nextClause nextMember putPrefix saveAlternative putBody putTry tried tryMember tryFound
     tryNext dueAct act runActs startMemory startRegisters runMachine kindOf childCount labelOf childOf infoOf packInfo maskOf goalBit
     membersOf sizeOf bitOf nameStart nameLength isFunctionBit arityOf clauseNode emit writeBytes copyBytes writeDigits writeNumber
-    writeSymbol withPosition withVariables withConstants wrote numberVariable numberConstant writeVariable writeConstant emitTo writeName
+    writeSymbol withPosition withVariables withConstants wrote numberVariable numberConstant writeVariable writeConstant emitTo writeName writeFunctor
     separator argumentsBy bracketedBy applicationBy wordBy writeTerm termTo bytesTo numberTo resultTo plainBytes termLine bindingsTo
     prefixTo clauseTo lineTo linesTo linkWord linkPath clearConstants clearVariables textLimit proofPass prepare firstLink writePass
     writeProof shortPass writeShort writeNo writeSpent ascii

@@ -3,7 +3,7 @@ use Prim.Native.Nat.{ℕ, zero, suc, _+_, _-_, _*_, _≤_, _<_}
 use Prim.Native.Char.{code}
 use native.Mathlib.Omega.{arith}
 use mathlib.Core.Path.{_≡_, refl, sym, ap, _∙_, subst}
-use mathlib.Core.Bool.{Bool, true, false}
+use mathlib.Core.Bool.{Bool, true, false, cond}
 use mathlib.Core.List.{List, [], _∷_, _++_, map, append-assoc}
 use mathlib.Core.Logic.{_⊎_}
 use mathlib.Core.Option.{some}
@@ -11,27 +11,27 @@ use lib.Dec.{eqb, ltb}
 use lib.ListN.{length, take, drop, getElem?}
 use borrow.Author.Tests.{ne-eqb, ltb-true, ltb-false, le-ltb}
 use Rattle.terms.specs.Lists.{All}
-use Rattle.terms.specs.Terms.{Term, leaf, app, Terms, nil, cons, substitute, substitutes, Leaves}
+use Rattle.terms.specs.Terms.{sheetSymbol, numeral, Term, leaf, app, Terms, nil, cons, substitute, substitutes, Leaves}
 use Rattle.sequents.specs.Symbols.{Symbol, Ground}
 use Rattle.unification.specs.Store.{Leaf, Store, look, boundTo}
 use Rattle.unification.specs.Promises.{Below, Unbound, Formed}
 use Rattle.search.specs.Answers.{final}
 use Rattle.sheet_format.specs.Nodes.{Declaration}
-use Rattle.sheet_format.specs.Limits.{maxBudget, maxNodes, numbersPerUnit}
+use Rattle.sheet_format.specs.Limits.{maxSymbols, maxBudget, maxNodes, numbersPerUnit}
 use Rattle.node_table.specs.Layout.{labelOf, childOf, childCount, nameStart, nameLength}
-use Rattle.node_table.specs.Decoding.{termAt, childrenBy, argumentsAt, declarationAt, declarationsFrom}
-use Rattle.node_table.specs.WellMade.{Named}
+use Rattle.node_table.specs.Decoding.{functorOf, termAt, childrenBy, argumentsAt, declarationAt, declarationsFrom}
+use Rattle.node_table.specs.WellMade.{Declared, Named}
 use Rattle.node_table.proofs.Decoding.{Nodes}
-use Rattle.answer_texts.specs.Spelling.{nameIn, nameOf}
+use Rattle.answer_texts.specs.Spelling.{nameIn, nameOf, spellFunctor}
 use Rattle.machine.specs.Records.{cellOf, levelOf}
 use Rattle.machine.specs.Words.{nodeOf, frameOf, wordOf, environmentAt, termOf, deref}
 use Rattle.machine.specs.Reading.{variableOf}
-use Rattle.printing.specs.Output.{emit}
+use Rattle.printing.specs.Output.{emit, writeNumber}
 use Rattle.printing.specs.Numbering.{withPosition, Printer, wrote}
-use Rattle.printing.specs.WriteTerms.{emitTo, writeName, separator, argumentsBy, bracketedBy, applicationBy, wordBy, writeTerm}
+use Rattle.printing.specs.WriteTerms.{emitTo, writeName, writeFunctor, separator, argumentsBy, bracketedBy, applicationBy, wordBy, writeTerm}
 use Rattle.printing.specs.WriteLines.{bytesTo}
 use Rattle.printing.specs.Written.{variable, constant, Closure, TermWord, ofLeaf, ofClosure}
-use Rattle.printing.proofs.Bytes.{emit-over, emit-within}
+use Rattle.printing.proofs.Bytes.{number-bytes, emit-over, emit-within}
 use Rattle.printing.proofs.PrinterStates.{name-then}
 use Rattle.printing.proofs.Tokens.{Token, byte, showSymbol, step, steps, steps-over, steps-bytes, termTokens, argumentTokens}
 use Rattle.printing.proofs.Tokens.{moreTokens, signs, none-signs, term-signs}
@@ -72,6 +72,20 @@ unfolding nameOf nameIn declarationAt
 name-declared sheet t symbols f h =
     ap nameIn (declared sheet t symbols 0 f h)
     ∙ ap (λ (j : ℕ). take (nameLength t j) (drop (nameStart t j) sheet)) (let e : 0 + f ≡ f = omega arith in e)
+
+-- A label that is a symbol is one that is declared, and what is written for a label spells its functor.
+functor-then : (sheet t : List ℕ) (symbols limit : ℕ) (g : Printer) (l : ℕ) → Declared symbols l
+    → writeFunctor sheet t limit g l ≡ bytesTo limit g (spellFunctor (declarationsFrom sheet t symbols 0) (functorOf l))
+unfolding writeFunctor spellFunctor functorOf bytesTo
+functor-then sheet t symbols limit g l d = go (ltb l maxSymbols) refl
+  where
+    go : (c : Bool) → ltb l maxSymbols ≡ c
+        → elim c as (λ c. Printer)
+        [ true ↦ writeName sheet t limit g l | false ↦ wrote g (writeNumber (g .buffer) limit (g .cursor .at) (l - maxSymbols)) ]
+        ≡ bytesTo limit g (spellFunctor (declarationsFrom sheet t symbols 0) (cond c (sheetSymbol l) (numeral (l - maxSymbols))))
+    go true e =
+        name-then sheet t limit g l ∙ ap (bytesTo limit g) (sym (name-declared sheet t symbols l (d (ltb-true l maxSymbols e))))
+    go false e = ap (wrote g) (number-bytes (l - maxSymbols) (g .buffer) limit (g .cursor .at))
 
 -- After one byte, or past the limit, one rank less suffices.
 emit-rank : (limit rank : ℕ) (g : Printer) (b : ℕ) → limit ≤ 65535 → limit < g .cursor .at + suc rank
@@ -211,21 +225,21 @@ module _ (sheet t : List ℕ) (symbols nodes : ℕ) (w : List ℕ) (acts : ℕ) 
     -- The name, then the arguments.
     application-steps : (limit : ℕ) → limit ≤ 65535 → (g : Printer) → Alike 62 w (g .memory) → limit < g .cursor .at + suc rank
         → Reaches w limit
-        (termTokens (app (labelOf t (nodeOf x)) (substitutes (substitutes (argumentsAt t (nodeOf x)) environment) (final s)))
+        (termTokens (app (functorOf (labelOf t (nodeOf x))) (substitutes (substitutes (argumentsAt t (nodeOf x)) environment) (final s)))
         declarations) g (applicationBy (writeTerm rank sheet t acts) sheet t limit g (nodeOf x) (frameOf x))
-    unfolding applicationBy termTokens argumentsAt writeName wrote
+    unfolding applicationBy termTokens argumentsAt
     application-steps limit low g a r =
         let f = labelOf t (nodeOf x) in
-        let name = nameOf declarations f in
-        let h = writeName sheet t limit g f in
+        let name = spellFunctor declarations (functorOf f) in
+        let h = writeFunctor sheet t limit g f in
         let e : h ≡ steps limit (map byte name) g =
-        name-then sheet t limit g f
-        ∙ ap (bytesTo limit g) (sym (name-declared sheet t symbols f (b .named (nodeOf x) (c .there) (c .term) (c .application))))
+        functor-then sheet t symbols limit g f (b .named (nodeOf x) (c .there) (c .term) (c .application))
         ∙ sym (steps-bytes limit name g)
         in
         let p = exactly limit (map byte name) g h (subst (All (Right w (s .next) acts)) (sym (none-signs name)) tt) e in
         reaches-then w limit (map byte name) (argumentTokens (children (childCount t (nodeOf x)) 0) declarations) g h _ low p
-        (all-steps limit low (childCount t (nodeOf x)) refl h a (reaches-rank w limit (map byte name) g h (suc rank) low p r))
+        (all-steps limit low (childCount t (nodeOf x)) refl h (reaches-kept w limit (map byte name) g h p a)
+        (reaches-rank w limit (map byte name) g h (suc rank) low p r))
 
   -- Within the limit, showing a symbol goes through the token of it.
   symbol-steps : (limit : ℕ) (g : Printer) (y : Symbol) (v : Ground) → v ≡ leaf y → g .cursor .at ≤ limit

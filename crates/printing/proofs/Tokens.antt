@@ -14,7 +14,7 @@ use Rattle.sheet_format.specs.Bytes.{ascii, tab, lf, decimal}
 use Rattle.sheet_format.specs.Nodes.{Declaration}
 use Rattle.answer_texts.specs.TextLines.{TextLine, resultLine, bindingLine, derivationLine, lineTerms, termsOf, renameTextLine}
 use Rattle.answer_texts.specs.Numbering.{symbolsIn, symbolsInAll, symbolsOf, shown}
-use Rattle.answer_texts.specs.Spelling.{nameOf, spellSymbol, spellTerm, spellArguments, spellMore, spellTerms, spellWord, join, textLine}
+use Rattle.answer_texts.specs.Spelling.{spellFunctor, spellSymbol, spellTerm, spellArguments, spellMore, spellTerms, spellWord, join, textLine}
 use Rattle.answer_texts.specs.Spelling.{lineFields, textFields, spell}
 use Rattle.printing.specs.Output.{writeBytes}
 use Rattle.printing.specs.Numbering.{Printer, wrote, withPosition, writeVariable, writeConstant}
@@ -70,7 +70,7 @@ steps-bytes limit (b ∷ bs) g = steps-bytes limit bs (emitTo limit g b) ∙ sym
 unfoldable mutual
   pub termTokens : Ground → List Declaration → List Token
   termTokens (leaf s) ds = sign s ∷ []
-  termTokens (app f ts) ds = map byte (nameOf ds f) ++ argumentTokens ts ds
+  termTokens (app f ts) ds = map byte (spellFunctor ds f) ++ argumentTokens ts ds
 
   -- `argumentTokens` gives the tokens of a term's arguments, in brackets.
   pub argumentTokens : Terms Symbol → List Declaration → List Token
@@ -138,7 +138,7 @@ mutual
   -- The symbols among the tokens of a term are those that show in it.
   pub term-signs : (t : Ground) (ds : List Declaration) → signs (termTokens t ds) ≡ symbolsIn t
   term-signs (leaf s) ds = refl
-  term-signs (app f ts) ds = signs-bytes (nameOf ds f) (argumentTokens ts ds) ∙ argument-signs ts ds
+  term-signs (app f ts) ds = signs-bytes (spellFunctor ds f) (argumentTokens ts ds) ∙ argument-signs ts ds
 
   -- The symbols among the tokens of arguments are those that show in them.
   argument-signs : (ts : Terms Symbol) (ds : List Declaration) → signs (argumentTokens ts ds) ≡ symbolsInAll ts
@@ -214,7 +214,7 @@ mutual
   -- The bytes of a term's tokens spell the renamed term.
   term-spelled : (t : Ground) (ds : List Declaration) (r : Renaming) → spelled r (termTokens t ds) ≡ spellTerm (substitute t (renamed r)) ds
   term-spelled (leaf s) ds r = append-nil (spellSymbol (rename r s))
-  term-spelled (app f ts) ds r = spelled-bytes r (nameOf ds f) (argumentTokens ts ds) ∙ ap (nameOf ds f ++_) (argument-spelled ts ds r)
+  term-spelled (app f ts) ds r = spelled-bytes r (spellFunctor ds f) (argumentTokens ts ds) ∙ ap (spellFunctor ds f ++_) (argument-spelled ts ds r)
 
   -- The bytes of the tokens of arguments spell the renamed arguments.
   argument-spelled : (ts : Terms Symbol) (ds : List Declaration) (r : Renaming)

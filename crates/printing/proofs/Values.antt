@@ -11,7 +11,7 @@ use lib.Dec.{eqb, ltb}
 use lib.ListN.{length}
 use borrow.Author.Tests.{eqb-true, eqb-false, ne-eqb, ltb-true, ltb-false, lt-ltb}
 use Rattle.terms.specs.Lists.{All}
-use Rattle.terms.specs.Terms.{Term, leaf, app, Terms, nil, cons, substitute, substitutes, Leaves, LeavesAll, Appears}
+use Rattle.terms.specs.Terms.{sheetSymbol, Term, leaf, app, Terms, nil, cons, substitute, substitutes, Leaves, LeavesAll, Appears}
 use Rattle.terms.proofs.Lists.{all-append}
 use Rattle.terms.proofs.Terms.{leaves-substitute, leaves-any, leaves-appear, appears-leaves}
 use Rattle.sequents.specs.Symbols.{Symbol, made, leftover, Ground}
@@ -26,7 +26,7 @@ use Rattle.search.proofs.Values.{symbols}
 use Rattle.search.proofs.Answers.{leftovers, finalValues, final-valued}
 use Rattle.sheet_format.specs.Limits.{maxBudget, maxNodes, variableNames}
 use Rattle.node_table.specs.Layout.{kindOf, labelOf, childOf, childCount, applicationKind, variableKind}
-use Rattle.node_table.specs.Decoding.{termAt, childrenBy, argumentsAt}
+use Rattle.node_table.specs.Decoding.{functorOf, termAt, childrenBy, argumentsAt}
 use Rattle.node_table.specs.WellMade.{IsTerm}
 use Rattle.node_table.proofs.Decoding.{Nodes, term-variable, term-application}
 use Rattle.answer_texts.specs.Numbering.{symbolsIn, symbolsInAll}
@@ -127,7 +127,7 @@ module _ (t : List ℕ) (nodes : ℕ) (table : Nodes t nodes) (size : nodes ≤ 
 
   -- The word of a closure reads as an application.
   pub closure-term : (a : ℕ) → Closure t w nodes acts a
-      → termOf t w a ≡ app (labelOf t (nodeOf a)) (substitutes (argumentsAt t (nodeOf a)) (environmentAt w (frameOf a)))
+      → termOf t w a ≡ app (functorOf (labelOf t (nodeOf a))) (substitutes (argumentsAt t (nodeOf a)) (environmentAt w (frameOf a)))
   unfolding termOf substitute
   closure-term a c =
       rw (c .tag) (ap (λ (u : Term ℕ). substitute u (environmentAt w (frameOf a)))
@@ -202,7 +202,7 @@ module _ (t : List ℕ) (nodes : ℕ) (table : Nodes t nodes) (size : nodes ≤ 
   unfolding environmentAt Leaves
   environment-known f h v = go (ltb v 8) refl
     where
-      go : (b : Bool) → ltb v 8 ≡ b → Leaves (cond b (leaf (leafOf w (slotOf w f v))) (app 0 nil)) Known
+      go : (b : Bool) → ltb v 8 ≡ b → Leaves (cond b (leaf (leafOf w (slotOf w f v))) (app (sheetSymbol 0) nil)) Known
       go true e = leaf-known (slotOf w f v) (h v (ltb-true v 8 e))
       go false e = tt
 
@@ -338,7 +338,7 @@ module _ (t : List ℕ) (nodes : ℕ) (table : Nodes t nodes) (size : nodes ≤ 
 
     -- A word looked through that is a closure has an application as its value.
     pub closure-value : (a : ℕ) → Good a → (c : Closure t w nodes acts (deref acts w a))
-        → value s (termOf t w a) ≡ app (labelOf t (nodeOf (deref acts w a)))
+        → value s (termOf t w a) ≡ app (functorOf (labelOf t (nodeOf (deref acts w a))))
         (substitutes (substitutes (argumentsAt t (nodeOf (deref acts w a))) (environmentAt w (frameOf (deref acts w a)))) (final s))
     unfolding substitute
     closure-value a g c = sought-value a g ∙ ap (value s) (closure-term (deref acts w a) c)

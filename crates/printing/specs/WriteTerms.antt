@@ -7,9 +7,10 @@ use Prim.Native.Char.{code}
 use mathlib.Core.Bool.{true, false, cond}
 use mathlib.Core.List.{List}
 use lib.Dec.{eqb, ltb}
+use Rattle.sheet_format.specs.Limits.{maxSymbols}
 use Rattle.node_table.specs.Layout.{childCount, labelOf, childOf, nameStart, nameLength}
 use Rattle.machine.specs.Words.{increment, tagOf, nameOf, nodeOf, frameOf, wordOf, constantTag, variableTag, deref}
-use Rattle.printing.specs.Output.{emit, copyBytes}
+use Rattle.printing.specs.Output.{emit, copyBytes, writeNumber}
 use Rattle.printing.specs.Numbering.{Printer, wrote, writeVariable, writeConstant}
 
 -- A byte on the printer.
@@ -19,6 +20,14 @@ emitTo limit g b = wrote g (emit (g .buffer) limit (g .cursor .at) b)
 -- The name of symbol f, from the sheet.
 unfoldable pub writeName : List ℕ → List ℕ → ℕ → Printer → ℕ → Printer
 writeName sheet t limit g f = wrote g (copyBytes (nameLength t f) sheet (nameStart t f) (g .buffer) limit (g .cursor .at))
+
+-- What stands before the arguments, by its label: the name of a symbol, or a number "in base ten" (request W-204).
+unfoldable pub writeFunctor : List ℕ → List ℕ → ℕ → Printer → ℕ → Printer
+writeFunctor sheet t limit g l =
+    elim (ltb l maxSymbols) [
+      | true ↦ writeName sheet t limit g l
+      | false ↦ wrote g (writeNumber (g .buffer) limit (g .cursor .at) (l - maxSymbols))
+    ]
 
 -- What stands before argument j.
 unfoldable pub separator : ℕ → ℕ
@@ -35,10 +44,10 @@ argumentsBy write t limit (suc c) n f j g =
 unfoldable pub bracketedBy : (ℕ → Printer → ℕ → Printer) → List ℕ → ℕ → ℕ → ℕ → ℕ → Printer → Printer
 bracketedBy write t limit c n f g = emitTo limit (argumentsBy (write (limit - 1)) t (limit - 1) c n f 0 g) (code ")")
 
--- An application: its name, then its arguments, if there are any.
+-- An application: its name or number, then its arguments, if there are any.
 unfoldable pub applicationBy : (ℕ → Printer → ℕ → Printer) → List ℕ → List ℕ → ℕ → Printer → ℕ → ℕ → Printer
 applicationBy write sheet t limit g n f =
-    let s = writeName sheet t limit g (labelOf t n) in
+    let s = writeFunctor sheet t limit g (labelOf t n) in
     elim (eqb (childCount t n) 0) [ true ↦ s | false ↦ bracketedBy write t limit (childCount t n) n f s ]
 
 -- The word a, looked through.

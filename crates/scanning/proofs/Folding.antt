@@ -7,7 +7,7 @@ use mathlib.Core.List.{List}
 use lib.Dec.{eqb, leb}
 use lib.ListN.{length, getD}
 use Rattle.terms.proofs.Lists.{length-map}
-use Rattle.sheet_format.specs.Limits.{maxNumber, maxNodes}
+use Rattle.sheet_format.specs.Limits.{maxNumber, maxSymbols, maxNodes}
 use Rattle.sheet_format.specs.Bytes.{isDigit, isSmall, isCapital, isLetter, isNameByte, folded, foldedName}
 use Rattle.sheet_format.proofs.Capitals.{digit-folded, name-folded, foldedName-twice, test-folded, digit-stays}
 use Rattle.node_table.specs.Layout.{labelOf, nameStart, arityOf}
@@ -19,11 +19,12 @@ use Rattle.scanning.specs.declared.Reach.{Reach}
 use Rattle.scanning.specs.declared.Reach.the-variants.{To, Differs}
 use Rattle.scanning.specs.Ranges.{sameRange, sameFolded, numberFrom, numberZero, scanNumber}
 use Rattle.scanning.specs.Scanning.{nameFrom, nameEnd, nameSize, isNamed, symbolFrom, scanLevel, scanAt, scanSymbol, higher, scanMore}
-use Rattle.scanning.specs.Scanning.{scanArguments, scanApplication, scanTerm}
+use Rattle.scanning.specs.Scanning.{scanNumeral, scanArguments, scanApplication, scanTerm}
 use Rattle.scanning.specs.Frames.{slotStart, slotEnd}
 use Rattle.scanning.specs.Classes.{nodeElement, elementSide, elementNode, elementChild, sideFrame, separate, rootOf}
-use Rattle.scanning.specs.Instances.{sameSlots, matchRange, matchName, matchSlot, argumentCount, argumentOf, matchMore, matchArguments}
-use Rattle.scanning.specs.Instances.{matchApplication, matchInstance, isInstance, Compared, startOf, endOf}
+use Rattle.scanning.specs.Instances.{sameSlots, matchRange, matchName, matchNumber, matchFunctor, matchSlot, argumentCount}
+use Rattle.scanning.specs.Instances.{argumentOf, matchMore, matchArguments, matchApplication, matchInstance, isInstance, Compared}
+use Rattle.scanning.specs.Instances.{startOf, endOf}
 use Rattle.scanning.specs.Instances.{sameName, joinName, sameChildren, sameNodes, sameRoots, sameElements, comparisonDepth, sameAtoms}
 use Rattle.scanning.specs.Numbering.{outsideName, isSymbol, noNumber, numberAt, levelAt}
 use Rattle.scanning.proofs.Ranges.{Folded, byte-folded, range-folded}
@@ -109,6 +110,17 @@ module _ (x : List ℕ) where
           → _≡_ {A = Scan} (elim o [ Value n e ↦ scanAt (foldedName x) e | Missing ↦ Malformed ])
           (elim o [ Value n e ↦ scanAt x e | Missing ↦ Malformed ])
       go (Value n e) = at-folded e
+      go Missing = refl
+
+  -- A number as a term is read alike.
+  numeral-folded : (i : ℕ) → scanNumeral (foldedName x) i ≡ scanNumeral x i
+  unfolding scanNumeral
+  numeral-folded i = rw (number-folded i, scanNumeral) (go (scanNumber x i))
+    where
+      go : (o : Number)
+          → _≡_ {A = Scan} (elim o [ Value n e ↦ cond (isNameByte (getD (foldedName x) e 0)) Malformed (Term e 0) | Missing ↦ Malformed ])
+          (elim o [ Value n e ↦ cond (isNameByte (getD x e 0)) Malformed (Term e 0) | Missing ↦ Malformed ])
+      go (Value n e) = rw (name-test e)
       go Missing = refl
 
   -- names
@@ -206,6 +218,8 @@ module _ (b t : List ℕ) where
           byte-test x 33 i refl,
           byte-test x 95 i refl,
           symbol-folded x (i + 1),
+          digit-test x i,
+          numeral-folded x i,
           name-end x i,
           from-folded symbols 0 i (nameEnd x i),
           application-folded x (scanTerm f (foldedName b) t symbols (foldedName x)) (scanTerm f b t symbols x) (term-folded symbols f) t symbols
@@ -221,6 +235,14 @@ module _ (b t : List ℕ) where
     reach-name : (k i : ℕ) → matchName (foldedName b) t k (foldedName x) i ≡ matchName b t k x i
     unfolding matchName
     reach-name k i = rw (size-folded k) (reach-range (nameSize b t k) (nameStart t k) i b)
+
+    reach-number : (n i : ℕ) → matchNumber n (foldedName x) i ≡ matchNumber n x i
+    unfolding matchNumber
+    reach-number n i = rw (number-folded x i, matchNumber)
+
+    reach-functor : (l i : ℕ) → matchFunctor (foldedName b) t l (foldedName x) i ≡ matchFunctor b t l x i
+    unfolding matchFunctor
+    reach-functor l i = rw (reach-name l i, reach-number (l - maxSymbols) i)
 
     reach-slot : (w : List ℕ) (g v i : ℕ) → matchSlot (foldedName x) w g v i ≡ matchSlot x w g v i
     unfolding matchSlot
@@ -253,7 +275,7 @@ module _ (b t : List ℕ) where
     reach-application : (r s : ℕ → ℕ → Reach) → ((m i : ℕ) → r m i ≡ s m i) → (m i : ℕ)
         → matchApplication r (foldedName b) t m (foldedName x) i ≡ matchApplication s b t m x i
     unfolding matchApplication
-    reach-application r s h m i = rw (reach-name (labelOf t m) i, matchApplication) (go (matchName b t (labelOf t m) x i))
+    reach-application r s h m i = rw (reach-functor (labelOf t m) i, matchApplication) (go (matchFunctor b t (labelOf t m) x i))
       where
         go : (o : Reach)
             → _≡_ {A = Reach} (elim o [ To e ↦ matchArguments r t m (foldedName x) e | Differs ↦ Differs ])

@@ -5,38 +5,46 @@ use native.Mathlib.Omega.{arith}
 use native.Mathlib.Numerals.{add-one}
 use mathlib.Core.Path.{_≡_, refl, sym, ap, ap₂, _∙_, subst}
 use mathlib.Core.Bool.{Bool, true, false, _&&_, _||_, cond, true≢false}
-use mathlib.Core.List.{List, [], _∷_, _++_}
-use mathlib.Core.Option.{some}
-use lib.Dec.{eqb, leb}
+use mathlib.Core.List.{List, [], _∷_, _++_, append-nil}
+use mathlib.Core.Logic.{_⊎_, inl, inr}
+use mathlib.Core.Option.{Option, none, some}
+use lib.Dec.{eqb, leb, ltb}
 use lib.ListN.{length, getD, take, drop, length-append, length-drop, take-append-drop, getElem?}
 use borrow.Author.Tests.{eqb-true, eqb-false, eq-eqb, ne-eqb, leb-false}
-use Rattle.terms.specs.Terms.{Term, leaf, app, Terms, nil, cons, substitute, substitutes, count}
+use Rattle.terms.specs.Terms.{Functor, sheetSymbol, numeral, Term, leaf, app, Terms, nil, cons, substitute, substitutes, count}
 use Rattle.formulas.specs.Formulas.{variableNames, freeT, freeTs}
 use Rattle.formulas.proofs.Free.{or-left, or-right}
 use Rattle.sequents.specs.Symbols.{Symbol, Ground}
 use Rattle.sequents.specs.Sequents.{Environment}
-use Rattle.sheet_format.specs.Limits.{maxNodes}
-use Rattle.sheet_format.specs.Bytes.{foldedName}
+use Rattle.sheet_format.specs.Limits.{maxSymbols, maxNodes, maxNumber}
+use Rattle.sheet_format.specs.Bytes.{isDigit, number, decimal, foldedName}
 use Rattle.sheet_format.specs.Nodes.{Declaration}
 use Rattle.sheet_format.proofs.Bytes.{name-kinds}
 use Rattle.sheet_format.proofs.Names.{Names}
-use Rattle.sheet_format.proofs.Formed.{Declares, FormedTerm, FormedTerms}
+use Rattle.sheet_format.proofs.Numbers.{number-some}
+use Rattle.sheet_format.proofs.Options.{OnSome}
+use Rattle.sheet_format.proofs.Formed.{Declares, Takes, FormedTerm, FormedTerms}
 use Rattle.node_table.specs.Layout.{kindOf, childCount, labelOf, childOf, nameStart, nameLength, variableKind, applicationKind}
-use Rattle.node_table.specs.Decoding.{childrenBy, termAt, argumentsAt, declarationAt, declarationsFrom}
-use Rattle.node_table.specs.WellMade.{IsTerm, Arguments}
+use Rattle.node_table.specs.Decoding.{functorOf, childrenBy, termAt, argumentsAt, declarationAt, declarationsFrom}
+use Rattle.node_table.specs.WellMade.{IsTerm, labelArity, Arguments}
 use Rattle.node_table.proofs.Decoding.{Nodes, term-variable, term-application}
-use Rattle.answer_texts.specs.Spelling.{nameOf, spellTerm, spellArguments, spellMore}
-use Rattle.answer_texts.specs.Spelled.{hasArity, WritableTerm, WritableTerms}
-use Rattle.answer_texts.proofs.Declared.{arity-has, name-at, name-of}
+use Rattle.answer_texts.specs.Spelling.{nameOf, spellFunctor, spellTerm, spellArguments, spellMore}
+use Rattle.answer_texts.specs.Spelled.{WritableFunctor, WritableTerm, WritableTerms}
+use Rattle.answer_texts.proofs.Declared.{name-at, name-of, takes-writable}
+use Rattle.text_judging.specs.Reading.{Span, span}
+use Rattle.text_judging.proofs.Spans.{Stops, span-split}
+use Rattle.scanning.specs.declared.Number.{Number}
+use Rattle.scanning.specs.declared.Number.the-variants.{Value, Missing}
 use Rattle.scanning.specs.declared.Reach.{Reach}
 use Rattle.scanning.specs.declared.Reach.the-variants.{To, Differs}
 use Rattle.scanning.specs.Scanning.{nameSize}
 use Rattle.scanning.specs.Frames.{slotStart, slotEnd}
-use Rattle.scanning.specs.Instances.{matchRange, matchName, matchSlot, argumentCount, argumentOf, matchMore, matchArguments}
-use Rattle.scanning.specs.Instances.{matchApplication, matchInstance}
+use Rattle.scanning.specs.Instances.{matchRange, matchName, matchNumber, matchFunctor, matchSlot, argumentCount, argumentOf}
+use Rattle.scanning.specs.Instances.{matchMore, matchArguments, matchApplication, matchInstance}
 use Rattle.scanning.proofs.Positions.{byte-is, byte-none, drop-next, drop-past}
-use Rattle.scanning.proofs.Ranges.{begins, begins-rest, Solid, range-begins, Folded, folded-range}
-use Rattle.scanning.proofs.Names.{size-length, name-solid}
+use Rattle.scanning.proofs.Ranges.{begins, begins-rest, rest-begins, Solid, range-begins, Folded, folded-range, numberTo}
+use Rattle.scanning.proofs.Ranges.{read-number, read-decimal}
+use Rattle.scanning.proofs.Names.{size-length, name-solid, span-stops}
 use Rattle.scanning.proofs.TermsInText.{SpelledAt, spelling-solid}
 use Rattle.terms.proofs.Tests.{eqb-comm}
 
@@ -55,6 +63,16 @@ reach-nil x i = let e : i ≡ i + 0 = omega arith in ap To e
 abbrev onward : (ℕ → Reach) → Reach → Reach
 onward g (To j) = g j
 onward g Differs = Differs
+
+-- What was reached agrees with p: it is p, or nothing where p ends before a digit, since a number that goes on is another number.
+abbrev pub Matches : List ℕ → Reach → Reach → Type 0
+Matches x o (To e) = (o ≡ To e) ⊎ ((o ≡ Differs) × (isDigit (getD x e 0) ≡ true))
+Matches x o Differs = o ≡ Differs
+
+-- What is p agrees with p.
+matches-same : (x : List ℕ) (o p : Reach) → o ≡ p → Matches x o p
+matches-same x o (To e) h = inl h
+matches-same x o Differs h = h
 
 -- After equal bytes, the bytes that follow decide.
 begins-append : (a c r : List ℕ) → begins (a ++ c) (a ++ r) ≡ begins c r
@@ -126,6 +144,46 @@ match-range l r a s x i h z p₀ q₀ =
         let u = begins-short l (drop i x) k in
         let v = length-drop i x in
         absurd (let o = leb-false (length l) (length x - i) m in omega arith)
+
+-- Matching a number reaches the end of its digits, unless a digit follows them.
+match-number : (n : ℕ) (x : List ℕ) (i : ℕ) → n ≤ maxNumber → Matches x (matchNumber n x i) (reach (decimal n) x i)
+unfolding matchNumber reach
+match-number n x i l = go (begins (decimal n) (drop i x)) refl
+  where
+    Found : Number → Reach
+    Found o = elim o [ Value m e ↦ cond (eqb m n) (To e) Differs | Missing ↦ Differs ]
+
+    d : Span
+    d = span isDigit (drop i x)
+
+    -- Where the digits at position i are not those of n, no match is found.
+    differs : (d .taken ≡ decimal n → ⊥) → matchNumber n x i ≡ Differs
+    differs h = ap Found (read-number x i) ∙ other (number (d .taken)) (number-some (d .taken))
+      where
+        other : (o : Option ℕ) → OnSome (λ m. (d .taken ≡ decimal m) × (m ≤ maxNumber)) o
+            → Found (numberTo (i + length (d .taken)) o) ≡ Differs
+        other none k = refl
+        other (some m) k = rw (ne-eqb m n (λ e. h (k .0 ∙ ap decimal e)))
+
+    stands : (r : List ℕ) → drop i x ≡ decimal n ++ r → drop (i + length (decimal n)) x ≡ r
+        → Matches x (matchNumber n x i) (To (i + length (decimal n)))
+    stands [] h k = inl (ap Found (read-decimal x i n [] h l tt) ∙ rw (eq-eqb n n refl))
+    stands (c ∷ cs) h k = digit (isDigit c) refl
+      where
+        digit : (z : Bool) → isDigit c ≡ z → Matches x (matchNumber n x i) (To (i + length (decimal n)))
+        digit false q = inl (ap Found (read-decimal x i n (c ∷ cs) h l q) ∙ rw (eq-eqb n n refl))
+        digit true q = inr (
+          differs (λ e. true≢false (sym q ∙ subst (Stops isDigit) (sym (drop-past x i (d .taken) (d .rest) (span-split isDigit (drop i x)))
+              ∙ ap (λ (a : List ℕ). drop (i + length a) x) e ∙ k) (span-stops isDigit (drop i x)))),
+          ap isDigit (byte-is x (i + length (decimal n)) c cs k) ∙ q,
+        )
+
+    go : (z : Bool) → begins (decimal n) (drop i x) ≡ z → Matches x (matchNumber n x i) (cond z (To (i + length (decimal n))) Differs)
+    go true h =
+        let r = begins-rest (decimal n) (drop i x) h in stands (r .0) (r .1) (drop-past x i (decimal n) (r .0) (r .1))
+    go false h =
+        differs (λ e. true≢false (sym (rest-begins (decimal n) (d .rest)) ∙ ap (λ (a : List ℕ). begins (decimal n) (a ++ d .rest)) (sym e)
+        ∙ ap (begins (decimal n)) (sym (span-split isDigit (drop i x))) ∙ h))
 
 -- A declared symbol is the one in the table.
 declared-is : (b t : List ℕ) (c k i : ℕ) (d : Declaration) → getElem? (declarationsFrom b t c k) i ≡ some d → declarationAt b t (k + i) ≡ d
@@ -201,7 +259,7 @@ mutual
       → WritableTerm (substitute p e) ds
   instance-writable (leaf v) ds e h f = f v h (eq-eqb v v refl)
   instance-writable (app g ps) ds e h f = (
-    subst (λ (n : ℕ). hasArity n (getElem? ds g) ≡ true) (sym (substitutes-count ps e)) (arity-has ds g (count ps) (h .0)),
+    subst (WritableFunctor ds g) (sym (substitutes-count ps e)) (takes-writable ds g (count ps) (h .0)),
     instances-writable ps ds e (h .1) f,
   )
 
@@ -270,10 +328,35 @@ onward-same : (F G : ℕ → Reach) → ((e : ℕ) → F e ≡ G e) → (o : Rea
 onward-same F G h (To e) = h e
 onward-same F G h Differs = refl
 
+-- So does going on from what agrees, in ways that lead nowhere from a digit.
+onward-matches : (x : List ℕ) (F G : ℕ → Reach) → ((e : ℕ) → F e ≡ G e) → ((e : ℕ) → isDigit (getD x e 0) ≡ true → F e ≡ Differs)
+    → (o p : Reach) → Matches x o p
+    → elim o as (λ z. Reach) [ To e ↦ F e | Differs ↦ Differs ] ≡ onward G p
+onward-matches x F G h d o (To e) (inl q) = ap (λ (o : Reach). elim o as (λ z. Reach) [ To e ↦ F e | Differs ↦ Differs ]) q ∙ h e
+onward-matches x F G h d o (To e) (inr q) =
+    ap (λ (o : Reach). elim o as (λ z. Reach) [ To e ↦ F e | Differs ↦ Differs ]) (q .0) ∙ sym (d e (q .1)) ∙ h e
+onward-matches x F G h d o Differs q = ap (λ (o : Reach). elim o as (λ z. Reach) [ To e ↦ F e | Differs ↦ Differs ]) q
+
+-- Going on to where one is changes nothing.
+onward-to : (o : Reach) → onward To o ≡ o
+onward-to (To e) = refl
+onward-to Differs = refl
+
+-- A digit is not a byte that is none.
+not-digit : (c k : ℕ) → isDigit c ≡ true → isDigit k ≡ false → eqb c k ≡ false
+not-digit c k h n = ne-eqb c k (λ e. true≢false (sym h ∙ ap isDigit e ∙ n))
+
+-- No digit stands between two children or after the last one.
+more-digit : (r : ℕ → ℕ → Reach) (c : ℕ) (t : List ℕ) (m j : ℕ) (x : List ℕ) (i : ℕ) → isDigit (getD x i 0) ≡ true
+    → matchMore r c t m j x 44 i ≡ Differs
+unfolding matchMore isDigit
+more-digit r zero t m j x i h = rw (not-digit (getD x i 0) 41 h refl)
+more-digit r (suc c) t m j x i h = rw (not-digit (getD x i 0) 44 h refl)
+
 module _ (t : List ℕ) (ds : List Declaration) (x : List ℕ) (e : Environment Symbol) (m : ℕ) (r : ℕ → ℕ → Reach) where
   -- Child k is gone along with by r.
   abbrev Goes : ℕ → Type 0
-  Goes k = (i : ℕ) → r (argumentOf t m k) i ≡ reach (spellTerm (substitute (termAt t (childOf t m k)) e) ds) x i
+  Goes k = (i : ℕ) → Matches x (r (argumentOf t m k) i) (reach (spellTerm (substitute (termAt t (childOf t m k)) e) ds) x i)
 
   -- Matching children after the byte k reaches the end of their spelling.
   match-more : (c j k i : ℕ) → 0 < k → ((n : ℕ) → j ≤ n → n < j + c → Goes n)
@@ -285,12 +368,11 @@ module _ (t : List ℕ) (ds : List Declaration) (x : List ℕ) (e : Environment 
       let a = spellTerm (substitute (termAt t (childOf t m j)) e) ds in
       let us = substitutes (childrenBy (termAt t) t m c (suc j)) e in
       ap (λ (o : Reach). cond (eqb (getD x i 0) k) o Differs)
-      (ap (λ (o : Reach). elim o as (λ z. Reach) [ To e ↦ matchMore r c t m (j + 1) x 44 e | Differs ↦ Differs ])
-      (h j (omega arith) (omega arith) (i + 1))
-      ∙ onward-same (matchMore r c t m (j + 1) x 44) (reach (spellMore us ds) x)
+      (onward-matches x (matchMore r c t m (j + 1) x 44) (reach (spellMore us ds) x)
       (λ q. ap (λ (n : ℕ). matchMore r c t m n x 44 q) (add-one j)
       ∙ match-more c (suc j) 44 q (omega arith) (λ n l u. h n (omega arith) (omega arith))
-      ∙ ap (λ (y : List ℕ). reach y x q) (sym (more-sigil us ds))) (reach a x (i + 1))
+      ∙ ap (λ (y : List ℕ). reach y x q) (sym (more-sigil us ds))) (more-digit r c t m (j + 1) x) (r (argumentOf t m j) (i + 1))
+      (reach a x (i + 1)) (h j (omega arith) (omega arith) (i + 1))
       ∙ reach-append a (spellMore us ds) x (i + 1))
       ∙ reach-byte k (a ++ spellMore us ds) x i z
 
@@ -310,12 +392,19 @@ module _ (t : List ℕ) (ds : List Declaration) (x : List ℕ) (e : Environment 
 
 module _ (b t : List ℕ) (symbols : ℕ) (names : Names (declarationsFrom b t symbols 0)) (x : List ℕ) (small : Folded b x)
     (nodes : ℕ) (table : Nodes t nodes) (few : nodes ≤ maxNodes) (w : List ℕ) (g : ℕ) (e : Environment Symbol) where
-  -- `Instance f m` says that the instance of node m stands where its spelling does.
+  -- The declared symbols are those of the table.
+  abbrev declared : List Declaration
+  declared = declarationsFrom b t symbols 0
+
+  -- `Stands f m i` says that matching the instance of node m at position i agrees with its spelling.
+  abbrev Stands : ℕ → ℕ → ℕ → Type 0
+  Stands f m i = Matches x (matchInstance f b t x w g m i) (reach (spellTerm (substitute (termAt t m) e) declared) x i)
+
+  -- `Instance f m` says so of every position.
   abbrev Instance : ℕ → ℕ → Type 0
   Instance f m =
-      m < f → m < nodes → IsTerm t m → FormedTerm (termAt t m) (declarationsFrom b t symbols 0)
-      → Frame (declarationsFrom b t symbols 0) x w g e (freeT (termAt t m))
-      → (i : ℕ) → matchInstance f b t x w g m i ≡ reach (spellTerm (substitute (termAt t m) e) (declarationsFrom b t symbols 0)) x i
+      m < f → m < nodes → IsTerm t m → FormedTerm (termAt t m) declared → Frame declared x w g e (freeT (termAt t m)) → (i : ℕ)
+      → Stands f m i
 
   -- The instance of a variable stands where its spelling does.
   match-variable : (f m : ℕ) → kindOf t m ≡ variableKind → Instance (suc f) m
@@ -323,46 +412,93 @@ module _ (b t : List ℕ) (symbols : ℕ) (names : Names (declarationsFrom b t s
   match-variable f m z l u is formed frame i =
       let tree = term-variable t nodes table m u is z in
       let v = labelOf t m in
-      let p = subst (λ (y : Term ℕ). FormedTerm y (declarationsFrom b t symbols 0)) tree formed in
+      let p = subst (λ (y : Term ℕ). FormedTerm y declared) tree formed in
       let s = frame v p (subst (λ (y : Term ℕ). freeT y v ≡ true) (sym tree) (eq-eqb v v refl)) in
-      rw (matchInstance, z) (match-slot b t symbols names x small w g v i (e v) s
-      ∙ ap (λ (y : Term ℕ). reach (spellTerm (substitute y e) (declarationsFrom b t symbols 0)) x i) (sym tree))
+      matches-same x (matchInstance (suc f) b t x w g m i) (reach (spellTerm (substitute (termAt t m) e) declared) x i)
+      (rw (matchInstance, z) (match-slot b t symbols names x small w g v i (e v) s
+      ∙ ap (λ (y : Term ℕ). reach (spellTerm (substitute y e) declared) x i) (sym tree)))
 
-  -- The instance of an application stands where its spelling does.
-  match-applied : (f m : ℕ) → kindOf t m ≡ applicationKind → ((k : ℕ) → Instance f k) → Instance (suc f) m
-  unfolding matchInstance matchApplication FormedTerm substitute freeT spellTerm argumentsAt
-  match-applied f m z ih l u is formed frame i =
-      let tree = term-application t nodes table m u is z in
-      let a = table .term m u is .application z in
-      let p = subst (λ (y : Term ℕ). FormedTerm y ds′) tree formed in
-      rw (matchInstance, z) (ap (λ (o : Reach). elim o as (λ z. Reach) [ To j ↦ matchArguments r t m x j | Differs ↦ Differs ])
-      (match-name b t symbols names x small (labelOf t m) (count (argumentsAt t m)) i (p .0))
-      ∙ onward-same (matchArguments r t m x) (reach (spellArguments (substitutes (argumentsAt t m) e) ds′) x)
-      (λ j. match-arguments t ds′ x e m r j (argument-count t m a) (λ n k o. let q = a .terms n k in
-      ap (λ (y : ℕ). r y o) (argument-of t m nodes n a u few k) ∙ ih (childOf t m n) (omega (arith, q .0)) (omega (arith, q .0)) (q .1)
-      (formed-child t ds′ m (childCount t m) 0 n (p .1) (omega arith) (omega arith))
-      (frame-fewer ds′ x w g e (freeT (termAt t m)) (freeT (termAt t (childOf t m n)))
-      (λ v f. subst (λ (y : Term ℕ). freeT y v ≡ true) (sym tree) (free-child t m (childCount t m) 0 n v (omega arith) (omega arith) f))
-      frame) o))
-      (reach (nameOf ds′ (labelOf t m)) x i)
-      ∙ reach-append (nameOf ds′ (labelOf t m)) (spellArguments (substitutes (argumentsAt t m) e) ds′) x i
-      ∙ ap (λ (y : Term ℕ). reach (spellTerm (substitute y e) ds′) x i) (sym tree))
-    where
-      ds′ : List Declaration
-      ds′ = declarationsFrom b t symbols 0
+  module _ (f m : ℕ) (z : kindOf t m ≡ applicationKind) (u : m < nodes) (is : IsTerm t m) (formed : FormedTerm (termAt t m) declared)
+      (frame : Frame declared x w g e (freeT (termAt t m))) (i : ℕ) where
+    -- A child is matched with one rank less.
+    abbrev r : ℕ → ℕ → Reach
+    r = matchInstance f b t x w g
 
-      r : ℕ → ℕ → Reach
-      r = matchInstance f b t x w g
+    -- The term is an application of g if that is what its label stands for.
+    tree : (g : Functor) → functorOf (labelOf t m) ≡ g → termAt t m ≡ app g (argumentsAt t m)
+    tree g q = term-application t nodes table m u is z ∙ ap (λ (a : Functor). app a (argumentsAt t m)) q
+
+    -- The functor and the arguments are formed.
+    parts : (g : Functor) → functorOf (labelOf t m) ≡ g
+        → Takes declared g (count (argumentsAt t m)) × FormedTerms (argumentsAt t m) declared
+    unfolding FormedTerm
+    parts g q = subst (λ (y : Term ℕ). FormedTerm y declared) (tree g q) formed
+
+    -- The instance of a number stands where its digits do.
+    match-numeral : ltb (labelOf t m) maxSymbols ≡ false → Stands (suc f) m i
+    unfolding matchInstance matchApplication matchFunctor matchArguments argumentCount substitute spellTerm spellFunctor argumentsAt
+        childrenBy functorOf labelArity Takes
+    match-numeral q =
+        let n = labelOf t m - maxSymbols in
+        let named : functorOf (labelOf t m) ≡ numeral n = rw q refl in
+        let few : childCount t m ≡ 0 = table .term m u is .application z .many ∙ rw q refl in
+        let ends : (j : ℕ) → matchArguments r t m x j ≡ To j = λ j. rw few refl in
+        let found : matchFunctor b t (labelOf t m) x i ≡ matchNumber n x i = rw q refl in
+        let matched : matchInstance (suc f) b t x w g m i ≡ matchNumber n x i = rw (matchInstance, z) (rw (matchApplication, found)
+        (onward-same (matchArguments r t m x) To ends (matchNumber n x i) ∙ onward-to (matchNumber n x i))) in
+        let spelled : spellTerm (substitute (termAt t m) e) declared ≡ decimal n =
+        ap (λ (y : Term ℕ). spellTerm (substitute y e) declared) (tree (numeral n) named)
+        ∙ ap (λ (c : ℕ). decimal n ++ spellArguments (substitutes (childrenBy (termAt t) t m c 0) e) declared) few
+        ∙ append-nil (decimal n) in
+        rw (matched, spelled) (match-number n x i (parts (numeral n) named .0 .1))
+
+    -- Where a child stands.
+    child-stands : FormedTerms (argumentsAt t m) declared → m < suc f → ((k : ℕ) → Instance f k) → (n : ℕ) → n < childCount t m → (o : ℕ)
+        → Matches x (r (argumentOf t m n) o) (reach (spellTerm (substitute (termAt t (childOf t m n)) e) declared) x o)
+    unfolding argumentsAt freeT
+    child-stands p l ih n h o =
+        let a = table .term m u is .application z in
+        let v = a .terms n h in
+        let fewer : (y : ℕ) → freeT (termAt t (childOf t m n)) y ≡ true → freeT (termAt t m) y ≡ true =
+        λ y k. subst (λ (c : Term ℕ). freeT c y ≡ true) (sym (term-application t nodes table m u is z))
+        (free-child t m (childCount t m) 0 n y (omega arith) (omega arith) k) in
+        subst (λ (c : ℕ). Matches x (r c o) (reach (spellTerm (substitute (termAt t (childOf t m n)) e) declared) x o))
+        (sym (argument-of t m nodes n a u few h))
+        (ih (childOf t m n) (omega (arith, v .0)) (omega (arith, v .0)) (v .1)
+        (formed-child t declared m (childCount t m) 0 n p (omega arith) (omega arith))
+        (frame-fewer declared x w g e (freeT (termAt t m)) (freeT (termAt t (childOf t m n))) fewer frame) o)
+
+    -- The instance of an application of a symbol stands where its spelling does.
+    match-symbol : ltb (labelOf t m) maxSymbols ≡ true → m < suc f → ((k : ℕ) → Instance f k) → Stands (suc f) m i
+    unfolding matchInstance matchApplication matchFunctor substitute spellTerm spellFunctor argumentsAt functorOf Takes
+    match-symbol q l ih =
+        let a = table .term m u is .application z in
+        let k = labelOf t m in
+        let named : functorOf k ≡ sheetSymbol k = rw q refl in
+        let shape = tree (sheetSymbol k) named in
+        let p = parts (sheetSymbol k) named in
+        let found : matchFunctor b t k x i ≡ reach (nameOf declared k) x i =
+        rw q (match-name b t symbols names x small k (count (argumentsAt t m)) i (p .0)) in
+        let us = spellArguments (substitutes (argumentsAt t m) e) declared in
+        matches-same x (matchInstance (suc f) b t x w g m i) (reach (spellTerm (substitute (termAt t m) e) declared) x i)
+        (rw (matchInstance, z) (rw (matchApplication, found) (onward-same (matchArguments r t m x) (reach us x)
+        (λ j. match-arguments t declared x e m r j (argument-count t m a) (child-stands (p .1) l ih)) (reach (nameOf declared k) x i)
+        ∙ reach-append (nameOf declared k) us x i ∙ ap (λ (y : Term ℕ). reach (spellTerm (substitute y e) declared) x i) (sym shape))))
 
   -- The instance of a node stands where its spelling does.
   pub match-instance : (f m : ℕ) → Instance f m
   match-instance zero m l u is formed frame i = absurd (omega arith)
-  match-instance (suc f) m l u is formed frame i = go (eqb (kindOf t m) variableKind) refl (match-instance f)
+  match-instance (suc f) m l u is formed frame i =
+      go (eqb (kindOf t m) variableKind) refl (ltb (labelOf t m) maxSymbols) refl (match-instance f)
     where
-      go : (z : Bool) → eqb (kindOf t m) variableKind ≡ z → ((k : ℕ) → Instance f k)
-          → matchInstance (suc f) b t x w g m i ≡ reach (spellTerm (substitute (termAt t m) e) (declarationsFrom b t symbols 0)) x i
-      go true q ih = match-variable f m (eqb-true (kindOf t m) 0 q) l u is formed frame i
-      go false q ih =
-          let n = eqb-false (kindOf t m) 0 q in
+      applies : eqb (kindOf t m) variableKind ≡ false → kindOf t m ≡ applicationKind
+      applies p =
+          let n = eqb-false (kindOf t m) 0 p in
           let k = table .term m u is .kind in
-          match-applied f m (omega arith) ih l u is formed frame i
+          omega arith
+
+      go : (a : Bool) → eqb (kindOf t m) variableKind ≡ a → (c : Bool) → ltb (labelOf t m) maxSymbols ≡ c → ((k : ℕ) → Instance f k)
+          → Stands (suc f) m i
+      go true p c q ih = match-variable f m (eqb-true (kindOf t m) 0 p) l u is formed frame i
+      go false p true q ih = match-symbol f m (applies p) u is formed frame i q l ih
+      go false p false q ih = match-numeral f m (applies p) u is formed frame i q

@@ -16,10 +16,11 @@ use Rattle.sheet_format.specs.Nodes.{Declaration}
 use Rattle.sheet_format.proofs.Names.{Names}
 use Rattle.sheet_format.proofs.Formed.{FormedTerms}
 use Rattle.sheet_format.specs.Limits.{maxNodes}
-use Rattle.node_table.specs.Layout.{childCount, labelOf, childOf, arityOf}
-use Rattle.node_table.specs.Decoding.{childrenBy, termAt, argumentsAt, declarationsFrom}
-use Rattle.node_table.specs.WellMade.{Arguments}
+use Rattle.node_table.specs.Layout.{childCount, labelOf, childOf}
+use Rattle.node_table.specs.Decoding.{functorOf, childrenBy, termAt, argumentsAt, declarationsFrom}
+use Rattle.node_table.specs.WellMade.{labelArity, Arguments}
 use Rattle.node_table.proofs.Decoding.{Nodes, term-application}
+use Rattle.node_table.proofs.Functors.{labels-compare}
 use Rattle.text_judging.specs.Judging.{sameTerm, sameTerms}
 use Rattle.text_judging.proofs.Infer.{sameTerm-refl}
 use Rattle.scanning.specs.Classes.{isNameElement, elementSide, elementNode, elementChild, sideFrame, nodeElement, rootOf, separate}
@@ -137,9 +138,9 @@ module _ (b t : List ℕ) (symbols : ℕ) (names : Names (declarationsFrom b t s
 
     -- applications
 
-    -- An application means its symbol with the instances of its arguments.
+    -- An application means its functor with the instances of its arguments.
     applied : (l : ℕ) (u : Ground) → isNameElement l ≡ false → M l u
-        → u ≡ app (labelOf t (elementNode l)) (substitutes (argumentsAt t (elementNode l)) (E (elementSide l)))
+        → u ≡ app (functorOf (labelOf t (elementNode l))) (substitutes (argumentsAt t (elementNode l)) (E (elementSide l)))
     unfolding substitute
     applied l u p h =
         h .instance p
@@ -192,7 +193,7 @@ module _ (b t : List ℕ) (symbols : ℕ) (names : Names (declarationsFrom b t s
           (λ a u v. p a (omega arith) (omega arith))
           (λ a u v. q a (omega arith) (omega arith)) (λ a u v. s a (omega arith) (omega arith)) y))
 
-      -- Comparing all children of two nodes with one symbol compares the instances of the arguments.
+      -- Comparing all children of two nodes with one label compares the instances of the arguments.
       compares-arguments : (c : List ℕ) → Arguments t one → Arguments t two → labelOf t one ≡ labelOf t two
           → ((a : ℕ) → a < childCount t one → M (elementChild t i a) (first a))
           → ((a : ℕ) → a < childCount t two → M (elementChild t j a) (second a))
@@ -201,7 +202,7 @@ module _ (b t : List ℕ) (symbols : ℕ) (names : Names (declarationsFrom b t s
           (sameTerms (substitutes (argumentsAt t one) (E (elementSide i))) (substitutes (argumentsAt t two) (E (elementSide j))))
       unfolding argumentsAt
       compares-arguments c y z q u v s h =
-          let l : childCount t two ≡ childCount t one = z .many ∙ ap (arityOf t) (sym q) ∙ sym (y .many) in
+          let l : childCount t two ≡ childCount t one = z .many ∙ ap (labelArity t) (sym q) ∙ sym (y .many) in
           rw (argument-count t one y, l) (compares-children (childCount t one) 0 c (λ a p o. u a (omega arith)) (λ a p o. v a (omega arith))
           (λ a p o. s a (omega arith)) h)
 
@@ -211,7 +212,7 @@ module _ (b t : List ℕ) (symbols : ℕ) (names : Names (declarationsFrom b t s
           → Compares (sameNodes r t i j c) (sameTerm u v)
       unfolding sameNodes depth sameTerm argumentsAt
       compares-nodes c u v p q hi hj l h =
-          subst (Compares (sameNodes r t i j c)) (sym (ap₂ sameTerm eu ev)) (go (eqb (labelOf t one) (labelOf t two)) refl)
+          subst (Compares (sameNodes r t i j c)) (sym compares) (go (eqb (labelOf t one) (labelOf t two)) refl)
         where
           Us : Terms Symbol
           Us = substitutes (argumentsAt t one) (E (elementSide i))
@@ -219,14 +220,17 @@ module _ (b t : List ℕ) (symbols : ℕ) (names : Names (declarationsFrom b t s
           Vs : Terms Symbol
           Vs = substitutes (argumentsAt t two) (E (elementSide j))
 
-          eu : u ≡ app (labelOf t one) Us
+          eu : u ≡ app (functorOf (labelOf t one)) Us
           eu = applied i u p hi
 
-          ev : v ≡ app (labelOf t two) Vs
+          ev : v ≡ app (functorOf (labelOf t two)) Vs
           ev = applied j v q hj
 
+          compares : sameTerm u v ≡ (eqb (labelOf t one) (labelOf t two) && sameTerms Us Vs)
+          compares = ap₂ sameTerm eu ev ∙ ap (_&& sameTerms Us Vs) (labels-compare (labelOf t one) (labelOf t two))
+
           together : (eqb (labelOf t one) (labelOf t two) && sameTerms Us Vs) ≡ true → A i j
-          together z = alike b t symbols names x small nodes table few w f g e d i j u v hi hj (ap₂ sameTerm eu ev ∙ z)
+          together z = alike b t symbols names x small nodes table few w f g e d i j u v hi hj (compares ∙ z)
 
           go : (z : Bool) → eqb (labelOf t one) (labelOf t two) ≡ z
               → Compares (sameNodes r t i j c) (eqb (labelOf t one) (labelOf t two) && sameTerms Us Vs)

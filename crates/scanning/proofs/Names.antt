@@ -15,6 +15,7 @@ use Rattle.sheet_format.proofs.Bytes.{Every, name-graphic}
 use Rattle.node_table.specs.Layout.{nameStart, nameLength, isFunctionBit, arityOf}
 use Rattle.node_table.specs.Decoding.{declarationAt, declarationsFrom}
 use Rattle.text_judging.specs.Reading.{Span, span, Found, findName}
+use Rattle.text_judging.proofs.Spans.{Stops}
 use Rattle.scanning.specs.Ranges.{sameFolded}
 use Rattle.scanning.specs.Scanning.{nameFrom, nameEnd, nameSize, isNamed, symbolFrom}
 use Rattle.scanning.proofs.Positions.{byte-is, drop-next, drop-length}
@@ -110,3 +111,13 @@ span-every k (c ∷ cs) = go (k c) refl (span-every k cs)
     go : (b : Bool) → k c ≡ b → Every k (span k cs .taken) → Every k (span k (c ∷ cs) .taken)
     go true e h = subst (λ (s : Span). Every k (s .taken)) (sym (span-yes k c cs e)) (e, h)
     go false e h = subst (λ (s : Span). Every k (s .taken)) (sym (span-no k c cs e)) tt
+
+-- What follows it does not begin with a byte of the kind.
+pub span-stops : (k : ℕ → Bool) (l : List ℕ) → Stops k (span k l .rest)
+unfolding span
+span-stops k [] = tt
+span-stops k (c ∷ cs) = go (k c) refl (span-stops k cs)
+  where
+    go : (b : Bool) → k c ≡ b → Stops k (span k cs .rest) → Stops k (span k (c ∷ cs) .rest)
+    go true e h = subst (λ (s : Span). Stops k (s .rest)) (sym (span-yes k c cs e)) h
+    go false e h = subst (λ (s : Span). Stops k (s .rest)) (sym (span-no k c cs e)) e

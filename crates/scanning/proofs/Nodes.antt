@@ -3,18 +3,19 @@ use Prim.Native.Nat.{ℕ, zero, suc, _+_, _<_, _≤_}
 use native.Mathlib.Omega.{arith}
 use mathlib.Core.Path.{_≡_, refl, sym, ap, ap₂, _∙_, subst}
 use mathlib.Core.Bool.{Bool, true, false, cond, true≢false}
-use mathlib.Core.List.{List}
+use mathlib.Core.List.{List, [], _∷_}
+use mathlib.Core.Logic.{inl, inr}
 use lib.Dec.{eqb}
-use lib.ListN.{length, take, drop}
+use lib.ListN.{length, getD, take, drop}
 use lib.Seq.{take-append-seam}
-use borrow.Author.Tests.{eqb-true, eqb-false, eq-eqb}
+use borrow.Author.Tests.{eqb-true, eqb-false, eq-eqb, ne-eqb}
 use Rattle.terms.specs.Terms.{Term, substitute}
 use Rattle.formulas.specs.Formulas.{freeT}
 use Rattle.sequents.specs.Symbols.{Symbol, Ground}
 use Rattle.sequents.specs.Sequents.{Environment}
-use Rattle.sheet_format.specs.Bytes.{sameBytes}
+use Rattle.sheet_format.specs.Bytes.{isDigit, isNameByte, sameBytes}
 use Rattle.sheet_format.specs.Nodes.{Declaration}
-use Rattle.sheet_format.proofs.Bytes.{same-equal, equal-same}
+use Rattle.sheet_format.proofs.Bytes.{same-equal, equal-same, no-digit}
 use Rattle.sheet_format.proofs.Names.{Names}
 use Rattle.sheet_format.proofs.Formed.{FormedTerm}
 use Rattle.sheet_format.specs.Limits.{maxNodes}
@@ -25,14 +26,17 @@ use Rattle.node_table.proofs.Decoding.{Nodes, term-variable, term-application}
 use Rattle.answer_texts.specs.Spelling.{spellTerm}
 use Rattle.answer_texts.specs.Spelled.{WritableTerm}
 use Rattle.text_judging.specs.Judging.{sameTerm}
+use Rattle.text_judging.proofs.Spans.{Stops}
 use Rattle.text_judging.proofs.Infer.{sameTerm-true, sameTerm-refl}
 use Rattle.scanning.specs.declared.Reach.{Reach}
 use Rattle.scanning.specs.declared.Reach.the-variants.{To, Differs}
 use Rattle.scanning.specs.Frames.{slotStart, slotEnd}
-use Rattle.scanning.specs.Instances.{endsAt, isInstance}
+use Rattle.scanning.specs.Instances.{matchInstance, endsAt, isInstance}
+use Rattle.scanning.proofs.Positions.{byte-is, byte-none}
 use Rattle.scanning.proofs.Ranges.{begins, begins-rest, rest-begins, Folded}
 use Rattle.scanning.proofs.TermsInText.{both-ways, same-spelled, SpelledAt}
-use Rattle.scanning.proofs.InstanceSpelling.{reach, Frame, frame-fewer, instance-writable, formed-child, free-child, match-instance}
+use Rattle.scanning.proofs.InstanceSpelling.{reach, Matches, Frame, frame-fewer, instance-writable, formed-child, free-child}
+use Rattle.scanning.proofs.InstanceSpelling.{match-instance}
 
 -- a term of the text and an instance
 
@@ -60,6 +64,18 @@ ends-same ds x s e u a p = both-ways (endsAt (reach a x s) e) (sameBytes (spellT
         let l : s + length a ≡ e = (let c = p .end in let d = ap length q in omega arith) in
         rw (p .spelled, ← q, rest-begins (spellTerm u ds) (drop e x))
         (eq-eqb (s + length (spellTerm u ds)) e (let c = p .end in omega arith))
+
+-- What was reached in place of p ends where a name or a number does not go on exactly if p does.
+ends-matched : (x : List ℕ) (o p : Reach) (e : ℕ) → Matches x o p → Stops isNameByte (drop e x) → endsAt o e ≡ endsAt p e
+unfolding endsAt isDigit
+ends-matched x o Differs e h s = ap (λ (q : Reach). endsAt q e) h
+ends-matched x o (To j) e (inl h) s = ap (λ (q : Reach). endsAt q e) h
+ends-matched x o (To j) e (inr h) s = ap (λ (q : Reach). endsAt q e) (h .0) ∙ sym (ne-eqb j e (λ q. go (drop e x) refl q s))
+  where
+    go : (r : List ℕ) → drop e x ≡ r → j ≡ e → Stops isNameByte r → ⊥
+    go [] d q s = true≢false (sym (h .1) ∙ ap (λ (i : ℕ). isDigit (getD x i 0)) q ∙ ap isDigit (byte-none x e d))
+    go (c ∷ cs) d q s =
+        true≢false (sym (h .1) ∙ ap (λ (i : ℕ). isDigit (getD x i 0)) q ∙ ap isDigit (byte-is x e c cs d) ∙ no-digit c s)
 
 -- Comparing two terms is the same either way round.
 pub sameTerm-swap : (t u : Ground) → sameTerm t u ≡ sameTerm u t
@@ -90,8 +106,9 @@ module _ (b t : List ℕ) (symbols : ℕ) (names : Names (declarationsFrom b t s
       → isInstance b t x w s j g m ≡ sameTerm u (substitute (termAt t m) e)
   unfolding isInstance
   is-instance s j u m g e p h =
-      ap (λ (o : Reach). endsAt o j) (match-instance b t symbols names x small nodes table few w g e 1024 m (let q = h .below in omega arith)
-      (h .below) (h .is) (h .formed) (h .frame) s)
+      ends-matched x (matchInstance 1024 b t x w g m s) (reach (spellTerm (substitute (termAt t m) e) ds) x s) j
+      (match-instance b t symbols names x small nodes table few w g e 1024 m (let q = h .below in omega arith) (h .below) (h .is)
+      (h .formed) (h .frame) s) (p .stops)
       ∙ ends-same ds x s j u (spellTerm (substitute (termAt t m) e) ds) p
       ∙ same-spelled u (substitute (termAt t m) e) ds names (p .writable) (term-writable m g e h)
 

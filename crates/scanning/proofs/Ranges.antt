@@ -11,10 +11,13 @@ use borrow.Author.Tests.{eqb-true, eq-eqb, ne-eqb, leb-true, leb-false, le-leb, 
 use Rattle.terms.specs.Lists.{All}
 use Rattle.terms.proofs.Tests.{cond-and}
 use Rattle.formulas.proofs.Free.{and-parts}
-use Rattle.sheet_format.specs.Bytes.{isDigit, digitsFrom, atMost, number, sameBytes, lf, isCapital, folded, foldedName}
+use Rattle.sheet_format.specs.Limits.{maxNumber}
+use Rattle.sheet_format.specs.Bytes.{isDigit, digitsFrom, atMost, number, decimal, sameBytes, lf, isCapital, folded, foldedName}
 use Rattle.sheet_format.proofs.Bytes.{Without, digit-bounds, same-equal}
+use Rattle.sheet_format.proofs.Numbers.{decimal-digits, number-decimal}
 use Rattle.sheet_format.proofs.Options.{OnSome, some-weaken}
 use Rattle.text_judging.specs.Reading.{Span, span}
+use Rattle.text_judging.proofs.Spans.{Stops, span-append}
 use Rattle.scanning.specs.declared.Number.{Number}
 use Rattle.scanning.specs.declared.Number.the-variants.{Value, Missing}
 use Rattle.scanning.specs.Ranges.{sameRange, sameFolded, findByte, textLineEnd, numberFrom, numberZero, scanNumber}
@@ -299,3 +302,12 @@ read-number x i = go (drop i x) refl
         ap (λ (b : ℕ). cond (isDigit b) (cond (eqb b 48) (numberZero x (i + 1)) (numberFrom (length x - (i + 1)) x (i + 1) (b - 48)))
         Missing) (byte-is x i c cs h)
         ∙ cases c cs h (isDigit c) refl ∙ ap (λ (l : List ℕ). R (span isDigit l .taken)) (sym h)
+
+-- A number that stands at position i, with no digit after it, is read.
+pub read-decimal : (x : List ℕ) (i n : ℕ) (r : List ℕ) → drop i x ≡ decimal n ++ r → n ≤ maxNumber → Stops isDigit r
+    → scanNumber x i ≡ Value n (i + length (decimal n))
+read-decimal x i n r h l s =
+    let e : span isDigit (drop i x) ≡ record { taken = decimal n; rest = r } = ap (span isDigit) h
+    ∙ span-append isDigit (decimal n) r (decimal-digits n) s in
+    read-number x i ∙ ap (λ (d : Span). numberTo (i + length (d .taken)) (number (d .taken))) e
+    ∙ ap (numberTo (i + length (decimal n))) (number-decimal n l)

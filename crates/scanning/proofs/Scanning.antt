@@ -1,37 +1,41 @@
 -- Scanning in place reads what `readTerm` reads: the same end, and the level of the term.
-use Prim.Native.Nat.{ℕ, zero, suc, _+_, _<_, max}
+use Prim.Native.Nat.{ℕ, zero, suc, _+_, _<_, _≤_, max}
 use native.Mathlib.Omega.{arith}
 use mathlib.Core.Path.{_≡_, refl, sym, ap, ap₂, _∙_, subst}
-use mathlib.Core.Bool.{Bool, true, false, cond}
+use mathlib.Core.Bool.{Bool, true, false, cond, true≢false}
 use mathlib.Core.List.{List, [], _∷_}
 use mathlib.Core.Option.{Option, none, some}
 use lib.Dec.{eqb, ltb}
 use lib.ListN.{length, getD, drop}
 use borrow.Author.Tests.{ne-eqb, ltb-true, ltb-false}
-use Rattle.terms.specs.Terms.{Terms, nil, levelBy, levelsBy}
+use Rattle.terms.specs.Terms.{Functor, sheetSymbol, Terms, nil, levelBy, levelsBy}
+use Rattle.terms.proofs.Lists.{all-weaken}
 use Rattle.sequents.specs.Symbols.{Symbol, made, leftover, symbolLevel, Ground, level}
-use Rattle.sheet_format.specs.Bytes.{isDigit, isNameByte, isName, number}
+use Rattle.sheet_format.specs.Limits.{maxNumber}
+use Rattle.sheet_format.specs.Bytes.{isDigit, isSmall, isCapital, isLetter, isNameByte, isName, number, decimal}
 use Rattle.sheet_format.specs.Nodes.{Declaration}
 use Rattle.node_table.specs.Layout.{isFunctionBit, arityOf}
 use Rattle.node_table.specs.Decoding.{declarationsFrom}
 use Rattle.text_judging.specs.Reading.{Span, span, Parsed, parsed, withLevel, readLevel, readSymbol, after, consParsed, readMore}
-use Rattle.text_judging.specs.Reading.{readArguments, Found, findName, applyTo, readApplication, readTerm}
-use Rattle.sheet_format.proofs.Bytes.{name-nonempty}
+use Rattle.text_judging.specs.Reading.{readArguments, Found, findName, headOf, findHead, applyTo, readApplication, readTerm}
+use Rattle.sheet_format.proofs.Bytes.{Every, digit-bounds, letter-bounds, digit-name, name-nonempty, name-letter}
+use Rattle.sheet_format.proofs.Numbers.{decimal-digits, number-some}
 use Rattle.sheet_format.proofs.Names.{Names}
 use Rattle.sheet_format.proofs.Formed.{Declares}
 use Rattle.sheet_format.proofs.Options.{OnSome}
 use Rattle.answer_texts.specs.Spelling.{nameOf}
-use Rattle.text_judging.proofs.Spans.{span-split}
+use Rattle.text_judging.proofs.Spans.{Stops, stops-digit, span-append, span-split}
 use Rattle.answer_texts.proofs.Declared.{name-of}
 use Rattle.text_judging.proofs.Symbols.{findName-some}
+use Rattle.scanning.specs.declared.Number.{Number}
 use Rattle.scanning.specs.declared.Number.the-variants.{Value, Missing}
 use Rattle.scanning.specs.declared.Scan.{Scan}
 use Rattle.scanning.specs.declared.Scan.the-variants.{Term as Scanned, Malformed}
 use Rattle.scanning.specs.Scanning.{nameEnd, symbolFrom, scanLevel, scanAt, scanSymbol, higher, scanMore, scanArguments}
-use Rattle.scanning.specs.Scanning.{scanApplication, scanTerm}
+use Rattle.scanning.specs.Scanning.{scanNumeral, scanApplication, scanTerm}
 use Rattle.scanning.proofs.Positions.{byte-is, byte-none, drop-next, drop-past}
-use Rattle.scanning.proofs.Ranges.{numberTo, read-number, Folded}
-use Rattle.scanning.proofs.Names.{name-end, foundAt, find-symbol, name-solid, span-every}
+use Rattle.scanning.proofs.Ranges.{numberTo, read-number, Folded, span-yes, span-no}
+use Rattle.scanning.proofs.Names.{name-end, foundAt, find-symbol, name-solid, span-every, span-stops}
 
 -- A scan of x agrees with what was read: it ends where the rest begins, and has the term's level.
 abbrev pub Scans : List ℕ → Scan → Option (Parsed Ground) → Type 0
@@ -199,7 +203,7 @@ module _ (x : List ℕ) (r : ℕ → Scan) (R : List ℕ → Option (Parsed Grou
   scan-arguments (suc n) i = rw (ne-eqb (suc n) 0 (λ q. omega arith)) (scan-after (suc n) 40 i 0 (omega arith))
 
   -- If scanning the arguments of a symbol agrees with reading them, so does scanning its application.
-  scan-applied : (f : ℕ) (s : Scan) (o : Option (Parsed (Terms Symbol))) → ScansAll x 0 s o → Scans x s (applyTo f o)
+  scan-applied : (f : Functor) (s : Scan) (o : Option (Parsed (Terms Symbol))) → ScansAll x 0 s o → Scans x s (applyTo f o)
   unfolding applyTo level levelBy
   scan-applied f Malformed none h = tt
   scan-applied f Malformed (some p) h = absurd h
@@ -208,51 +212,163 @@ module _ (x : List ℕ) (r : ℕ → Scan) (R : List ℕ → Option (Parsed Grou
 
   -- Scanning the application of symbol k agrees with reading it, also where k is no function symbol.
   pub scan-application : (t : List ℕ) (symbols k i : ℕ)
-      → Scans x (scanApplication r t symbols k x i) (readApplication R (foundAt t symbols k) (drop i x))
-  unfolding scanApplication readApplication
+      → Scans x (scanApplication r t symbols k x i) (readApplication R (headOf none (foundAt t symbols k)) (drop i x))
+  unfolding scanApplication readApplication headOf
   scan-application t symbols k i = go (ltb k symbols) (eqb (isFunctionBit t k) 1)
     where
       go : (a b : Bool)
           → Scans x (cond a (cond b (scanArguments r (arityOf t k) x i) Malformed) Malformed)
-          (readApplication R (cond a (cond b (some (record { symbol = k; arity = arityOf t k })) none) none) (drop i x))
+          (readApplication R (headOf none (cond a (cond b (some (record { symbol = k; arity = arityOf t k })) none) none)) (drop i x))
       go true true =
-          scan-applied k (scanArguments r (arityOf t k) x i) (readArguments R (arityOf t k) (drop i x)) (scan-arguments (arityOf t k) i)
+          scan-applied (sheetSymbol k) (scanArguments r (arityOf t k) x i) (readArguments R (arityOf t k) (drop i x))
+          (scan-arguments (arityOf t k) i)
       go true false = tt
       go false b = tt
 
+-- numbers
+
+-- Bytes that are not all digits are no number.
+no-number-in : (a : List ℕ) → (Every isDigit a → ⊥) → number a ≡ none
+no-number-in a h = go (number a) (number-some a)
+  where
+    go : (o : Option ℕ) → OnSome (λ n. (a ≡ decimal n) × (n ≤ maxNumber)) o → o ≡ none
+    go none k = refl
+    go (some n) k = absurd (h (subst (Every isDigit) (sym (k .0)) (decimal-digits n)))
+
+-- Bytes of a name that do not begin with a digit are no number.
+name-number : (l : List ℕ) → Stops isDigit l → number (span isNameByte l .taken) ≡ none
+unfolding span number
+name-number [] h = refl
+name-number (c ∷ cs) h = go (isNameByte c) refl
+  where
+    go : (z : Bool) → isNameByte c ≡ z → number (span isNameByte (c ∷ cs) .taken) ≡ none
+    go true e =
+        ap (λ (s : Span). number (s .taken)) (span-yes isNameByte c cs e)
+        ∙ no-number-in (c ∷ span isNameByte cs .taken) (λ k. true≢false (sym (k .0) ∙ h))
+    go false e = ap (λ (s : Span). number (s .taken)) (span-no isNameByte c cs e)
+
+-- What is no name is the name of no symbol.
+no-name : (ds : List Declaration) → Names ds → (a : List ℕ) → (isName a ≡ true → ⊥) → findName 0 ds a ≡ none
+no-name ds ns a h = go (findName 0 ds a) (findName-some ds a)
+  where
+    go : (o : Option Found) → OnSome (λ f. (nameOf ds (f .symbol) ≡ a) × Declares ds true (f .symbol) (f .arity)) o → o ≡ none
+    go none k = refl
+    go (some f) k = absurd (h (subst (λ (n : List ℕ). isName n ≡ true) (k .0) (name-of ds (f .symbol) (f .arity) ns (k .1))))
+
+-- Bytes that begin with a digit are no name.
+digit-no-name : (c : ℕ) (cs : List ℕ) → isDigit c ≡ true → isName (c ∷ cs) ≡ true → ⊥
+digit-no-name c cs d h =
+    let p = digit-bounds c d in
+    let q = letter-bounds c (name-letter c cs h) in
+    omega arith
+
+module _ (x : List ℕ) (i : ℕ) where
+  -- The bytes of a name at position i, and the digits.
+  abbrev named : Span
+  named = span isNameByte (drop i x)
+
+  abbrev digits : Span
+  digits = span isDigit (drop i x)
+
+  -- The byte after the digits.
+  abbrev next : ℕ
+  next = getD x (i + length (digits .taken)) 0
+
+  -- After the digits stands the rest.
+  after-digits : drop (i + length (digits .taken)) x ≡ digits .rest
+  after-digits = drop-past x i (digits .taken) (digits .rest) (span-split isDigit (drop i x))
+
+  -- If no byte of a name follows the digits, they are all bytes of the name.
+  only-digits : isNameByte next ≡ false → named ≡ digits
+  only-digits h =
+      ap (span isNameByte) (span-split isDigit (drop i x))
+      ∙ span-append isNameByte (digits .taken) (digits .rest)
+      (all-weaken (λ c. isDigit c ≡ true) (λ c. isNameByte c ≡ true) digit-name (digits .taken) (span-every isDigit (drop i x)))
+      (go (digits .rest) after-digits)
+    where
+      go : (r : List ℕ) → drop (i + length (digits .taken)) x ≡ r → Stops isNameByte r
+      go [] e = tt
+      go (c ∷ cs) e = ap isNameByte (sym (byte-is x (i + length (digits .taken)) c cs e)) ∙ h
+
+  -- If one follows them, the bytes of the name are no number.
+  more-than-digits : isNameByte next ≡ true → number (named .taken) ≡ none
+  unfolding isNameByte isLetter isSmall isCapital isDigit
+  more-than-digits h = no-number-in (named .taken) (λ k. go (digits .rest) after-digits (stops k))
+    where
+      stops : Every isDigit (named .taken) → Stops isNameByte (digits .rest)
+      stops k =
+          let e : digits ≡ named = ap (span isDigit) (span-split isNameByte (drop i x))
+          ∙ span-append isDigit (named .taken) (named .rest) k (stops-digit (named .rest) (span-stops isNameByte (drop i x))) in
+          subst (λ (s : Span). Stops isNameByte (s .rest)) (sym e) (span-stops isNameByte (drop i x))
+
+      go : (r : List ℕ) → drop (i + length (digits .taken)) x ≡ r → Stops isNameByte r → ⊥
+      go [] e s = true≢false (sym h ∙ ap isNameByte (byte-none x (i + length (digits .taken)) e))
+      go (c ∷ cs) e s = true≢false (sym h ∙ ap isNameByte (byte-is x (i + length (digits .taken)) c cs e) ∙ s)
+
+  -- Scanning a number agrees with reading a term that begins with a digit.
+  scan-numeral : (R : List ℕ → Option (Parsed Ground)) (ds : List Declaration) → Names ds → (c : ℕ) (cs : List ℕ) → drop i x ≡ c ∷ cs
+      → isDigit c ≡ true → Scans x (scanNumeral x i) (readApplication R (findHead ds (named .taken)) (named .rest))
+  unfolding scanNumeral readApplication findHead headOf readArguments applyTo level levelBy
+  scan-numeral R ds ns c cs h z = rw (scanNumeral, read-number x i) (go (isNameByte next) refl)
+    where
+      Scanning : Number → Scan
+      Scanning o = elim o [ Value n e ↦ cond (isNameByte (getD x e 0)) Malformed (Scanned e 0) | Missing ↦ Malformed ]
+
+      -- No symbol has the name.
+      unknown : findName 0 ds (named .taken) ≡ none
+      unknown =
+          no-name ds ns (named .taken)
+          (subst (λ (a : List ℕ). isName a ≡ true → ⊥)
+          (sym (ap (λ (l : List ℕ). span isNameByte l .taken) h ∙ ap (λ (s : Span). s .taken) (span-yes isNameByte c cs (digit-name c z))))
+          (digit-no-name c (span isNameByte cs .taken) z))
+
+      longer : (o : Option ℕ) → isNameByte next ≡ true → Scanning (numberTo (i + length (digits .taken)) o) ≡ Malformed
+      longer none e = refl
+      longer (some m) e = rw e
+
+      whole : (o : Option ℕ) → isNameByte next ≡ false → findName 0 ds (digits .taken) ≡ none
+          → Scans x (Scanning (numberTo (i + length (digits .taken)) o))
+          (readApplication R (headOf o (findName 0 ds (digits .taken))) (digits .rest))
+      whole none e u = rw u tt
+      whole (some m) e u = rw e (after-digits, refl)
+
+      go : (t : Bool) → isNameByte next ≡ t
+          → Scans x (Scanning (numberTo (i + length (digits .taken)) (number (digits .taken))))
+          (readApplication R (findHead ds (named .taken)) (named .rest))
+      go true e = rw (longer (number (digits .taken)) e, more-than-digits e, unknown) tt
+      go false e =
+          subst (λ (s : Span). Scans x (Scanning (numberTo (i + length (digits .taken)) (number (digits .taken))))
+          (readApplication R (findHead ds (s .taken)) (s .rest))) (sym (only-digits e))
+          (whole (number (digits .taken)) e (ap (λ (s : Span). findName 0 ds (s .taken)) (sym (only-digits e)) ∙ unknown))
+
 -- terms
 
--- No symbol has the empty name.
-no-name : (ds : List Declaration) → Names ds → findName 0 ds [] ≡ none
-no-name ds ns = go (findName 0 ds []) (findName-some ds [])
-  where
-    go : (o : Option Found) → OnSome (λ f. (nameOf ds (f .symbol) ≡ []) × Declares ds true (f .symbol) (f .arity)) o → o ≡ none
-    go none h = refl
-    go (some f) h = absurd (name-nonempty (subst (λ (n : List ℕ). isName n ≡ true) (h .0) (name-of ds (f .symbol) (f .arity) ns (h .1))))
-
 module _ (b t : List ℕ) (symbols : ℕ) (names : Names (declarationsFrom b t symbols 0)) (x : List ℕ) (small : Folded b x) where
-  -- Scanning a name and its arguments agrees with reading them, if scanning the arguments' terms does.
-  scan-named : (f i : ℕ) → ((j : ℕ) → Scans x (scanTerm f b t symbols x j) (readTerm f (declarationsFrom b t symbols 0) (drop j x)))
+  -- Scanning a name and its arguments agrees with reading them, if scanning the arguments' terms does and no digit begins the name.
+  scan-named : (f i : ℕ) → Stops isDigit (drop i x)
+      → ((j : ℕ) → Scans x (scanTerm f b t symbols x j) (readTerm f (declarationsFrom b t symbols 0) (drop j x)))
       → Scans x (scanApplication (scanTerm f b t symbols x) t symbols (symbolFrom symbols b t 0 x i (nameEnd x i)) x (nameEnd x i))
       (readApplication (readTerm f (declarationsFrom b t symbols 0))
-      (findName 0 (declarationsFrom b t symbols 0) (span isNameByte (drop i x) .taken))
+      (findHead (declarationsFrom b t symbols 0) (span isNameByte (drop i x) .taken))
       (span isNameByte (drop i x) .rest))
-  scan-named f i reads =
+  unfolding findHead
+  scan-named f i stops reads =
       let n = span isNameByte (drop i x) in
       let e = span-split isNameByte (drop i x) in
       let j = symbolFrom symbols b t 0 x i (nameEnd x i) in
       subst (Scans x (scanApplication (scanTerm f b t symbols x) t symbols j x (nameEnd x i)))
       (ap₂ (readApplication (readTerm f (declarationsFrom b t symbols 0)))
-      (sym (find-symbol b t x (n .taken) (n .rest) i (nameEnd x i) e (name-solid (n .taken) (span-every isNameByte (drop i x)))
-      (name-end x i) small symbols))
+      (ap (headOf none) (sym (find-symbol b t x (n .taken) (n .rest) i (nameEnd x i) e
+      (name-solid (n .taken) (span-every isNameByte (drop i x))) (name-end x i) small symbols))
+      ∙ ap (λ (o : Option ℕ). headOf o (findName 0 (declarationsFrom b t symbols 0) (n .taken))) (sym (name-number (drop i x) stops)))
       (ap (λ (k : ℕ). drop k x) (name-end x i) ∙ drop-past x i (n .taken) (n .rest) e))
       (scan-application x (scanTerm f b t symbols x) (readTerm f (declarationsFrom b t symbols 0)) reads t symbols j (nameEnd x i))
 
   -- Scanning with the rank f is reading with the fuel f.
   pub scan-term : (f i : ℕ) → Scans x (scanTerm f b t symbols x i) (readTerm f (declarationsFrom b t symbols 0) (drop i x))
-  unfolding scanTerm readTerm symbolLevel span readApplication
+  unfolding scanTerm readTerm symbolLevel span readApplication findHead headOf number isDigit
   scan-term zero i = tt
-  scan-term (suc f) i = go (drop i x) refl (scan-named f i (scan-term f))
+  scan-term (suc f) i = go (drop i x) refl (λ s. scan-named f i s (scan-term f))
     where
       A : Scan
       A = scanApplication (scanTerm f b t symbols x) t symbols (symbolFrom symbols b t 0 x i (nameEnd x i)) x (nameEnd x i)
@@ -260,21 +376,32 @@ module _ (b t : List ℕ) (symbols : ℕ) (names : Names (declarationsFrom b t s
       ds : List Declaration
       ds = declarationsFrom b t symbols 0
 
-      Applies : List ℕ → Type 0
-      Applies l = Scans x A (readApplication (readTerm f ds) (findName 0 ds (span isNameByte l .taken)) (span isNameByte l .rest))
+      Applies : Scan → List ℕ → Type 0
+      Applies s l = Scans x s (readApplication (readTerm f ds) (findHead ds (span isNameByte l .taken)) (span isNameByte l .rest))
 
-      mark : (c : ℕ) (cs : List ℕ) → drop i x ≡ c ∷ cs → Applies (c ∷ cs) → (m n : Bool) → eqb c 33 ≡ m → eqb c 95 ≡ n
-          → Scans x (cond m (scanSymbol x (i + 1)) (cond n (scanSymbol x (i + 1)) A)) (readTerm (suc f) ds (c ∷ cs))
-      mark c cs h q true n e d =
+      mark : (c : ℕ) (cs : List ℕ) → drop i x ≡ c ∷ cs → (s : Scan) → Applies s (c ∷ cs) → (m n : Bool) → eqb c 33 ≡ m → eqb c 95 ≡ n
+          → Scans x (cond m (scanSymbol x (i + 1)) (cond n (scanSymbol x (i + 1)) s)) (readTerm (suc f) ds (c ∷ cs))
+      mark c cs h s q true n e d =
           rw (readTerm, e) (subst (λ (l : List ℕ). Scans x (scanSymbol x (i + 1)) (readSymbol made l)) (drop-next x i c cs h)
           (scan-symbol x made (λ n k. refl) (i + 1)))
-      mark c cs h q false true e d =
+      mark c cs h s q false true e d =
           rw (readTerm, e, d) (subst (λ (l : List ℕ). Scans x (scanSymbol x (i + 1)) (readSymbol leftover l)) (drop-next x i c cs h)
           (scan-symbol x leftover (λ n k. refl) (i + 1)))
-      mark c cs h q false false e d = rw (readTerm, e, d) q
+      mark c cs h s q false false e d = rw (readTerm, e, d) q
 
-      go : (l : List ℕ) → drop i x ≡ l → Applies l
-          → Scans x (cond (eqb (getD x i 0) 33) (scanSymbol x (i + 1)) (cond (eqb (getD x i 0) 95) (scanSymbol x (i + 1)) A))
+      functor : (c : ℕ) (cs : List ℕ) → drop i x ≡ c ∷ cs → (Stops isDigit (drop i x) → Applies A (drop i x)) → (z : Bool) → isDigit c ≡ z
+          → Applies (cond z (scanNumeral x i) A) (c ∷ cs)
+      functor c cs h q true e = subst (Applies (scanNumeral x i)) h (scan-numeral x i (readTerm f ds) ds names c cs h e)
+      functor c cs h q false e = subst (Applies A) h (q (subst (Stops isDigit) (sym h) e))
+
+      go : (l : List ℕ) → drop i x ≡ l → (Stops isDigit (drop i x) → Applies A (drop i x))
+          → Scans x
+          (cond (eqb (getD x i 0) 33) (scanSymbol x (i + 1))
+          (cond (eqb (getD x i 0) 95) (scanSymbol x (i + 1)) (cond (isDigit (getD x i 0)) (scanNumeral x i) A)))
           (readTerm (suc f) ds l)
-      go [] h q = rw (byte-none x i h) (subst (λ (o : Option Found). Scans x A (readApplication (readTerm f ds) o [])) (no-name ds names) q)
-      go (c ∷ cs) h q = rw (byte-is x i c cs h) (mark c cs h q (eqb c 33) (eqb c 95) refl refl)
+      go [] h q =
+          rw (byte-none x i h) (subst (λ (o : Option Found). Scans x A (readApplication (readTerm f ds) (headOf none o) []))
+          (no-name ds names [] name-nonempty) (subst (Applies A) h (q (subst (Stops isDigit) (sym h) tt))))
+      go (c ∷ cs) h q =
+          rw (byte-is x i c cs h) (mark c cs h (cond (isDigit c) (scanNumeral x i) A) (functor c cs h q (isDigit c) refl)
+          (eqb c 33) (eqb c 95) refl refl)

@@ -13,22 +13,20 @@ use Rattle.terms.specs.Terms.{leaf, app, Terms, nil, cons, count}
 use Rattle.terms.proofs.Lists.{all-append, all-weaken}
 use Rattle.sequents.specs.Symbols.{Symbol, made, leftover, Ground}
 use Rattle.sheet_format.specs.Limits.{maxNumber}
-use Rattle.sheet_format.specs.Bytes.{isDigit, isSmall, isCapital, isLetter, isNameByte, isName, number, decimal}
+use Rattle.sheet_format.specs.Bytes.{isDigit, isSmall, isCapital, isLetter, isNameByte, decimal}
 use Rattle.sheet_format.specs.Nodes.{Declaration}
-use Rattle.sheet_format.proofs.Bytes.{Every, digit-bounds, letter-bounds, name-nonempty, name-letter, name-kinds}
-use Rattle.sheet_format.proofs.Numbers.{decimal-digits, number-decimal}
+use Rattle.sheet_format.proofs.Bytes.{Every, digit-bounds}
+use Rattle.sheet_format.proofs.Numbers.{decimal-digits}
 use Rattle.sheet_format.proofs.Names.{Names}
 use Rattle.answer_texts.specs.Numbering.{symbolsIn, symbolsInAll}
-use Rattle.answer_texts.specs.Spelling.{nameOf, spellSymbol, spellTerm, spellArguments, spellMore}
+use Rattle.answer_texts.specs.Spelling.{spellFunctor, spellSymbol, spellTerm, spellArguments, spellMore}
 use Rattle.answer_texts.specs.Spelled.{SmallSymbol, WritableTerm, WritableTerms}
-use Rattle.text_judging.specs.Reading.{Span, span}
-use Rattle.text_judging.proofs.Spans.{Stops, stops-digit, span-append}
-use Rattle.answer_texts.proofs.Declared.{marked, has-arity, name-of}
-use Rattle.scanning.specs.declared.Number.the-variants.{Value}
-use Rattle.scanning.specs.Ranges.{scanNumber}
+use Rattle.text_judging.proofs.Spans.{Stops, stops-digit}
+use Rattle.text_judging.proofs.Functors.{Starts, functor-starts}
+use Rattle.answer_texts.proofs.Declared.{marked}
 use Rattle.scanning.specs.Numbering.{outsideName, isSymbol, numberAt, levelAt}
 use Rattle.scanning.proofs.Positions.{byte-is, drop-next, drop-past}
-use Rattle.scanning.proofs.Ranges.{numberTo, read-number}
+use Rattle.scanning.proofs.Ranges.{read-decimal}
 
 -- The symbol that begins at position i.
 unfoldable pub symbolAt : List ℕ → ℕ → Symbol
@@ -119,14 +117,13 @@ inside-starts (c ∷ cs) r x i h n p =
     none-at (length cs) x (suc i) (name-none x i c b (n .0) p)
     ∙ inside-starts cs r x (suc i) (drop-suc x (suc i) c (cs ++ r) h) (n .1) (ap isNameByte b ∙ n .0)
 
--- No symbol begins in a name.
-pub name-starts : (a r x : List ℕ) (i : ℕ) → drop i x ≡ a ++ r → isName a ≡ true → startsIn (length a) x i ≡ []
-name-starts [] r x i h n = absurd (name-nonempty n)
-name-starts (c ∷ cs) r x i h n =
-    let l = letter-bounds c (name-letter c cs n) in
+-- No symbol begins in a name or a number.
+functor-none : (a r x : List ℕ) (i : ℕ) → drop i x ≡ a ++ r → Starts a → startsIn (length a) x i ≡ []
+functor-none [] r x i h n = absurd n
+functor-none (c ∷ cs) r x i h n =
     let b = byte-is x i c (cs ++ r) h in
-    let k = name-kinds (c ∷ cs) n in
-    none-at (length cs) x i (plain-none x i c b (ne-eqb c 33 (λ q. omega arith), ne-eqb c 95 (l .2)))
+    let k = n .2 in
+    none-at (length cs) x i (plain-none x i c b (n .0, n .1))
     ∙ inside-starts cs r x i (drop-suc x i c (cs ++ r) h) (k .1) (ap isNameByte b ∙ k .0)
 
 -- A digit is a plain byte.
@@ -142,15 +139,6 @@ marked-plain : (n k : ℕ) → All Plain (marked n k)
 marked-plain n k = all-append Plain (decimal n) (64 ∷ decimal k) (decimal-plain n) ((refl, refl), decimal-plain k)
 
 -- symbols
-
--- A number that stands at position i, with no digit after it, is read.
-pub read-decimal : (x : List ℕ) (i n : ℕ) (r : List ℕ) → drop i x ≡ decimal n ++ r → n ≤ maxNumber → Stops isDigit r
-    → scanNumber x i ≡ Value n (i + length (decimal n))
-read-decimal x i n r h l s =
-    let e : span isDigit (drop i x) ≡ record { taken = decimal n; rest = r } = ap (span isDigit) h
-    ∙ span-append isDigit (decimal n) r (decimal-digits n) s in
-    read-number x i ∙ ap (λ (d : Span). numberTo (i + length (d .taken)) (number (d .taken))) e
-    ∙ ap (numberTo (i + length (decimal n))) (number-decimal n l)
 
 -- The number and the level of a symbol that begins at position i are read.
 marked-number : (x : List ℕ) (i n k : ℕ) (r : List ℕ) → drop (i + 1) x ≡ marked n k ++ r → n ≤ maxNumber → k ≤ maxNumber → Stops isDigit r
@@ -231,11 +219,11 @@ module _ (ds : List Declaration) (names : Names ds) (x : List ℕ) where
     pub term-starts : (t : Ground) → TermStarts t
     term-starts (leaf s) r i h w p o = symbol-starts s r x i h w (stops-digit r p) o
     term-starts (app f ts) r i h w p o =
-        let n = nameOf ds f in
+        let n = spellFunctor ds f in
         let a = spellArguments ts ds in
         let e = h ∙ append-assoc n a r in
         starts-parts n a x i [] (symbolsInAll ts)
-        (name-starts n (a ++ r) x i e (name-of ds f (count ts) names (has-arity ds f (count ts) (w .0))))
+        (functor-none n (a ++ r) x i e (functor-starts ds f (count ts) names (w .0)))
         (arguments-starts ts r (i + length n) (drop-past x i n (a ++ r) e) (w .1))
 
     arguments-starts : (ts : Terms Symbol) (r : List ℕ) (i : ℕ) → drop i x ≡ spellArguments ts ds ++ r → WritableTerms ts ds

@@ -5,13 +5,14 @@ use Prim.Native.Nat.{ℕ, zero, suc, _+_, _-_, _%_}
 use Prim.Native.Char.{code}
 use mathlib.Core.Bool.{Bool, true, false, cond}
 use mathlib.Core.List.{List}
-use lib.Dec.{eqb, leb}
+use lib.Dec.{eqb, leb, ltb}
 use lib.ListN.{length, getD, set}
-use Rattle.sheet_format.specs.Limits.{maxNodes}
+use Rattle.sheet_format.specs.Limits.{maxSymbols, maxNodes}
 use Rattle.node_table.specs.Layout.{kindOf, childCount, labelOf, childOf, nameStart, variableKind}
+use Rattle.scanning.specs.declared.Number.the-variants.{Value, Missing}
 use Rattle.scanning.specs.declared.Reach.{Reach}
 use Rattle.scanning.specs.declared.Reach.the-variants.{To, Differs}
-use Rattle.scanning.specs.Ranges.{sameFolded}
+use Rattle.scanning.specs.Ranges.{sameFolded, scanNumber}
 use Rattle.scanning.specs.Scanning.{nameSize}
 use Rattle.scanning.specs.Frames.{slotStart, slotEnd}
 use Rattle.scanning.specs.Classes.{nodeElement, isNameElement, elementSide, elementName, elementNode, elementChild, sideFrame}
@@ -31,6 +32,14 @@ matchRange n a s x i = cond (leb n (length x - i)) (cond (sameFolded n a s x i) 
 -- So does the name of symbol k.
 unfoldable pub matchName : List ℕ → List ℕ → ℕ → List ℕ → ℕ → Reach
 matchName b t k x i = matchRange (nameSize b t k) b (nameStart t k) x i
+
+-- So does the number n: it is the number at position i.
+unfoldable pub matchNumber : ℕ → List ℕ → ℕ → Reach
+matchNumber n x i = elim (scanNumber x i) [ Value m e ↦ cond (eqb m n) (To e) Differs | Missing ↦ Differs ]
+
+-- So does what the label l stands for, a symbol or a number (`functorOf` in node_table/specs/Decoding).
+unfoldable pub matchFunctor : List ℕ → List ℕ → ℕ → List ℕ → ℕ → Reach
+matchFunctor b t l x i = cond (ltb l maxSymbols) (matchName b t l x i) (matchNumber (l - maxSymbols) x i)
 
 -- So does the term of name v in frame g.
 unfoldable pub matchSlot : List ℕ → List ℕ → ℕ → ℕ → ℕ → Reach
@@ -58,9 +67,9 @@ matchMore r (suc n) t m j x c i =
 unfoldable pub matchArguments : (ℕ → ℕ → Reach) → List ℕ → ℕ → List ℕ → ℕ → Reach
 matchArguments r t m x i = cond (eqb (argumentCount t m) 0) (To i) (matchMore r (argumentCount t m) t m 0 x (code "(") i)
 
--- The symbol of node m stands at position i, and after it the node's children.
+-- The symbol or the number of node m stands at position i, and after it the node's children.
 unfoldable pub matchApplication : (ℕ → ℕ → Reach) → List ℕ → List ℕ → ℕ → List ℕ → ℕ → Reach
-matchApplication r b t m x i = elim (matchName b t (labelOf t m) x i) [ To e ↦ matchArguments r t m x e | Differs ↦ Differs ]
+matchApplication r b t m x i = elim (matchFunctor b t (labelOf t m) x i) [ To e ↦ matchArguments r t m x e | Differs ↦ Differs ]
 
 -- The instance of node m in frame g stands at position i. Children have smaller numbers: the first argument is above the node's.
 unfoldable pub matchInstance : ℕ → List ℕ → List ℕ → List ℕ → List ℕ → ℕ → ℕ → ℕ → Reach
@@ -119,7 +128,7 @@ sameChildren r (suc n) t i j k c =
     let o = r c (elementChild t i k) (elementChild t j k) in
     cond (o .same) (sameChildren r n t i j (k + 1) (o .classes)) o
 
--- Two applications: the same symbol, and the same children.
+-- Two applications: the same symbol or number, and the same children.
 unfoldable pub sameNodes : (List ℕ → ℕ → ℕ → Compared) → List ℕ → ℕ → ℕ → List ℕ → Compared
 sameNodes r t i j c =
     cond (eqb (labelOf t (elementNode i)) (labelOf t (elementNode j)))

@@ -5,7 +5,7 @@ use mathlib.Core.Bool.{Bool, false, cond}
 use mathlib.Core.List.{List}
 use lib.Dec.{eqb, ltb}
 use lib.ListN.{length, getD}
-use Rattle.sheet_format.specs.Bytes.{isNameByte}
+use Rattle.sheet_format.specs.Bytes.{isDigit, isNameByte}
 use Rattle.node_table.specs.Layout.{nameStart, nameLength, isFunctionBit, arityOf}
 use Rattle.scanning.specs.declared.Number.the-variants.{Value, Missing}
 use Rattle.scanning.specs.declared.Scan.{Scan}
@@ -50,6 +50,12 @@ scanAt x i = cond (eqb (getD x i 0) (code "@")) (scanLevel x (i + 1)) Malformed
 unfoldable pub scanSymbol : List ℕ → ℕ → Scan
 scanSymbol x i = elim (scanNumber x i) [ Value n e ↦ scanAt x e | Missing ↦ Malformed ]
 
+-- numbers
+
+-- Scans a number as a term (request W-204): no other byte of a name follows it. Its level is 0.
+unfoldable pub scanNumeral : List ℕ → ℕ → Scan
+scanNumeral x i = elim (scanNumber x i) [ Value n e ↦ cond (isNameByte (getD x e 0)) Malformed (Term e 0) | Missing ↦ Malformed ]
+
 -- applications
 
 -- The higher of two levels.
@@ -72,10 +78,11 @@ unfoldable pub scanApplication : (ℕ → Scan) → List ℕ → ℕ → ℕ →
 scanApplication r t symbols k x i =
     cond (ltb k symbols) (cond (eqb (isFunctionBit t k) 1) (scanArguments r (arityOf t k) x i) Malformed) Malformed
 
--- A term, nested less deep than the rank says.
+-- A term, nested less deep than the rank says. No name begins with a digit.
 unfoldable pub scanTerm : ℕ → List ℕ → List ℕ → ℕ → List ℕ → ℕ → Scan
 scanTerm zero b t symbols x i = Malformed
 scanTerm (suc f) b t symbols x i =
     cond (eqb (getD x i 0) (code "!")) (scanSymbol x (i + 1))
     (cond (eqb (getD x i 0) (code "_")) (scanSymbol x (i + 1))
-    (scanApplication (scanTerm f b t symbols x) t symbols (symbolFrom symbols b t 0 x i (nameEnd x i)) x (nameEnd x i)))
+    (cond (isDigit (getD x i 0)) (scanNumeral x i)
+    (scanApplication (scanTerm f b t symbols x) t symbols (symbolFrom symbols b t 0 x i (nameEnd x i)) x (nameEnd x i))))

@@ -5,7 +5,7 @@ use mathlib.Core.Bool.{Bool, true, false, cond}
 use native.Mathlib.Omega.{arith}
 use lib.Dec.{ltb}
 use borrow.Author.Tests.{ltb-true}
-use Rattle.terms.specs.Terms.{leaf, app, nil, substitute, levelBy}
+use Rattle.terms.specs.Terms.{sheetSymbol, leaf, app, nil, substitute, levelBy}
 use Rattle.sequents.specs.Symbols.{leftover, symbolLevel, level}
 use Rattle.unification.specs.Store.{Leaf, var, con, Store, at, solution}
 use Rattle.unification.specs.Promises.{Formed}
@@ -46,6 +46,6 @@ pub final-level0 : (s : Store) → ((x : ℕ) → x < 8 → level (final s (var 
 unfolding finalEnvironment startEnvironment substitute level levelBy
 final-level0 s h v = go (ltb v 8) refl
   where
-    go : (b : Bool) → ltb v 8 ≡ b → level (substitute (cond b (leaf (var v)) (app 0 nil)) (final s)) ≤ 0
+    go : (b : Bool) → ltb v 8 ≡ b → level (substitute (cond b (leaf (var v)) (app (sheetSymbol 0) nil)) (final s)) ≤ 0
     go true e = h v (ltb-true v 8 e)
     go false e = omega arith

@@ -2,7 +2,7 @@
 use Prim.Native.Nat.{ℕ, zero, suc}
 use mathlib.Core.Path.{_≡_, refl}
 use mathlib.Core.List.{List, [], _∷_}
-use Rattle.terms.specs.Terms.{Term, leaf, app, Terms, nil, cons}
+use Rattle.terms.specs.Terms.{sheetSymbol, Term, leaf, app, Terms, nil, cons}
 use Rattle.formulas.specs.Formulas.{Goal, atom, truth, and, or, implies, exists, forall, Clause, fact, rule, both, each}
 use Rattle.search.specs.Search.{SearchOutcome, ends, spent, proved, noProof}
 use Rattle.search.proofs.Computing.{computeSearch}
@@ -36,7 +36,7 @@ every-some : outcome 256 (diagonal ∷ []) (forall 1 (exists 0 (atom 0 (pair (le
 unfolding outcome
 every-some = refl
 
-occurs : outcome 256 (diagonal ∷ []) (exists 0 (atom 0 (pair (leaf 0) (app 1 (one (leaf 0)))))) ≡ (2, 8)
+occurs : outcome 256 (diagonal ∷ []) (exists 0 (atom 0 (pair (leaf 0) (app (sheetSymbol 1) (one (leaf 0)))))) ≡ (2, 8)
 unfolding outcome
 occurs = refl
 
@@ -74,7 +74,7 @@ unfolding outcome
 second = refl
 
 -- For q(x) and r(x) with q(a), q(b), r(b), the binding of the first try is taken back.
-again : outcome 256 (fact 0 (one (app 5 nil)) ∷ fact 0 (one (app 6 nil)) ∷ fact 1 (one (app 6 nil)) ∷ [])
+again : outcome 256 (fact 0 (one (app (sheetSymbol 5) nil)) ∷ fact 0 (one (app (sheetSymbol 6) nil)) ∷ fact 1 (one (app (sheetSymbol 6) nil)) ∷ [])
     (exists 0 (and (atom 0 (one (leaf 0))) (atom 1 (one (leaf 0))))) ≡ (1, 19)
 unfolding outcome
 again = refl

@@ -10,7 +10,7 @@ use native.Mathlib.Omega.{arith}
 use lib.Dec.{eqb, ltb}
 use borrow.Author.Tests.{eq-eqb, lt-ltb}
 use Rattle.terms.specs.Lists.{All, Mem, here, there, update}
-use Rattle.terms.specs.Terms.{leaf, app, nil, Terms, substitute, substitutes, levelBy}
+use Rattle.terms.specs.Terms.{sheetSymbol, leaf, app, nil, Terms, substitute, substitutes, levelBy}
 use Rattle.terms.proofs.Lists.{all-append, all-weaken, update-all, Any, any-left, any-right, mem-nil}
 use Rattle.terms.proofs.Terms.{substitutes-substitutes}
 use Rattle.formulas.specs.Formulas.{Goal, atom, truth, and, or, implies, exists, forall, Clause, freeG}
@@ -289,7 +289,7 @@ advance-complete u (c ∷ ds) h = (all-append Invariant (step u c) ds (step-keep
 
 -- The terms for the goal's free variables, and a constant for the other names, of which nothing is known.
 unfoldable startValues : Goal → Environment Symbol → Valuation
-startValues g e v = cond (freeG g v) (e v) (app 0 nil)
+startValues g e v = cond (freeG g v) (e v) (app (sheetSymbol 0) nil)
 
 -- All values at the start have level 0.
 startValues-low : (g : Goal) (e : Environment Symbol) → ((v : ℕ) → freeG g v ≡ true → level (e v) ≤ 0) → (v : ℕ)
@@ -297,7 +297,7 @@ startValues-low : (g : Goal) (e : Environment Symbol) → ((v : ℕ) → freeG g
 unfolding startValues level levelBy
 startValues-low g e h v = go (freeG g v) refl
   where
-    go : (b : Bool) → freeG g v ≡ b → level (cond b (e v) (app 0 nil)) ≤ 0
+    go : (b : Bool) → freeG g v ≡ b → level (cond b (e v) (app (sheetSymbol 0) nil)) ≤ 0
     go true q = h v q
     go false q = omega arith
 
@@ -306,7 +306,7 @@ startEnvironment-low : (σ : Valuation) → ((v : ℕ) → level (σ v) ≤ 0) �
 unfolding startEnvironment substitute value level levelBy
 startEnvironment-low σ h v = go (ltb v 8)
   where
-    go : (b : Bool) → level (substitute (cond b (leaf (var v)) (app 0 nil)) (valued σ)) ≤ 0
+    go : (b : Bool) → level (substitute (cond b (leaf (var v)) (app (sheetSymbol 0) nil)) (valued σ)) ≤ 0
     go true = h v
     go false = omega arith
 

@@ -2,7 +2,7 @@
 use Prim.Native.Nat.{ℕ}
 use mathlib.Core.List.{List}
 use Rattle.terms.specs.Lists.{update, elem}
-use Rattle.terms.specs.Terms.{substitute}
+use Rattle.terms.specs.Terms.{sameFunctor, substitute}
 use Rattle.formulas.specs.Formulas.{Goal, Clause, freeT, freeG, freeB}
 use Rattle.formulas.specs.Members.{members, quantify, standsFree}
 use Rattle.sequents.specs.Sequents.{entries, assign, bodySequent}
@@ -14,6 +14,6 @@ use Rattle.search.specs.Search.{SearchOutcome, advance, verdictOf, start
 
 unfoldable pub computeSearch : ℕ → List Clause → Goal → SearchOutcome
 unfolding search searchFrom verdictOf advance start startGoal startStore startEnvironment step takeGoal tryMember tryFrom settle proceed
-    matchStep compareTerms visit afterNode comparing pushPairs pushTerms look look1 lower bind fresh freshLevels past freshVariables
+    matchStep compareTerms sameFunctor visit afterNode comparing pushPairs pushTerms look look1 lower bind fresh freshLevels past freshVariables
     instanceOf sheetProgram entries assign bodySequent members quantify standsFree freeT freeG freeB elem update substitute
 computeSearch budget cs g = search budget cs g

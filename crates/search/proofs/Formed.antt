@@ -7,7 +7,7 @@ use mathlib.Core.List.{List, [], _∷_}
 use mathlib.Core.Option.{Option, none, some}
 use lib.Dec.{eqb}
 use Rattle.terms.specs.Lists.{All, update}
-use Rattle.terms.specs.Terms.{Term, leaf, app, Terms, nil, cons, substitute, substitutes, count}
+use Rattle.terms.specs.Terms.{Functor, Term, leaf, app, Terms, nil, cons, substitute, substitutes, count}
 use Rattle.terms.proofs.Lists.{all-append, all-map}
 use Rattle.formulas.specs.Formulas.{Goal, atom, truth, and, or, implies, exists, forall, Clause, fact, rule, both, each}
 use Rattle.formulas.specs.Members.{Member, standsFree, quantify, members}
@@ -15,7 +15,7 @@ use Rattle.sequents.specs.Sequents.{Environment, assign, Line, plain, Dsome, Da
 
 -- Which symbol may have how many arguments.
 abbrev pub Arities : Type 1
-Arities = ℕ → ℕ → Type 0
+Arities = Functor → ℕ → Type 0
 
 -- Terms over any leaves.
 unfoldable mutual

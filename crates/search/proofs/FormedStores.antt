@@ -6,7 +6,7 @@ use mathlib.Core.Option.{Option, none, some, Option·map}
 use native.Mathlib.Omega.{arith}
 use lib.Dec.{eqb, leb}
 use Rattle.terms.specs.Lists.{All, update}
-use Rattle.terms.specs.Terms.{Term, leaf, app, Terms, nil, cons, substitute}
+use Rattle.terms.specs.Terms.{sameFunctor, Term, leaf, app, Terms, nil, cons, substitute}
 use Rattle.terms.proofs.Lists.{all-append, all-map, update-all}
 use Rattle.sequents.specs.Symbols.{Symbol, symbolLevel}
 use Rattle.unification.specs.Store.{Leaf, var, con, Binding, Store, look1, look, lower, bind, freshLevels, fresh, freshVariables, boundTo}
@@ -150,7 +150,7 @@ module _ (ok : Arities) (n : ℕ) where
   compareTerms-formed s (app f ts) (leaf (var y)) ps h k i p = (h, k, (k, tt), p)
   compareTerms-formed s (app f ts) (leaf (con d j)) ps h k i p = tt
   compareTerms-formed s (app f ts) (app g us) ps h k i p =
-      if-formed (eqb f g) (comparing s (pushPairs ts us ps)) (comparing-formed s ts us ps h (k .1) (i .1) p)
+      if-formed (sameFunctor f g) (comparing s (pushPairs ts us ps)) (comparing-formed s ts us ps h (k .1) (i .1) p)
 
   -- One act keeps a matching well-formed.
   pub matchStep-formed : (m : Matching) → MatchingUpTo m → MatchingUpTo (matchStep m)

@@ -8,7 +8,7 @@ use native.Mathlib.Omega.{arith}
 use lib.Dec.{eqb, ltb}
 use borrow.Author.Tests.{ltb-true}
 use Rattle.terms.specs.Lists.{All}
-use Rattle.terms.specs.Terms.{leaf, app, nil, Terms, substitutes, Leaves, LeavesAll}
+use Rattle.terms.specs.Terms.{sheetSymbol, leaf, app, nil, Terms, substitutes, Leaves, LeavesAll}
 use Rattle.terms.proofs.Lists.{all-append, all-weaken, update-all}
 use Rattle.terms.proofs.Terms.{leavesAll-weaken, leavesAll-any, leavesAll-substitutes}
 use Rattle.formulas.specs.Formulas.{Goal, atom, truth, and, or, implies, exists, forall, Clause}
@@ -224,7 +224,7 @@ startEnvironment-below : EnvironmentBelow 8 startEnvironment
 unfolding startEnvironment Leaves Below
 startEnvironment-below v = go (ltb v 8) refl
   where
-    go : (b : Bool) → ltb v 8 ≡ b → Leaves (cond b (leaf (var v)) (app 0 nil)) (Below 8)
+    go : (b : Bool) → ltb v 8 ≡ b → Leaves (cond b (leaf (var v)) (app (sheetSymbol 0) nil)) (Below 8)
     go true e = ltb-true v 8 e
     go false e = tt
 

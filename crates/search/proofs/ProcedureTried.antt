@@ -5,7 +5,7 @@ use mathlib.Core.Bool.{Bool, true, false, cond}
 use mathlib.Core.List.{List, [], _∷_, _++_, map}
 use lib.Dec.{eqb}
 use Rattle.terms.specs.Lists.{All}
-use Rattle.terms.specs.Terms.{Term, app, Terms, substitutes, Leaves}
+use Rattle.terms.specs.Terms.{sameFunctor, Functor, sheetSymbol, Term, app, Terms, substitutes, Leaves}
 use Rattle.formulas.specs.Formulas.{Goal, Clause}
 use Rattle.sequents.specs.Sequents.{Entry, entries, Sequent}
 use Rattle.unification.specs.Store.{Leaf, Binding, Store, look1, look, past, fresh, freshVariables}
@@ -51,7 +51,7 @@ trying s a m ms k gs o p = record {
 }
 
 -- An application is looked through to itself.
-look-app : (bs : List Binding) (f : ℕ) (ts : Terms Leaf) → look bs (app f ts) ≡ app f ts
+look-app : (bs : List Binding) (f : Functor) (ts : Terms Leaf) → look bs (app f ts) ≡ app f ts
 unfolding look look1
 look-app [] f ts = refl
 look-app (b ∷ bs) f ts = ap (λ (t : Term Leaf). look1 t b) (look-app bs f ts)
@@ -60,14 +60,14 @@ look-app (b ∷ bs) f ts = ap (λ (t : Term Leaf). look1 t b) (look-app bs f ts)
 atoms-step : (s : Store) (a : Atom) (m : Entry Leaf) → matchSteps 1 (pairs (triedStore s a m) (triedAtoms s a m))
     ≡ cond (eqb (a .predicate) (m .member .predicate))
     (comparing (triedStore s a m) (pushPairs (a .arguments) (substitutes (m .member .arguments) (triedEnvironment s m)) [])) fail
-unfolding matchSteps matchStep compareTerms
+unfolding matchSteps matchStep compareTerms sameFunctor
 atoms-step s a m =
     let st = triedStore s a m in
     rw (
       matchSteps,
       matchStep,
-      look-app (st .bindings) (a .predicate) (a .arguments),
-      look-app (st .bindings) (m .member .predicate) (substitutes (m .member .arguments) (triedEnvironment s m)),
+      look-app (st .bindings) (sheetSymbol (a .predicate)) (a .arguments),
+      look-app (st .bindings) (sheetSymbol (m .member .predicate)) (substitutes (m .member .arguments) (triedEnvironment s m)),
     )
 
 -- A try does that step, with the members left as the alternative.

@@ -8,7 +8,7 @@ use mathlib.Core.Option.{Option, none, some}
 use mathlib.Core.Logic.{_⊎_}
 use lib.ListN.{length}
 use Rattle.terms.specs.Lists.{All, Mem, place, update}
-use Rattle.terms.specs.Terms.{Term, leaf, app, Terms, substitute, substitutes}
+use Rattle.terms.specs.Terms.{sheetSymbol, Term, leaf, app, Terms, substitute, substitutes}
 use Rattle.formulas.specs.Formulas.{Goal, Clause, freeVariables}
 use Rattle.sequents.specs.Symbols.{Symbol}
 use Rattle.sequents.specs.Sequents.{Environment, Hypothesis, Program, Sequent, Word, Dtrue, Dand, Dleft, Dright, Dassume, Line, plain}
@@ -86,7 +86,7 @@ pub record Resolved (x : Line Leaf) (p : ℕ) (ts : Terms PaperLeaf) (P : List D
   pub is-right : substitutes (clause .arguments) (replaceNames (renaming (clause .prefix) ws (λ v. leaf (name v)))) ≡ substitutes right
       embed
   pub σ : Substitution
-  pub general : MostGeneral (relabel ws i (S₁ .labels)) (record { goal = app p left; clause = app (clause .predicate) right } ∷ []) σ
+  pub general : MostGeneral (relabel ws i (S₁ .labels)) (record { goal = app (sheetSymbol p) left; clause = app (sheetSymbol (clause .predicate)) right } ∷ []) σ
   pub goals : S₂ .goals ≡ map (applySequent (σ .to))
       (before ++ (paperBody (clause .body) (renaming (clause .prefix) ws (λ v. leaf (name v))) P i ++ after))
   pub constants : S₂ .constants ≡ S₁ .constants

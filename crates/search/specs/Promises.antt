@@ -6,7 +6,7 @@ use mathlib.Core.List.{List, [], _∷_, _++_, map}
 use mathlib.Core.Option.{none}
 use mathlib.Core.Logic.{_⊎_, _↔_}
 use Rattle.terms.specs.Lists.{All, Mem, place}
-use Rattle.terms.specs.Terms.{app, substitutes}
+use Rattle.terms.specs.Terms.{sheetSymbol, app, substitutes}
 use Rattle.formulas.specs.Formulas.{Goal, Clause, freeG, variableNames}
 use Rattle.sequents.specs.Symbols.{Symbol, level}
 use Rattle.sequents.specs.Sequents.{Environment, Entry, entries, Line}
@@ -36,8 +36,8 @@ pub record Units (cs : List Clause) (g : Goal) : Type 0 where
 -- The two atoms of a try: the one taken, and the member's head with the fresh variables for its prefix.
 abbrev pub triedAtoms : Store → Atom → Entry Leaf → List Pair
 triedAtoms s a m = record {
-  goal = app (a .predicate) (a .arguments);
-  clause = app (m .member .predicate) (substitutes (m .member .arguments) (triedEnvironment s m));
+  goal = app (sheetSymbol (a .predicate)) (a .arguments);
+  clause = app (sheetSymbol (m .member .predicate)) (substitutes (m .member .arguments) (triedEnvironment s m));
 } ∷ []
 
 -- T3 of a try: the member m stands at place k among the members at the atom a, and its match is one of T3's.

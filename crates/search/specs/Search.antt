@@ -5,7 +5,7 @@ use mathlib.Core.Bool.{cond}
 use mathlib.Core.List.{List, [], _∷_, _++_}
 use mathlib.Core.Option.{Option, none, some}
 use lib.Dec.{ltb}
-use Rattle.terms.specs.Terms.{Term, leaf, app, nil}
+use Rattle.terms.specs.Terms.{sheetSymbol, Term, leaf, app, nil}
 use Rattle.formulas.specs.Formulas.{Goal, Clause, variableNames}
 use Rattle.sequents.specs.Sequents.{Environment, Sequent, Line}
 use Rattle.sequents.specs.Derivations.{instanceOf}
@@ -16,7 +16,7 @@ use Rattle.search.specs.Steps.{step}
 -- "The first has the sheet's clauses, I = 0, and a fresh variable of level 0 for each free variable." Name v is variable v. The
 -- names that are not free have one too, which shows nowhere.
 unfoldable pub startEnvironment : Environment Leaf
-startEnvironment v = cond (ltb v variableNames) (leaf (var v)) (app 0 nil)
+startEnvironment v = cond (ltb v variableNames) (leaf (var v)) (app (sheetSymbol 0) nil)
 
 unfoldable pub startStore : Store
 startStore = record { bindings = []; level = λ x. 0; next = variableNames }

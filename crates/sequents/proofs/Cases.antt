@@ -3,7 +3,7 @@ use Prim.Native.Nat.{ℕ, suc}
 use mathlib.Core.Path.{_≡_, refl}
 use mathlib.Core.List.{List, [], _∷_, map}
 use Rattle.terms.specs.Lists.{here, there, place, elem, update}
-use Rattle.terms.specs.Terms.{Terms, leaf, app, nil, cons, substitute}
+use Rattle.terms.specs.Terms.{sheetSymbol, Terms, leaf, app, nil, cons, substitute}
 use Rattle.formulas.specs.Formulas.{Goal, atom, truth, implies, forall, Clause, fact, both, each, freeT, freeG, freeB}
 use Rattle.formulas.specs.Members.{members, quantify, standsFree}
 use Rattle.sequents.specs.Symbols.{Symbol, made}
@@ -11,7 +11,7 @@ use Rattle.sequents.specs.Sequents.{Environment, Program, hypothesis, en
 use Rattle.sequents.specs.Derivations.{Derivation, d-assume, d-all, d-clause, b-none, lines}
 
 abbrev none-bound : Environment Symbol
-none-bound v = app 0 nil
+none-bound v = app (sheetSymbol 0) nil
 
 -- Lists the predicates of a program's members in trying order: latest assumption first, within a clause left first.
 unfoldable trying : Program Symbol → List ℕ

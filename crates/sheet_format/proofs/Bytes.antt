@@ -90,6 +90,15 @@ pub letter-name : (c : ℕ) → isLetter c ≡ true → isNameByte c ≡ true
 unfolding isNameByte
 letter-name c h = or-left (isLetter c || isDigit c) (eqb c 95) (or-left (isLetter c) (isDigit c) h)
 
+-- So is a digit.
+pub digit-name : (c : ℕ) → isDigit c ≡ true → isNameByte c ≡ true
+unfolding isNameByte
+digit-name c h = go (isLetter c) (isDigit c) h
+  where
+    go : (a b : Bool) → b ≡ true → (a || b || eqb c 95) ≡ true
+    go true b k = refl
+    go false b k = rw k refl
+
 -- A byte that is no name byte is no digit.
 pub no-digit : (c : ℕ) → isNameByte c ≡ false → isDigit c ≡ false
 unfolding isNameByte

@@ -149,3 +149,46 @@ underscore-not-folded = refl
 small-line-letter : reads "f\ta\t0\n" ≡ (6, 1)
 unfolding reads
 small-line-letter = refl
+
+-- Request W-204: an N line has one number up to 65,535, in the form of numbers.
+numeral-most : reads "N\t65535\nY\nQ\t1\n" ≡ (0, 0)
+unfolding reads
+numeral-most = refl
+
+numeral-over : reads "N\t65536\n" ≡ (6, 1)
+unfolding reads
+numeral-over = refl
+
+numeral-zeros : reads "N\t0\nN\t01\n" ≡ (6, 2)
+unfolding reads
+numeral-zeros = refl
+
+numeral-missing : reads "N\n" ≡ (6, 1)
+unfolding reads
+numeral-missing = refl
+
+numeral-twice : reads "N\t1\t2\n" ≡ (6, 1)
+unfolding reads
+numeral-twice = refl
+
+-- It is a term and nothing else, and one of the 1,024 variables and symbols of a term.
+numeral-goal : reads "N\t5\nQ\t0\n" ≡ (9, 2)
+unfolding reads
+numeral-goal = refl
+
+numeral-clause : reads "N\t5\nC\t0\n" ≡ (9, 2)
+unfolding reads
+numeral-clause = refl
+
+numeral-part : reads "N\t5\nY\n&\t1\t0\n" ≡ (9, 3)
+unfolding reads
+numeral-part = refl
+
+numeral-argument : reads "P\tp\t1\nN\t5\nA\t0\t0\nC\t1\nQ\t1\n" ≡ (0, 0)
+unfolding reads
+numeral-argument = refl
+
+numerals-1025 : reads
+    "F\tf\t2\nF\tg\t1\nN\t0\nA\t0\t0\t0\nA\t0\t1\t1\nA\t0\t2\t2\nA\t0\t3\t3\nA\t0\t4\t4\nA\t0\t5\t5\nA\t0\t6\t6\nA\t0\t7\t7\nA\t0\t8\t8\nA\t1\t9\nA\t1\t10\n" ≡ (9, 14)
+unfolding reads
+numerals-1025 = refl

@@ -1,6 +1,7 @@
--- Well-formed terms, goals and clauses over declared symbols: each symbol is declared, of its kind, and has its arity of terms;
+-- Well-formed terms, goals and clauses over declared symbols: each symbol is declared, of its kind, and has its arity of terms; numbers
+-- as terms are at most 65,535;
 -- the names of variables are below 8. Formedness is kept when declarations are added; a name that stands free is below 8.
-use Prim.Native.Nat.{ℕ, _<_}
+use Prim.Native.Nat.{ℕ, _<_, _≤_}
 use mathlib.Core.Path.{_≡_, refl, sym, subst}
 use mathlib.Core.Bool.{Bool, true, false, not, _||_, true≢false}
 use mathlib.Core.List.{List, _++_}
@@ -9,11 +10,11 @@ use mathlib.Core.Logic.{_⊎_, inl, inr}
 use lib.Dec.{eqb}
 use lib.ListN.{getElem?}
 use borrow.Author.Tests.{eqb-true}
-use Rattle.terms.specs.Terms.{Term, leaf, app, Terms, nil, cons, count}
+use Rattle.terms.specs.Terms.{Functor, sheetSymbol, numeral, Term, leaf, app, Terms, nil, cons, count}
 use Rattle.formulas.specs.Formulas.{Goal, atom, truth, and, or, implies, exists, forall, Clause, fact, rule, both, each, freeT, freeTs}
 use Rattle.formulas.specs.Formulas.{freeG, freeC}
 use Rattle.formulas.proofs.Free.{and-parts}
-use Rattle.sheet_format.specs.Limits.{variableNames}
+use Rattle.sheet_format.specs.Limits.{variableNames, maxNumber}
 use Rattle.sheet_format.specs.Nodes.{Declaration}
 use Rattle.sheet_format.proofs.Indexing.{at-append}
 
@@ -24,10 +25,15 @@ pub record Declares (ds : List Declaration) (k : Bool) (f n : ℕ) : Type 0 wher
   pub kind : declaration .function ≡ k
   pub arity : declaration .arity ≡ n
 
+-- What may stand before n arguments: a function symbol of arity n; a number up to 65,535, before none.
+unfoldable pub Takes : List Declaration → Functor → ℕ → Type 0
+Takes ds (sheetSymbol f) n = Declares ds true f n
+Takes ds (numeral m) n = (n ≡ 0) × (m ≤ maxNumber)
+
 unfoldable mutual
   pub FormedTerm : Term ℕ → List Declaration → Type 0
   FormedTerm (leaf v) ds = v < variableNames
-  FormedTerm (app f ts) ds = Declares ds true f (count ts) × FormedTerms ts ds
+  FormedTerm (app f ts) ds = Takes ds f (count ts) × FormedTerms ts ds
 
   pub FormedTerms : Terms ℕ → List Declaration → Type 0
   FormedTerms nil ds = Unit {0}
@@ -65,13 +71,19 @@ abbrev pub Keeps : List Declaration → List Declaration → Type 0
 Keeps ds es = (k : Bool) (f n : ℕ) → Declares ds k f n → Declares es k f n
 
 module _ (ds es : List Declaration) (keeps : Keeps ds es) where
+  -- A functor keeps the number of its arguments.
+  functor-keeps : (f : Functor) (n : ℕ) → Takes ds f n → Takes es f n
+  unfolding Takes
+  functor-keeps (sheetSymbol f) n h = keeps true f n h
+  functor-keeps (numeral m) n h = h
+
   -- A term stays well-formed.
   mutual
     unfolding FormedTerm
 
     pub term-keeps : (t : Term ℕ) → FormedTerm t ds → FormedTerm t es
     term-keeps (leaf v) h = h
-    term-keeps (app f ts) h = (keeps true f (count ts) (h .0), terms-keep ts (h .1))
+    term-keeps (app f ts) h = (functor-keeps f (count ts) (h .0), terms-keep ts (h .1))
 
     pub terms-keep : (ts : Terms ℕ) → FormedTerms ts ds → FormedTerms ts es
     terms-keep nil h = tt

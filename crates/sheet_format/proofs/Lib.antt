@@ -8,6 +8,10 @@ pub mod Formed
 pub mod Names
 pub mod SheetLines
 pub mod Nodes
+pub mod Reading
 pub mod Good
+pub mod Numberless
 pub mod Capitals
+pub mod Forms
 pub mod FormerNames
+pub mod FormerLines

@@ -10,9 +10,9 @@ use native.Mathlib.Omega.{arith}
 use Rattle.terms.specs.Lists.{All}
 use Rattle.terms.proofs.Lists.{all-weaken}
 use Rattle.sheet_format.specs.Limits.{maxNumber}
-use Rattle.sheet_format.specs.Bytes.{isDigit, digitsFrom, atMost, number, digits, decimal}
+use Rattle.sheet_format.specs.Bytes.{isDigit, digitsFrom, atMost, number, digits, decimal, isName}
 use Rattle.sheet_format.proofs.Options.{OnSome, cond-some, some-is}
-use Rattle.sheet_format.proofs.Bytes.{Without, Every, every-without, Graphic, digit-bounds}
+use Rattle.sheet_format.proofs.Bytes.{Without, Every, every-without, Graphic, digit-bounds, letter-bounds, name-nonempty, name-letter}
 
 -- The byte 48 + n is a digit for n below 10.
 pub digit-of : (n : ℕ) → n < 10 → isDigit (48 + n) ≡ true
@@ -189,3 +189,14 @@ number-some (c ∷ d ∷ cs) = go (eqb c 48) refl (isDigit c) refl
 -- Bytes that are read as n are what n is written as, and n is within the bound.
 pub decimal-number : (b : List ℕ) (n : ℕ) → number b ≡ some n → (b ≡ decimal n) × (n ≤ maxNumber)
 decimal-number b n e = some-is (λ k. (b ≡ decimal k) × (k ≤ maxNumber)) (number b) n (number-some b) e
+
+-- A name is no number: its first byte is a letter.
+pub number-name : (b : List ℕ) → isName b ≡ true → number b ≡ none
+unfolding number digitsFrom atMost
+number-name [] h = absurd (name-nonempty h)
+number-name (c ∷ cs) h = go cs (isDigit c) refl (letter-bounds c (name-letter c cs h))
+  where
+    go : (ds : List ℕ) (b : Bool) → isDigit c ≡ b → (65 ≤ c) × (c ≤ 122) × (c ≡ 95 → ⊥) → number (c ∷ ds) ≡ none
+    go ds true e l = let r = digit-bounds c e in absurd (omega arith)
+    go [] false e l = rw (e, digitsFrom)
+    go (d ∷ ds) false e l = rw (ne-eqb c 48 (λ q. omega arith), number) (rw (e, digitsFrom))

@@ -8,18 +8,21 @@ use mathlib.Core.Option.{Option, none, some}
 use lib.Dec.{eqb, leb, ltb}
 use lib.ListN.{length}
 use borrow.Author.Tests.{leb-true, ltb-true}
+use Rattle.terms.specs.Lists.{All}
 use Rattle.formulas.proofs.Free.{and-parts}
-use Rattle.sheet_format.specs.Limits.{maxArity, variableNames}
-use Rattle.sheet_format.specs.Bytes.{isName, fields, number}
-use Rattle.sheet_format.specs.SheetLines.{NodeLine, variableLine, applyLine, trueLine, andLine, orLine, impliesLine, someLine}
+use Rattle.sheet_format.specs.Limits.{maxNumber, maxArity, variableNames}
+use Rattle.sheet_format.specs.Bytes.{decimal, isName, fields, number}
+use Rattle.sheet_format.specs.SheetLines.{numberLine, consNumber, NodeLine, variableLine, applyLine, trueLine, andLine, orLine, impliesLine, someLine}
 use Rattle.sheet_format.specs.SheetLines.{everyLine, SheetLine, declareLine, nodeLine, clauseLine, goalLine, numbers, declared}
 use Rattle.sheet_format.specs.SheetLines.{declaration, noNumber, oneNumber, twoNumbers, withVariable, application, lineOf, ofFields}
 use Rattle.sheet_format.specs.SheetLines.{parseLine}
-use Rattle.sheet_format.proofs.Options.{OnSome, any-some, cond-some}
+use Rattle.sheet_format.proofs.Options.{some-weaken, OnSome, any-some, cond-some}
+use Rattle.sheet_format.proofs.Numbers.{number-some}
 
--- A node line names a variable that there is.
+-- A node line names a variable that there is, or a number up to 65,535.
 abbrev pub FormedNodeLine : NodeLine → Type 0
 FormedNodeLine (variableLine v) = v < variableNames
+FormedNodeLine (numberLine n) = n ≤ maxNumber
 FormedNodeLine (applyLine f ns) = Unit {0}
 FormedNodeLine trueLine = Unit {0}
 FormedNodeLine (andLine n m) = Unit {0}
@@ -87,6 +90,19 @@ abbrev VariableFirst : List ℕ → Type 0
 VariableFirst [] = Unit {0}
 VariableFirst (v ∷ ns) = v < variableNames
 
+-- Numbers that are read are at most 65,535.
+consNumber-small : (o : Option ℕ) (p : Option (List ℕ)) → OnSome (λ n. n ≤ maxNumber) o → OnSome (All (λ n. n ≤ maxNumber)) p → OnSome (All (λ n. n ≤ maxNumber)) (consNumber o p)
+unfolding consNumber
+consNumber-small none p h k = tt
+consNumber-small (some n) none h k = tt
+consNumber-small (some n) (some ns) h k = (h, k)
+
+numbers-small : (fs : List (List ℕ)) → OnSome (All (λ n. n ≤ maxNumber)) (numbers fs)
+unfolding numbers
+numbers-small [] = tt
+numbers-small (f ∷ fs) =
+    consNumber-small (number f) (numbers fs) (some-weaken (λ n. (f ≡ decimal n) × (n ≤ maxNumber)) (λ n. n ≤ maxNumber) (λ n h. h .1) (number f) (number-some f)) (numbers-small fs)
+
 -- Numbers that pass `withVariable` have the name of a variable first.
 withVariable-some : (o : Option (List ℕ)) → OnSome VariableFirst (withVariable o)
 unfolding withVariable
@@ -117,6 +133,7 @@ lineOf-some c fs =
     (letter-some c (code "P") _ _ (declaration-some false fs)
     (letter-some c (code "V") _ _ (oneNumber-some VariableFirst (λ v. nodeLine (variableLine v)) (λ v h. h) (withVariable (numbers fs))
     (withVariable-some (numbers fs)))
+    (letter-some c (code "N") _ _ (oneNumber-some (All (λ n. n ≤ maxNumber)) (λ n. nodeLine (numberLine n)) (λ n h. h .0) (numbers fs) (numbers-small fs))
     (letter-some c (code "A") _ _ (application-some (numbers fs))
     (letter-some c (code "Y") _ _ (noNumber-some (nodeLine trueLine) tt (numbers fs))
     (letter-some c (code "&") _ _ (two (λ n m. nodeLine (andLine n m)) (λ n m. tt))
@@ -127,7 +144,7 @@ lineOf-some c fs =
     (letter-some c (code "U") _ _ (twoNumbers-some VariableFirst (λ v n. nodeLine (everyLine v n)) (λ v n h. h)
     (withVariable (numbers fs)) (withVariable-some (numbers fs)))
     (letter-some c (code "C") _ _ (one clauseLine (λ n. tt))
-    (letter-some c (code "Q") _ _ (one goalLine (λ n. tt)) tt)))))))))))
+    (letter-some c (code "Q") _ _ (one goalLine (λ n. tt)) tt))))))))))))
   where
     one : (l : ℕ → SheetLine) → ((n : ℕ) → FormedLine (l n)) → OnSome FormedLine (oneNumber l (numbers fs))
     one l h = oneNumber-some (λ ns. Unit {0}) l (λ n k. h n) (numbers fs) (any-some (numbers fs))

@@ -1,4 +1,5 @@
--- Request W-201: "The engine answers sheets with names all in small letters as before." What a sheet was before, by the same reader.
+-- Request W-201: "The engine answers sheets with names all in small letters as before." What a sheet was before, by the same
+-- reader: the form in force without what this request added.
 use Prim.Native.Nat.{ℕ}
 use mathlib.Core.Path.{_≡_}
 use mathlib.Core.Bool.{Bool, false, _||_, cond}

@@ -6,4 +6,5 @@ pub mod SheetLines
 pub mod Nodes
 pub mod Sheets
 pub mod FormerNames
+pub mod FormerLines
 pub mod Promises

@@ -6,10 +6,10 @@ use mathlib.Core.List.{List, [], _∷_}
 use mathlib.Core.Option.{Option, none, some, Option·map}
 use lib.Dec.{eqb, leb}
 use lib.ListN.{length, getElem?}
-use Rattle.terms.specs.Terms.{Term, leaf, app, Terms, nil, cons, size}
+use Rattle.terms.specs.Terms.{sheetSymbol, numberTerm, Term, leaf, app, Terms, nil, cons, size}
 use Rattle.formulas.specs.Formulas.{Goal, atom, truth, and, or, implies, exists, forall, Clause, fact, rule, both, each}
 use Rattle.sheet_format.specs.Limits.{maxTermSize, maxMembers}
-use Rattle.sheet_format.specs.SheetLines.{NodeLine, variableLine, applyLine, trueLine, andLine, orLine, impliesLine, someLine}
+use Rattle.sheet_format.specs.SheetLines.{numberLine, NodeLine, variableLine, applyLine, trueLine, andLine, orLine, impliesLine, someLine}
 use Rattle.sheet_format.specs.SheetLines.{everyLine}
 
 -- A symbol: is it a function symbol (F) or a predicate (P), its name, its arity.
@@ -55,7 +55,7 @@ termNode t = record { term = t; goal = none; clause = none }
 
 unfoldable pub applied : Bool → ℕ → Option (Terms ℕ) → Node
 applied true f none = neither
-applied true f (some ts) = termNode (sized (app f ts))
+applied true f (some ts) = termNode (sized (app (sheetSymbol f) ts))
 applied false p none = neither
 applied false p (some ts) = record { term = none; goal = some (atom p ts); clause = some (fact p ts) }
 
@@ -89,6 +89,7 @@ nodesAt nodes (i ∷ is) = map2 _∷_ (getElem? nodes i) (nodesAt nodes is)
 -- The node that a line makes; none where it "names a symbol or node not yet there". "> from a clause to a goal" is a goal.
 unfoldable pub nodeOf : List Declaration → List Node → NodeLine → Option Node
 nodeOf symbols nodes (variableLine v) = some (termNode (some (leaf v)))
+nodeOf symbols nodes (numberLine n) = some (termNode (some (numberTerm n)))
 nodeOf symbols nodes (applyLine f ns) = map2 (λ d. applyNode d f) (getElem? symbols f) (nodesAt nodes ns)
 nodeOf symbols nodes trueLine = some (record { term = none; goal = some truth; clause = none })
 nodeOf symbols nodes (andLine n m) =

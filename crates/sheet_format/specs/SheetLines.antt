@@ -11,7 +11,7 @@ use Rattle.sheet_format.specs.Bytes.{fields, number, isName}
 
 -- A line that makes a node.
 pub data NodeLine : Type 0 where
-  variableLine : ℕ → NodeLine
+  variableLine numberLine : ℕ → NodeLine
   applyLine : ℕ → List ℕ → NodeLine
   trueLine : NodeLine
   andLine orLine impliesLine : ℕ → ℕ → NodeLine
@@ -82,6 +82,7 @@ lineOf c fs =
     cond (eqb c (code "F")) (declaration true fs)
     (cond (eqb c (code "P")) (declaration false fs)
     (cond (eqb c (code "V")) (oneNumber (λ v. nodeLine (variableLine v)) (withVariable (numbers fs)))
+    (cond (eqb c (code "N")) (oneNumber (λ n. nodeLine (numberLine n)) (numbers fs))
     (cond (eqb c (code "A")) (application (numbers fs))
     (cond (eqb c (code "Y")) (noNumber (nodeLine trueLine) (numbers fs))
     (cond (eqb c (code "&")) (twoNumbers (λ n m. nodeLine (andLine n m)) (numbers fs))
@@ -90,7 +91,7 @@ lineOf c fs =
     (cond (eqb c (code "E")) (twoNumbers (λ v n. nodeLine (someLine v n)) (withVariable (numbers fs)))
     (cond (eqb c (code "U")) (twoNumbers (λ v n. nodeLine (everyLine v n)) (withVariable (numbers fs)))
     (cond (eqb c (code "C")) (oneNumber clauseLine (numbers fs))
-    (cond (eqb c (code "Q")) (oneNumber goalLine (numbers fs)) none)))))))))))
+    (cond (eqb c (code "Q")) (oneNumber goalLine (numbers fs)) none))))))))))))
 
 -- The letter is a field of one byte.
 unfoldable pub ofFields : List (List ℕ) → Option SheetLine

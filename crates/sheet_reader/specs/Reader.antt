@@ -6,13 +6,13 @@ use mathlib.Core.List.{List, [], _∷_}
 use mathlib.Core.Option.{Option, none, some}
 use lib.Dec.{ltb, eqb}
 use lib.ListN.{length, take, drop}
-use Rattle.sheet_format.specs.Limits.{maxArity, variableNames, tableNumbers}
+use Rattle.sheet_format.specs.Limits.{maxNumber, maxArity, variableNames, tableNumbers}
 use Rattle.sheet_format.specs.Bytes.{lf, linesOf}
 use Rattle.sheet_format.specs.SheetLines.{SheetLine, declareLine, nodeLine, clauseLine, goalLine, parseLine}
 use Rattle.sheet_format.specs.Sheets.{refusal, sheet, refused, readSheet}
 use Rattle.sheet_format.specs.Sheets.{Read as SheetRead}
 use Rattle.line_parser.specs.declared.lines.NodeLine.{NodeLine}
-use Rattle.line_parser.specs.declared.lines.NodeLine.the-variants.{Variable, Apply, True, And, Or, Implies, Exists, Forall}
+use Rattle.line_parser.specs.declared.lines.NodeLine.the-variants.{Variable, Numeral, Apply, True, And, Or, Implies, Exists, Forall}
 use Rattle.line_parser.specs.declared.lines.Line.{Line}
 use Rattle.line_parser.specs.declared.lines.Line.the-variants.{Declare, Node, Clause, Goal, Refused as RefusedLine}
 use Rattle.line_parser.specs.Fields.{firstName}
@@ -21,8 +21,8 @@ use Rattle.node_table.specs.Decoding.{decodeSheet}
 use Rattle.node_table.specs.WellMade.{WellMade, Named}
 use Rattle.table_builder.specs.declared.node_info.Counts.{Counts}
 use Rattle.table_builder.specs.declared.node_info.Taken.the-variants.{Stop}
-use Rattle.table_builder.specs.Nodes.{Made, made, insertVariable, insertTrue, insertAnd, insertOr, insertImplies, insertExists}
-use Rattle.table_builder.specs.Nodes.{insertForall, insertClause, checkGoal}
+use Rattle.table_builder.specs.Nodes.{Made, made, insertVariable, insertNumeral, insertTrue, insertAnd, insertOr, insertImplies}
+use Rattle.table_builder.specs.Nodes.{insertExists, insertForall, insertClause, checkGoal}
 use Rattle.table_builder.specs.Symbols.{insertApplication, insertDeclaration}
 use Rattle.sheet_reader.specs.declared.sheet_lines.Read.{Read}
 use Rattle.sheet_reader.specs.declared.sheet_lines.Read.the-variants.{Done, Refused}
@@ -39,7 +39,7 @@ unfoldable pub WellRead : List ℕ → Read → Type 0
 WellRead t (Done k goal) = WellMade t (k .nodes) (k .clauses) goal
 WellRead t (Refused f) = Unit {0}
 
--- Its applications name symbols that are declared.
+-- Its applications name symbols that are declared, or are numbers.
 unfoldable pub NamedRead : List ℕ → Read → Type 0
 NamedRead t (Done k goal) = Named t (k .nodes) (k .symbols)
 NamedRead t (Refused f) = Unit {0}
@@ -93,9 +93,10 @@ lineLength (c ∷ cs) = cond (eqb c lf) zero (suc (lineLength cs))
 unfoldable pub lineEnd : List ℕ → ℕ → ℕ
 lineEnd s at = at + lineLength (drop at s)
 
--- A line that makes a node: its variable is one, an application has at most four nodes.
+-- A line that makes a node: its variable is one, its number at most 65,535, an application has at most four nodes.
 unfoldable pub FormedNode : NodeLine → Type 0
 FormedNode (Variable v) = v < variableNames
+FormedNode (Numeral n) = n ≤ maxNumber
 FormedNode (Apply f ns) = ns .count ≤ maxArity
 FormedNode True = Unit {0}
 FormedNode (And n m) = Unit {0}
@@ -106,6 +107,7 @@ FormedNode (Forall v n) = v < variableNames
 
 unfoldable pub takeNode : List ℕ → Counts → NodeLine → Made
 takeNode t k (Variable v) = insertVariable t k v
+takeNode t k (Numeral n) = insertNumeral t k n
 takeNode t k (Apply f ns) = insertApplication t k f (ns .count) (ns .a) (ns .b) (ns .c) (ns .d)
 takeNode t k True = insertTrue t k
 takeNode t k (And n m) = insertAnd t k n m

@@ -42,6 +42,7 @@ fn take_node(t: &mut [u32], k: Counts, l: NodeLine) -> Taken
 {
     match l {
         NodeLine::Variable(v) => table_builder::node_lines::insert_variable(t, k, v),
+        NodeLine::Numeral(n) => table_builder::node_lines::insert_numeral(t, k, n),
         NodeLine::Apply(f, ns) => {
             let args = Arguments {
                 count: ns.count,

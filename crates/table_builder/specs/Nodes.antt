@@ -6,9 +6,9 @@ use mathlib.Core.List.{List, [], _∷_}
 use lib.Bits.{bitOr}
 use lib.Dec.{leb, eqb}
 use lib.ListN.{getD, set}
-use Rattle.sheet_format.specs.Limits.{maxMembers, maxNodes, maxClauses}
-use Rattle.node_table.specs.Layout.{nodeAt, clauseAt, kindOf, maskOf, goalBit, membersOf, packInfo, atomKind, variableKind, trueKind}
-use Rattle.node_table.specs.Layout.{andKind, orKind, impliesKind, existsKind, forallKind, headField, labelField, firstChildField}
+use Rattle.sheet_format.specs.Limits.{maxMembers, maxSymbols, maxNodes, maxClauses}
+use Rattle.node_table.specs.Layout.{nodeAt, clauseAt, kindOf, maskOf, goalBit, membersOf, packInfo, atomKind, variableKind, applicationKind}
+use Rattle.node_table.specs.Layout.{trueKind, andKind, orKind, impliesKind, existsKind, forallKind, headField, labelField, firstChildField}
 use Rattle.node_table.specs.Layout.{secondChildField, thirdChildField, fourthChildField, infoField, childUnit, goalUnit}
 use Rattle.table_builder.specs.declared.node_info.Counts.{Counts}
 use Rattle.table_builder.specs.declared.node_info.NodeRecord.{NodeRecord}
@@ -83,10 +83,15 @@ existsInfo t v a = packInfo (withoutBit v (maskOf t a)) (goalBit t a) 0 0
 unfoldable pub forallInfo : List ℕ → ℕ → ℕ → ℕ
 forallInfo t v a = packInfo (withoutBit v (maskOf t a)) (goalBit t a) (membersOf t a) 0
 
--- V and Y.
+-- V, N and Y. The number n is an application of label 256 + n, as `functorOf` of `node_table` reads it.
 unfoldable pub insertVariable : List ℕ → Counts → ℕ → Made
 insertVariable t k v =
     cond (leb maxNodes (k .nodes)) (made t (Stop 7)) (addNode t k (nodeRecord variableKind v 0 0 0 0 (packInfo (onlyBit v) 0 0 1)))
+
+unfoldable pub insertNumeral : List ℕ → Counts → ℕ → Made
+insertNumeral t k n =
+    cond (leb maxNodes (k .nodes)) (made t (Stop 7))
+    (addNode t k (nodeRecord applicationKind (maxSymbols + n) 0 0 0 0 (packInfo 0 0 0 1)))
 
 unfoldable pub insertTrue : List ℕ → Counts → Made
 insertTrue t k = cond (leb maxNodes (k .nodes)) (made t (Stop 7)) (addNode t k (nodeRecord trueKind 0 0 0 0 0 goalUnit))

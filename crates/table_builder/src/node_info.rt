@@ -28,7 +28,7 @@ pub enum Taken {
     Last(u32),
 }
 
-// The seven numbers of a node: kind + 16 * number of children, symbol or variable, children, what it is.
+// The seven numbers of a node: kind + 16 * number of children, label (symbol, number or variable), children, what it is.
 pub struct NodeRecord {
     pub head: u32,
     pub label: u32,

@@ -1,4 +1,4 @@
-// Filling the table: a parsed V, Y, &, |, >, E or U line makes a node, a C line a clause, or the line is refused with 7, 8, 9 or
+// Filling the table: a parsed V, N, Y, &, |, >, E or U line makes a node, a C line a clause, or the line is refused with 7, 8, 9 or
 // 10. F, P and A lines: crates symbols and applications.
 use super::node_info::Counts;
 use super::node_info::NodeRecord;
@@ -23,9 +23,10 @@ use node_table::members;
 use outcomes::refusals;
 use sheet_format::limits;
 ghost use mathlib.Core.Path.{_≡_};
-ghost use Prim.Native.Nat.{_<_};
-ghost use Rattle.table_builder.specs.Nodes.{made, insertVariable, insertTrue, insertAnd, insertOr, insertImplies, insertExists};
-ghost use Rattle.table_builder.specs.Nodes.{insertForall, insertClause, checkGoal};
+ghost use Prim.Native.Nat.{_<_, _≤_};
+ghost use Rattle.sheet_format.specs.Limits.{maxNumber};
+ghost use Rattle.table_builder.specs.Nodes.{made, insertVariable, insertNumeral, insertTrue, insertAnd, insertOr, insertImplies};
+ghost use Rattle.table_builder.specs.Nodes.{insertExists, insertForall, insertClause, checkGoal};
 
 // Inserts the node of a line V v.
 pub fn insert_variable(t: &mut [u32], k: Counts, v: u32) -> Taken
@@ -42,6 +43,30 @@ pub fn insert_variable(t: &mut [u32], k: Counts, v: u32) -> Taken
         NodeRecord {
             head: kinds::VARIABLE,
             label: v,
+            first: 0,
+            second: 0,
+            third: 0,
+            fourth: 0,
+            info,
+        },
+    )
+}
+
+// Inserts the node of a line N n: an application without children, of a label that no symbol has.
+pub fn insert_numeral(t: &mut [u32], k: Counts, n: u32) -> Taken
+    requires { ⌜ n ≤ maxNumber ⌝ }
+    ensures { λ r. ⌜ made (now (t .exit)) r ≡ insertNumeral (now (t .entry)) k n ⌝ }
+{
+    if limits::MAX_NODES <= k.nodes {
+        return Taken::Stop(refusals::TOO_MANY);
+    }
+    let info = pack_info(0, 0, 0, 1);
+    add_node(
+        t,
+        k,
+        NodeRecord {
+            head: kinds::APPLICATION,
+            label: limits::MAX_SYMBOLS + n,
             first: 0,
             second: 0,
             third: 0,

@@ -9,19 +9,21 @@ use lib.Dec.{eqb, leb}
 use lib.ListN.{length, getD}
 use borrow.Author.Tests.{eqb-true, le-leb}
 use Rattle.terms.specs.Lists.{All}
-use Rattle.terms.specs.Terms.{Term, app, Terms, size}
+use Rattle.terms.specs.Terms.{sheetSymbol, Term, app, Terms, size}
 use Rattle.terms.proofs.Lists.{all-weaken, length-map}
 use Rattle.terms.proofs.Tests.{eqb-comm}
 use Rattle.formulas.specs.Formulas.{Goal, atom, Clause, fact, freeT, freeTs, freeG, freeC}
 use Rattle.formulas.specs.Members.{members}
+use Rattle.sheet_format.specs.Limits.{maxSymbols}
 use Rattle.sheet_format.specs.Nodes.{Declaration, Node, neither, termNodes, sized, termNode, applied, applyNode, isSome, isSomething}
 use Rattle.sheet_format.specs.Sheets.{addNode as sheetAddNode}
 use Rattle.node_table.specs.Layout.{childCount, labelOf, childOf, maskOf, bitOf, packInfo, isFunctionBit, arityOf}
-use Rattle.node_table.specs.Decoding.{childrenBy, termBy, termAt, argumentsAt, goalAt, clauseAtNode, declarationAt}
-use Rattle.node_table.specs.WellMade.{IsTerm, Arguments}
+use Rattle.node_table.specs.Decoding.{functorOf, childrenBy, termBy, termAt, argumentsAt, goalAt, clauseAtNode, declarationAt}
+use Rattle.node_table.specs.WellMade.{IsTerm, labelArity, Arguments, Declared}
 use Rattle.node_table.proofs.Same.{same-arity}
 use Rattle.node_table.proofs.Decoding.{termBy-application, goalBy-atom, clauseBy-fact, termAt-same}
 use Rattle.node_table.proofs.Nodes.{is-term-same}
+use Rattle.node_table.proofs.Functors.{symbol-functor, symbol-arity}
 use Rattle.table_builder.specs.declared.node_info.Counts.{Counts}
 use Rattle.table_builder.specs.declared.node_info.NodeRecord.{NodeRecord}
 use Rattle.table_builder.specs.Nodes.{nodeRecord, nodeWritten, addNode}
@@ -47,6 +49,10 @@ module _ (bytes t : List ℕ) (k : Counts) (st : Decodes bytes t k) (h : k .node
 
   abbrev terms : Terms ℕ
   terms = termsBy (termAt t) args
+
+  -- The label is a symbol.
+  is-symbol : f < maxSymbols
+  is-symbol = let s = st .fewSymbols in omega arith
 
   -- In this module all arguments are there and are terms, as many as the arity.
   module _ (all : All (Argument bytes t k st) args) (agree : arityOf t f ≡ count) (kind mask goal members size : ℕ) (r : NodeRecord)
@@ -75,10 +81,8 @@ module _ (bytes t : List ℕ) (k : Counts) (st : Decodes bytes t k) (h : k .node
     arguments-there =
         let l = is .label in
         let m = is .count in
-        let s = st .fewSymbols in
         record {
-          symbol = omega arith;
-          many = m ∙ sym agree ∙ sym (ap (arityOf u) l ∙ same-arity t u (k .symbols) n (same bytes t k st h r) f lf);
+          many = m ∙ sym agree ∙ sym (ap (labelArity u) l ∙ symbol-arity f is-symbol u ∙ same-arity t u (k .symbols) n (same bytes t k st h r) f lf);
           few = omega arith;
           terms = λ j p. at j (omega arith);
         }
@@ -95,8 +99,8 @@ module _ (bytes t : List ℕ) (k : Counts) (st : Decodes bytes t k) (h : k .node
         ap (λ (m : ℕ). eqb (bitOf m v) 1) (is .mask ∙ q) ∙ masks-are bytes t k st 0 args v l all
         ∙ ap (λ (x : ℕ). eqb x 1 || freeTs terms v) (bit-none v)
 
-    named : labelOf u n < k .symbols
-    named = let l = is .label in omega arith
+    named : Declared (k .symbols) (labelOf u n)
+    named s = let l = is .label in omega arith
 
   abbrev mask : ℕ
   mask = masksFrom t 0 args
@@ -119,17 +123,17 @@ module _ (bytes t : List ℕ) (k : Counts) (st : Decodes bytes t k) (h : k .node
     term-is : NodeIs termTable n 1 count f a b c d mask 0 0 total
     term-is = written t n 1 count f a b c d mask 0 0 total (st .long) h (omega arith) mask-is-below (omega arith) (omega arith)
 
-    term-term : termAt termTable n ≡ app f terms
+    term-term : termAt termTable n ≡ app (sheetSymbol f) terms
     unfolding termAt
     term-term =
         termBy-application n termTable n (term-is .kind)
-        ∙ ap₂ app (term-is .label) (under-are all agree 1 mask 0 0 total termRecord term-is)
+        ∙ ap₂ app (ap functorOf (term-is .label) ∙ symbol-functor f is-symbol) (under-are all agree 1 mask 0 0 total termRecord term-is)
 
-    pub total-is : total ≡ size (app f terms)
+    pub total-is : total ≡ size (app (sheetSymbol f) terms)
     unfolding size
     total-is = let e = sizes-are bytes t k st 1 args all in omega arith
 
-    term-read : nodeRead termTable n ≡ termNode (some (app f terms))
+    term-read : nodeRead termTable n ≡ termNode (some (app (sheetSymbol f) terms))
     unfolding nodeRead termNode size
     term-read =
         let s = total-is in
@@ -149,7 +153,8 @@ module _ (bytes t : List ℕ) (k : Counts) (st : Decodes bytes t k) (h : k .node
           clause = λ i. let m = term-is .members in absurd (omega arith);
         }
 
-    pub term-added : Follows bytes t k (addNode t k termRecord) (sheetAddNode (tableOf bytes t k) (some (termNode (some (app f terms)))))
+    pub term-added : Follows bytes t k (addNode t k termRecord)
+        (sheetAddNode (tableOf bytes t k) (some (termNode (some (app (sheetSymbol f) terms)))))
     term-added = added bytes t k st h termRecord _ term-read term-new
 
     -- P applied
@@ -224,7 +229,7 @@ module _ (bytes t : List ℕ) (k : Counts) (st : Decodes bytes t k) (h : k .node
     where
       bounded : (x : Bool) → leb (sizesFrom t 1 args) 1024 ≡ x
           → Follows bytes t k (addNode t k (nodeRecord (1 + 16 * count) f a b c d (cond x (packInfo mask 0 0 (sizesFrom t 1 args)) 0)))
-          (sheetAddNode (tableOf bytes t k) (some (termNode (cond x (some (app f terms)) none))))
+          (sheetAddNode (tableOf bytes t k) (some (termNode (cond x (some (app (sheetSymbol f) terms)) none))))
       bounded true p = term-added all agree
       bounded false p = nothing (nodeRecord (1 + 16 * count) f a b c d 0) (termNode none) refl refl
 

@@ -79,10 +79,10 @@ module _ (bytes t : List ℕ) (k : Counts) (st : Decodes bytes t k) (n : ℕ) wh
               let b = same-length t u (k .symbols) (k .nodes) s j p in
               let c = st .names j p in
               omega arith;
-          named = λ j p q r.
+          named = λ j p q r d.
               let e = same-kind t u (k .symbols) (k .nodes) s j p in
               let f = same-label t u (k .symbols) (k .nodes) s j p in
-              let g = st .named j p (omega arith) (omega arith) in
+              let g = st .named j p (omega arith) (omega arith) (omega arith) in
               omega arith;
           term = λ j p q. term-same t u (k .symbols) (k .nodes) s m (st .named) j p (is-term-back t u (k .symbols) (k .nodes) s j p q);
           goal = λ j p q. goal-same t u (k .symbols) (k .nodes) s m (st .named) j p (is-goal-back t u (k .symbols) (k .nodes) s j p q);

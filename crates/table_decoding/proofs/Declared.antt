@@ -149,10 +149,10 @@ module _ (bytes t : List ℕ) (k : Counts) (st : Decodes bytes t k) (function : 
               (let a = written-start t i start len (symbolWord function arity) l (st .long) in
               let b = written-length t i start len (symbolWord function arity) l (st .long) in
               omega arith);
-          named = λ n p q r.
+          named = λ n p q r d.
               let e = same-kind t u i (k .nodes) same-table n p in
               let f = same-label t u i (k .nodes) same-table n p in
-              let g = st .named n p (omega arith) (omega arith) in
+              let g = st .named n p (omega arith) (omega arith) (omega arith) in
               omega arith;
           term = λ n p q. term-same t u i (k .nodes) same-table m (st .named) n p (is-term-back t u i (k .nodes) same-table n p q);
           goal = λ n p q. goal-same t u i (k .nodes) same-table m (st .named) n p (is-goal-back t u i (k .nodes) same-table n p q);

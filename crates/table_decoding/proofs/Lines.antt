@@ -10,8 +10,8 @@ use lib.Dec.{ltb, leb}
 use lib.ListN.{length, take, drop, getElem?}
 use borrow.Author.Tests.{le-ltb, lt-ltb, leb-true, leb-false}
 use Rattle.sheet_format.specs.Bytes.{sameName}
-use Rattle.sheet_format.specs.SheetLines.{NodeLine, variableLine, applyLine, trueLine, andLine, orLine, impliesLine, someLine, everyLine}
-use Rattle.sheet_format.specs.SheetLines.{declareLine, nodeLine, clauseLine, goalLine}
+use Rattle.sheet_format.specs.SheetLines.{NodeLine, variableLine, numberLine, applyLine, trueLine, andLine, orLine, impliesLine, someLine}
+use Rattle.sheet_format.specs.SheetLines.{everyLine, declareLine, nodeLine, clauseLine, goalLine}
 use Rattle.sheet_format.specs.Nodes.{Declaration, Node, nodesAt, nodeOf, map2, applyNode}
 use Rattle.sheet_format.specs.Sheets.{Table, stop, takeNode, takeLine}
 use Rattle.sheet_format.specs.Sheets.{Taken as SheetTaken}
@@ -21,13 +21,13 @@ use Rattle.node_table.specs.WellMade.{IsGoal, WellMade, Named}
 use Rattle.table_builder.specs.declared.node_info.Counts.{Counts}
 use Rattle.table_builder.specs.declared.node_info.Taken.the-variants.{Stop}
 use Rattle.table_builder.specs.Nodes.{Made, made, counts, nodeRecord, addNode, addOne, addTwo, andInfo, orInfo, impliesInfo, existsInfo}
-use Rattle.table_builder.specs.Nodes.{forallInfo, insertVariable, insertTrue, insertAnd, insertOr, insertImplies, insertExists}
-use Rattle.table_builder.specs.Nodes.{insertForall, insertClause, checkGoal}
+use Rattle.table_builder.specs.Nodes.{forallInfo, insertVariable, insertNumeral, insertTrue, insertAnd, insertOr, insertImplies}
+use Rattle.table_builder.specs.Nodes.{insertExists, insertForall, insertClause, checkGoal}
 use Rattle.table_builder.specs.Symbols.{allThere, applicationInfo, appliedKind, firstOf, insertApplication, insertDeclaration}
 use Rattle.table_decoding.specs.Decoding.{nodeRead, tableOf, Decodes, Agrees, Follows}
 use Rattle.table_decoding.proofs.Sequences.{from-length, from-at, from-none, nodes-list, declarations-list}
 use Rattle.table_decoding.proofs.Pairs.{and-added, or-added, implies-added}
-use Rattle.table_decoding.proofs.Single.{true-added, variable-added, exists-added, forall-added}
+use Rattle.table_decoding.proofs.Single.{true-added, numeral-added, variable-added, exists-added, forall-added}
 use Rattle.table_decoding.proofs.Arguments.{node-there, node-missing, nodes-read}
 use Rattle.table_decoding.proofs.Applied.{application-added}
 use Rattle.table_decoding.proofs.Declared.{declaration-follows}
@@ -89,9 +89,14 @@ module _ (bytes t : List ℕ) (k : Counts) (st : Decodes bytes t k) where
 
   -- nodes
 
-  pub follows-variable : (v : ℕ) → v < 8 → Follows bytes t k (insertVariable t k v) (takeLine sameName table (some (nodeLine (variableLine v))))
+  pub follows-variable : (v : ℕ) → v < 8
+      → Follows bytes t k (insertVariable t k v) (takeLine sameName table (some (nodeLine (variableLine v))))
   unfolding insertVariable takeLine nodeOf
   follows-variable v l = room (variableLine v) _ (λ p. variable-added bytes t k st p v l)
+
+  pub follows-numeral : (n : ℕ) → Follows bytes t k (insertNumeral t k n) (takeLine sameName table (some (nodeLine (numberLine n))))
+  unfolding insertNumeral takeLine nodeOf
+  follows-numeral n = room (numberLine n) _ (λ p. numeral-added bytes t k st p n)
 
   pub follows-true : Follows bytes t k (insertTrue t k) (takeLine sameName table (some (nodeLine trueLine)))
   unfolding insertTrue takeLine nodeOf
@@ -109,11 +114,13 @@ module _ (bytes t : List ℕ) (k : Counts) (st : Decodes bytes t k) where
   unfolding insertImplies takeLine nodeOf
   follows-implies a b = two (impliesLine a b) 6 a b (impliesInfo t a b) _ refl (λ p q r. implies-added bytes t k st p a b q r)
 
-  pub follows-exists : (v a : ℕ) → v < 8 → Follows bytes t k (insertExists t k v a) (takeLine sameName table (some (nodeLine (someLine v a))))
+  pub follows-exists : (v a : ℕ) → v < 8
+      → Follows bytes t k (insertExists t k v a) (takeLine sameName table (some (nodeLine (someLine v a))))
   unfolding insertExists takeLine nodeOf
   follows-exists v a l = one (someLine v a) 7 v a (existsInfo t v a) _ refl (λ p q. exists-added bytes t k st p v l a q)
 
-  pub follows-forall : (v a : ℕ) → v < 8 → Follows bytes t k (insertForall t k v a) (takeLine sameName table (some (nodeLine (everyLine v a))))
+  pub follows-forall : (v a : ℕ) → v < 8
+      → Follows bytes t k (insertForall t k v a) (takeLine sameName table (some (nodeLine (everyLine v a))))
   unfolding insertForall takeLine nodeOf
   follows-forall v a l = one (everyLine v a) 8 v a (forallInfo t v a) _ refl (λ p q. forall-added bytes t k st p v l a q)
 
@@ -132,7 +139,8 @@ module _ (bytes t : List ℕ) (k : Counts) (st : Decodes bytes t k) where
       ∙ from-none (declarationAt bytes t) (k .symbols) 0 f h
 
   pub follows-application : (f count a b c d : ℕ) → count ≤ 4
-      → Follows bytes t k (insertApplication t k f count a b c d) (takeLine sameName table (some (nodeLine (applyLine f (firstOf count a b c d)))))
+      → Follows bytes t k (insertApplication t k f count a b c d)
+      (takeLine sameName table (some (nodeLine (applyLine f (firstOf count a b c d)))))
   unfolding insertApplication takeLine nodeOf map2 sheetAddNode
   follows-application f count a b c d few = room (applyLine f (firstOf count a b c d)) _ (λ p. symbol p (leb (k .symbols) f) refl)
     where

@@ -1,5 +1,5 @@
--- V, Y, E and U: the node that the code makes is the one of the definitions.
-use Prim.Native.Nat.{ℕ, _<_}
+-- V, N, Y, E and U: the node that the code makes is the one of the definitions.
+use Prim.Native.Nat.{ℕ, _+_, _-_, _<_}
 use native.Mathlib.Omega.{arith}
 use mathlib.Core.Path.{_≡_, sym, ap, ap₂, _∙_}
 use mathlib.Core.Bool.{Bool, not, _&&_}
@@ -7,17 +7,19 @@ use mathlib.Core.List.{List}
 use mathlib.Core.Option.{none, some, Option·map}
 use lib.Dec.{eqb}
 use lib.ListN.{length}
-use Rattle.terms.specs.Terms.{Term, leaf, size}
+use Rattle.terms.specs.Terms.{numberTerm, Term, leaf, app, size}
 use Rattle.terms.proofs.Lists.{length-map}
-use Rattle.formulas.specs.Formulas.{Goal, truth, exists, forall, Clause, each, freeT, freeG, freeC}
+use Rattle.formulas.specs.Formulas.{Goal, truth, exists, forall, Clause, each, freeT, freeTs, freeG, freeC}
 use Rattle.formulas.specs.Members.{members, quantify}
+use Rattle.sheet_format.specs.Limits.{maxSymbols}
 use Rattle.sheet_format.specs.Nodes.{termNode}
 use Rattle.sheet_format.specs.Sheets.{addNode as sheetAddNode}
-use Rattle.node_table.specs.Layout.{maskOf, bitOf, goalBit, membersOf, packInfo}
-use Rattle.node_table.specs.Decoding.{termAt, goalBy, goalAt, clauseBy, clauseAtNode}
-use Rattle.node_table.specs.WellMade.{IsGoal, IsClause}
+use Rattle.node_table.specs.Layout.{maskOf, bitOf, goalBit, membersOf, packInfo, applicationKind}
+use Rattle.node_table.specs.Decoding.{functorOf, childrenBy, termBy, termAt, goalBy, goalAt, clauseBy, clauseAtNode}
+use Rattle.node_table.specs.WellMade.{IsGoal, IsClause, labelArity, Arguments}
 use Rattle.node_table.proofs.Same.{same-members}
-use Rattle.node_table.proofs.Decoding.{termBy-variable, goalBy-true, goalBy-exists, goalBy-forall, clauseBy-each}
+use Rattle.node_table.proofs.Functors.{numeral-functor, numeral-arity}
+use Rattle.node_table.proofs.Decoding.{termBy-variable, termBy-application, goalBy-true, goalBy-exists, goalBy-forall, clauseBy-each}
 use Rattle.table_builder.specs.declared.node_info.Counts.{Counts}
 use Rattle.table_builder.specs.declared.node_info.NodeRecord.{NodeRecord}
 use Rattle.table_builder.specs.Nodes.{nodeRecord, nodeWritten, addNode, onlyBit, withoutBit, existsInfo, forallInfo}
@@ -26,7 +28,7 @@ use Rattle.table_decoding.specs.Decoding.{nodeRead, tableOf, Decodes, Fo
 use Rattle.table_decoding.proofs.Bits.{bit-none, bit-only, bit-without, without-le}
 use Rattle.table_decoding.proofs.Writing.{NodeIs, written}
 use Rattle.table_decoding.proofs.Adding.{node-agree, NewNode, same, added}
-use Rattle.table_decoding.proofs.NodeKinds.{a-variable, a-goal-true, a-goal-exists, a-goal-forall, a-quantified}
+use Rattle.table_decoding.proofs.NodeKinds.{a-variable, an-application, a-goal-true, a-goal-exists, a-goal-forall, a-quantified}
 use Rattle.table_decoding.proofs.Flags.{map-read, map-clause}
 use Rattle.table_decoding.proofs.Under.{mask-below, goal-le, members-below, goal-under, clause-under, goal-there, clause-there}
 
@@ -71,6 +73,58 @@ module _ (bytes t : List ℕ) (k : Counts) (st : Decodes bytes t k) (h : k .node
   pub true-added : Follows bytes t k (addNode t k trueRecord)
       (sheetAddNode (tableOf bytes t k) (some (record { term = none; goal = some truth; clause = none })))
   true-added = added bytes t k st h trueRecord _ true-read true-new
+
+  -- N
+
+  module _ (m : ℕ) where
+    abbrev numeralRecord : NodeRecord
+    numeralRecord = nodeRecord applicationKind (maxSymbols + m) 0 0 0 0 (packInfo 0 0 0 1)
+
+    abbrev numeralTable : List ℕ
+    numeralTable = nodeWritten t n numeralRecord
+
+    numeral-is : NodeIs numeralTable n applicationKind 0 (maxSymbols + m) 0 0 0 0 0 0 0 1
+    numeral-is =
+        written t n applicationKind 0 (maxSymbols + m) 0 0 0 0 0 0 0 1 (st .long) h (omega arith) (omega arith) (omega arith) (omega arith)
+
+    numeral-term : termAt numeralTable n ≡ numberTerm m
+    unfolding termAt childrenBy
+    numeral-term =
+        termBy-application n numeralTable n (numeral-is .kind)
+        ∙ ap₂ app (ap functorOf (numeral-is .label) ∙ numeral-functor m)
+        (ap (λ (c : ℕ). childrenBy (termBy n numeralTable) numeralTable n c 0) (numeral-is .count))
+
+    numeral-read : nodeRead numeralTable n ≡ termNode (some (numberTerm m))
+    unfolding nodeRead termNode
+    numeral-read =
+        node-agree _ _ _ _ _ _ (rw (numeral-is .size) (ap some numeral-term)) (rw (numeral-is .goal)) (rw (numeral-is .members))
+
+    numeral-arguments : Arguments numeralTable n
+    numeral-arguments =
+        let c = numeral-is .count in
+        record {
+          many = c ∙ sym (ap (labelArity numeralTable) (numeral-is .label) ∙ numeral-arity m numeralTable);
+          few = omega arith;
+          terms = λ j l. absurd (omega arith);
+        }
+
+    numeral-new : NewNode numeralTable n (k .symbols)
+    unfolding freeT freeTs size
+    numeral-new =
+        record {
+          named = λ p q s. let o = numeral-is .label in absurd (omega arith);
+          term = λ i.
+              an-application numeralTable n (numeral-is .kind) numeral-arguments
+              (numeral-is .size ∙ ap (λ (x : Term ℕ). size x) (sym numeral-term))
+              (λ v l. ap (λ (b : ℕ). eqb (bitOf b v) 1) (numeral-is .mask) ∙ ap (λ (x : ℕ). eqb x 1) (bit-none v)
+              ∙ ap (λ (x : Term ℕ). freeT x v) (sym numeral-term));
+          goal = λ i. let g = numeral-is .goal in absurd (omega arith);
+          clause = λ i. let c = numeral-is .members in absurd (omega arith);
+        }
+
+    pub numeral-added : Follows bytes t k (addNode t k numeralRecord)
+        (sheetAddNode (tableOf bytes t k) (some (termNode (some (numberTerm m)))))
+    numeral-added = added bytes t k st h numeralRecord _ numeral-read numeral-new
 
   module _ (v : ℕ) (lv : v < 8) where
     -- V

@@ -9,7 +9,7 @@ use Rattle.node_table.specs.Layout.{childCount, labelOf, childOf}
 use Rattle.machine.specs.Words.{increment, tagOf, nameOf, nodeOf, frameOf, wordOf, deref}
 use Rattle.printing.specs.declared.Cursor.{Cursor}
 use Rattle.printing.specs.Numbering.{Printer, printer, writeVariable, writeConstant}
-use Rattle.printing.specs.WriteTerms.{emitTo, writeName, separator, argumentsBy, bracketedBy, applicationBy, wordBy, writeTerm}
+use Rattle.printing.specs.WriteTerms.{emitTo, writeFunctor, separator, argumentsBy, bracketedBy, applicationBy, wordBy, writeTerm}
 use Rattle.printing.specs.WriteTerms.{termTo}
 
 -- The arguments.
@@ -71,14 +71,14 @@ module _ (sheet t : List ℕ) (turns limit : ℕ) (w out : List ℕ) (p : Cursor
     term-application n f e₁ e₂ en ef = rw (term-word rank r h, en, ef) (simp (wordBy, ← eb, ← ek, ne-eqb _ _ e₁, ne-eqb _ _ e₂))
 
     pub term-bare : (n l c : ℕ) (s : Printer) → (k ≡ 1 → ⊥) → (k ≡ 2 → ⊥) → n ≡ nodeOf b → l ≡ labelOf t n
-        → s ≡ writeName sheet t limit (printer w out p) l → c ≡ childCount t n → c ≡ 0
+        → s ≡ writeFunctor sheet t limit (printer w out p) l → c ≡ childCount t n → c ≡ 0
         → s ≡ writeTerm rank sheet t turns limit (printer w out p) a
     unfolding applicationBy
     term-bare n l c s e₁ e₂ en el es ec e =
         rw (term-application n (frameOf b) e₁ e₂ en refl, es, el) (simp (applicationBy, ← ec, eq-eqb _ _ e))
 
     pub term-applied : (n l c f : ℕ) (s : Printer) → (k ≡ 1 → ⊥) → (k ≡ 2 → ⊥) → n ≡ nodeOf b → l ≡ labelOf t n
-        → s ≡ writeName sheet t limit (printer w out p) l → c ≡ childCount t n → (c ≡ 0 → ⊥) → f ≡ frameOf b
+        → s ≡ writeFunctor sheet t limit (printer w out p) l → c ≡ childCount t n → (c ≡ 0 → ⊥) → f ≡ frameOf b
         → writeTerm rank sheet t turns limit (printer w out p) a
         ≡ emitTo limit (argumentsBy (writeTerm (rank - 1) sheet t turns (limit - 1)) t (limit - 1) c n f 0 s) 41
     unfolding applicationBy bracketedBy

@@ -6,6 +6,7 @@ use mathlib.Core.Path.{_≡_}
 use mathlib.Core.Bool.{Bool, true, false}
 use mathlib.Core.List.{List}
 use lib.Dec.{eqb, ltb}
+use Rattle.sheet_format.specs.Limits.{maxSymbols}
 use Rattle.node_table.specs.Layout.{childCount, labelOf, childOf}
 use Rattle.machine.specs.Fields as fields
 use Rattle.machine.specs.Records.{cellOf, levelOf}
@@ -13,9 +14,10 @@ use Rattle.machine.specs.Words.{tagOf, nameOf, nodeOf, frameOf, wordOf, constan
 use Rattle.printing.specs.Output.{writeSymbol}
 use Rattle.printing.specs.Numbering.{withPosition, Printer, wrote, numberVariable, numberConstant, writeVariable, writeConstant}
 use Rattle.printing.specs.Numbering.{constantNumberField}
-use Rattle.printing.specs.WriteTerms.{emitTo, writeName, separator, argumentsBy, bracketedBy, applicationBy, wordBy, writeTerm}
+use Rattle.printing.specs.WriteTerms.{emitTo, writeName, writeFunctor, separator, argumentsBy, bracketedBy, applicationBy, wordBy, writeTerm}
+use Rattle.printing.specs.WriteLines.{numberTo}
 use Rattle.printing.proofs.Bytes.{bytes-grow, symbol-bytes}
-use Rattle.printing.proofs.PrinterStates.{emitted, name-then, printer-grow}
+use Rattle.printing.proofs.PrinterStates.{number-then, emitted, name-then, printer-grow}
 use Rattle.memory.specs.Records.{field}
 use Rattle.printing.proofs.Steps.{number-at, number-constant-at}
 
@@ -64,6 +66,13 @@ module _ (limit : ℕ) (small : limit ≤ 65535) where
   name-risen : (sheet t : List ℕ) (g : Printer) (f : ℕ) → Risen g (writeName sheet t limit g f)
   name-risen sheet t g f = record { position = rw (name-then sheet t limit g f) (printer-grow limit g _ small) }
 
+  number-risen : (g : Printer) (n : ℕ) → Risen g (numberTo limit g n)
+  number-risen g n = record { position = rw (number-then limit g n) (printer-grow limit g _ small) }
+
+  functor-risen : (sheet t : List ℕ) (g : Printer) (l : ℕ) → Risen g (writeFunctor sheet t limit g l)
+  unfolding writeFunctor numberTo
+  functor-risen sheet t g l = risen-either g _ _ (ltb l maxSymbols) (name-risen sheet t g l) (number-risen g (l - maxSymbols))
+
   module _ (sheet t : List ℕ) where
     arguments-risen : (write : Printer → ℕ → Printer) → ((g : Printer) (a : ℕ) → Risen g (write g a)) → (c n f j : ℕ) (g : Printer)
         → Risen g (argumentsBy write t limit c n f j g)
@@ -91,8 +100,8 @@ module _ (sheet t : List ℕ) (limit : ℕ) (small : limit ≤ 65535) (write : �
   application-risen : (g : Printer) (n f : ℕ) → Risen g (applicationBy write sheet t limit g n f)
   unfolding applicationBy
   application-risen g n f =
-      let s = writeName sheet t limit g (labelOf t n) in
-      let named = name-risen limit small sheet t g (labelOf t n) in
+      let s = writeFunctor sheet t limit g (labelOf t n) in
+      let named = functor-risen limit small sheet t g (labelOf t n) in
       risen-either g s _ (eqb (childCount t n) 0) named (risen-trans g s _ named (bracketed-risen (childCount t n) n f s))
 
   word-risen : (g : Printer) (a : ℕ) → Risen g (wordBy write sheet t limit g a)
@@ -117,8 +126,8 @@ module _ (limit : ℕ) (small : limit ≤ 65535) (g u : Printer) where
   pub emit-after : (b : ℕ) → u ≡ emitTo limit g b → g .cursor .at ≤ u .cursor .at
   emit-after b e = after g _ u (emit-risen limit small g b) e
 
-  pub name-after : (sheet t : List ℕ) (f : ℕ) → u ≡ writeName sheet t limit g f → g .cursor .at ≤ u .cursor .at
-  name-after sheet t f e = after g _ u (name-risen limit small sheet t g f) e
+  pub functor-after : (sheet t : List ℕ) (l : ℕ) → u ≡ writeFunctor sheet t limit g l → g .cursor .at ≤ u .cursor .at
+  functor-after sheet t l e = after g _ u (functor-risen limit small sheet t g l) e
 
   pub term-after : (sheet t : List ℕ) (rank turns a : ℕ) → u ≡ writeTerm rank sheet t turns limit g a → g .cursor .at ≤ u .cursor .at
   term-after sheet t rank turns a e = after g _ u (term-risen rank sheet t turns limit small g a) e

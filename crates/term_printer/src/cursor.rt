@@ -3,17 +3,19 @@
 use super::numbering::with_position;
 use super::output::copy_bytes;
 use super::output::emit;
+use super::output::write_number;
 use super::symbols::write_constant;
 use super::symbols::write_variable;
 use memory::widen;
 use node_table::name_length;
 use node_table::name_start;
 use printing::Cursor;
+use sheet_format::limits::MAX_SYMBOLS;
 ghost use mathlib.Core.Path.{_≡_};
 ghost use mathlib.Core.List.{List};
 ghost use Prim.Native.Nat.{ℕ, _-_};
 ghost use Rattle.printing.specs.Numbering.{printer, writeVariable, writeConstant};
-ghost use Rattle.printing.specs.WriteTerms.{emitTo, writeName, separator};
+ghost use Rattle.printing.specs.WriteTerms.{emitTo, writeName, writeFunctor, separator};
 ghost use Rattle.term_printer.specs.State.{stateOf, cursorIn, boundsIn, withLimit};
 
 pub fn emit_to(limit: u32, out: &mut [u8], p: Cursor, b: u8) -> Cursor
@@ -24,13 +26,33 @@ pub fn emit_to(limit: u32, out: &mut [u8], p: Cursor, b: u8) -> Cursor
 }
 
 // The name of symbol f, from the sheet.
-pub fn write_name(sheet: &[u8], t: &[u32], limit: u32, out: &mut [u8], p: Cursor, f: u32) -> Cursor
+fn write_name(sheet: &[u8], t: &[u32], limit: u32, out: &mut [u8], p: Cursor, f: u32) -> Cursor
     ensures { λ q.
         ⌜ ((m : List ℕ) → printer m (now (out .exit)) q ≡ writeName (now (sheet .entry)) (now (t .entry)) limit
         (printer m (now (out .entry)) p) f) ⌝ }
 {
     let start = widen(name_start(t, f));
     let to = copy_bytes(name_length(t, f), sheet, start, out, limit, p.at);
+    with_position(p, to)
+}
+
+// What stands before the arguments, by its label: the name of a symbol, or a number in base ten (request W-204).
+pub fn write_functor(
+    sheet: &[u8],
+    t: &[u32],
+    limit: u32,
+    out: &mut [u8],
+    p: Cursor,
+    l: u32,
+) -> Cursor
+    ensures { λ q.
+        ⌜ ((m : List ℕ) → printer m (now (out .exit)) q ≡ writeFunctor (now (sheet .entry)) (now (t .entry)) limit
+        (printer m (now (out .entry)) p) l) ⌝ }
+{
+    if l < MAX_SYMBOLS {
+        return write_name(sheet, t, limit, out, p, l);
+    }
+    let to = write_number(out, limit, p.at, l - MAX_SYMBOLS);
     with_position(p, to)
 }
 
@@ -110,13 +132,13 @@ pub fn emit_in(out: &mut [u8], s: &mut [u32; NUMBERS], b: u8)
     put_cursor(s, q);
 }
 
-pub fn write_name_in(sheet: &[u8], t: &[u32], out: &mut [u8], s: &mut [u32; NUMBERS], f: u32)
+pub fn write_functor_in(sheet: &[u8], t: &[u32], out: &mut [u8], s: &mut [u32; NUMBERS], l: u32)
     ensures { λ _.
-        ⌜ ((m : List ℕ) → printer m (now (out .exit)) (cursorIn (now (s .exit))) ≡ writeName (now (sheet .entry)) (now (t .entry))
-        (boundsIn (now (s .entry)) .limit) (printer m (now (out .entry)) (cursorIn (now (s .entry)))) f)
+        ⌜ ((m : List ℕ) → printer m (now (out .exit)) (cursorIn (now (s .exit))) ≡ writeFunctor (now (sheet .entry)) (now (t .entry))
+        (boundsIn (now (s .entry)) .limit) (printer m (now (out .entry)) (cursorIn (now (s .entry)))) l)
         × (boundsIn (now (s .exit)) ≡ boundsIn (now (s .entry))) ⌝ }
 {
-    let q = write_name(sheet, t, s[LIMIT], out, cursor_in(s), f);
+    let q = write_functor(sheet, t, s[LIMIT], out, cursor_in(s), l);
     put_cursor(s, q);
 }
 

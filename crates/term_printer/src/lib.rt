@@ -16,7 +16,7 @@ use cursor::lower;
 use cursor::put_limit;
 use cursor::separator;
 use cursor::write_constant_in;
-use cursor::write_name_in;
+use cursor::write_functor_in;
 use cursor::write_variable_in;
 use machine::tags;
 use machine_memory::words::deref;
@@ -79,7 +79,7 @@ pub fn write_term(
         return;
     }
     let n = node_of(b);
-    write_name_in(*sheet, *t, out, s, label(*t, n));
+    write_functor_in(*sheet, *t, out, s, label(*t, n));
     let c = child_count(*t, n);
     if c == 0 {
         return;

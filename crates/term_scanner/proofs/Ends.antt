@@ -13,10 +13,10 @@ use Rattle.scanning.specs.declared.Scan.{Scan}
 use Rattle.scanning.specs.declared.Scan.the-variants.{Term, Malformed}
 use Rattle.scanning.specs.Ranges.{numberFrom, numberZero, scanNumber}
 use Rattle.scanning.specs.Scanning.{nameFrom, nameEnd, symbolFrom, scanLevel, scanAt, scanSymbol, higher, scanMore, scanArguments}
-use Rattle.scanning.specs.Scanning.{scanApplication, scanTerm}
+use Rattle.scanning.specs.Scanning.{scanNumeral, scanApplication, scanTerm}
 
 -- A number that ends at i or after it.
-abbrev NumberFrom : ℕ → Number → Type 0
+abbrev pub NumberFrom : ℕ → Number → Type 0
 NumberFrom i (Value v e) = i ≤ e
 NumberFrom i Missing = Unit {0}
 
@@ -49,7 +49,7 @@ number-from (suc n) x i j v h =
     go true false ih = tt
     go false b ih = h
 
-number-ends : (x : List ℕ) (i : ℕ) → NumberFrom i (scanNumber x i)
+pub number-ends : (x : List ℕ) (i : ℕ) → NumberFrom i (scanNumber x i)
 unfolding scanNumber numberZero
 number-ends x i =
     go (isDigit (getD x i 0)) (eqb (getD x i 0) 48) (isDigit (getD x (i + 1) 0))
@@ -82,6 +82,17 @@ symbol-ends x i = go (scanNumber x i) (number-ends x i)
   where
     go : (n : Number) → NumberFrom i n → EndsFrom i (elim n as (λ z. Scan) [ Value k e ↦ scanAt x e | Missing ↦ Malformed ])
     go (Value k e) h = ends-sooner i e (scanAt x e) h (at-ends x e)
+    go Missing h = tt
+
+-- numbers
+
+pub numeral-ends : (x : List ℕ) (i : ℕ) → EndsFrom i (scanNumeral x i)
+unfolding scanNumeral
+numeral-ends x i = go (scanNumber x i) (number-ends x i)
+  where
+    go : (n : Number) → NumberFrom i n
+        → EndsFrom i (elim n as (λ z. Scan) [ Value k e ↦ cond (isNameByte (getD x e 0)) Malformed (Term e 0) | Missing ↦ Malformed ])
+    go (Value k e) h = ends-either i (isNameByte (getD x e 0)) Malformed (Term e 0) tt h
     go Missing h = tt
 
 -- applications
@@ -129,6 +140,7 @@ module _ (b t : List ℕ) (symbols : ℕ) (x : List ℕ) where
       let k = symbolFrom symbols b t 0 x i (nameEnd x i) in
       let a = scanApplication (scanTerm f b t symbols x) t symbols k x (nameEnd x i) in
       ends-either i (eqb (getD x i 0) 33) (scanSymbol x (i + 1)) _ s
-      (ends-either i (eqb (getD x i 0) 95) (scanSymbol x (i + 1)) a s
+      (ends-either i (eqb (getD x i 0) 95) (scanSymbol x (i + 1)) _ s
+      (ends-either i (isDigit (getD x i 0)) (scanNumeral x i) a (numeral-ends x i)
       (ends-sooner i (nameEnd x i) a (name-ends x i)
-      (application-ends (scanTerm f b t symbols x) x (term-ends f) t symbols k (nameEnd x i))))
+      (application-ends (scanTerm f b t symbols x) x (term-ends f) t symbols k (nameEnd x i)))))

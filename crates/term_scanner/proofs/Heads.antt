@@ -8,15 +8,17 @@ use mathlib.Core.List.{List}
 use lib.Dec.{eqb, ltb}
 use lib.ListN.{length, getD}
 use borrow.Author.Tests.{eqb-true, eqb-false, ne-eqb}
+use Rattle.sheet_format.specs.Bytes.{isDigit}
 use Rattle.node_table.specs.Layout.{isFunctionBit, arityOf}
 use Rattle.scanning.specs.declared.Scan.{Scan}
 use Rattle.scanning.specs.declared.Scan.the-variants.{Term, Malformed}
-use Rattle.scanning.specs.Scanning.{nameEnd, symbolFrom, scanSymbol, higher, scanMore, scanArguments, scanApplication, scanTerm}
+use Rattle.scanning.specs.Scanning.{nameEnd, symbolFrom, scanSymbol, scanNumeral, higher, scanMore, scanArguments, scanApplication}
+use Rattle.scanning.specs.Scanning.{scanTerm}
 use Rattle.term_scanner.specs.declared.Head.{Head}
 use Rattle.term_scanner.specs.declared.Head.the-variants.{Leaf, Open, Absent}
 use Rattle.term_scanner.specs.Heads.{leafOf, openAt, headOf, headAt}
 use Rattle.term_scanner.proofs.ranges.Laws.{inside}
-use Rattle.term_scanner.proofs.Ends.{EndsFrom, symbol-ends, name-ends}
+use Rattle.term_scanner.proofs.Ends.{EndsFrom, symbol-ends, numeral-ends, name-ends}
 
 -- After the first argument: n more, scanned by r.
 unfoldable pub afterFirst : (ℕ → Scan) → ℕ → List ℕ → Scan → Scan
@@ -61,16 +63,18 @@ module _ (b t : List ℕ) (symbols : ℕ) (x : List ℕ) where
   unfolding scanTerm headAt
   head-scan f i =
       let k = symbolFrom symbols b t 0 x i (nameEnd x i) in
-      go (eqb (getD x i 0) 33) (eqb (getD x i 0) 95) (leafOf (scanSymbol x (i + 1))) (headOf t symbols k x (nameEnd x i))
-      (leaf-scan (scanTerm f b t symbols x) x (scanSymbol x (i + 1)))
+      go (eqb (getD x i 0) 33) (eqb (getD x i 0) 95) (isDigit (getD x i 0)) (leafOf (scanSymbol x (i + 1))) (leafOf (scanNumeral x i))
+      (headOf t symbols k x (nameEnd x i)) (leaf-scan (scanTerm f b t symbols x) x (scanSymbol x (i + 1)))
+      (leaf-scan (scanTerm f b t symbols x) x (scanNumeral x i))
       (application-scan (scanTerm f b t symbols x) x t symbols k (nameEnd x i))
     where
-      go : {s p : Scan} (u v : Bool) (h g : Head) → s ≡ scanHead (scanTerm f b t symbols x) x h
-          → p ≡ scanHead (scanTerm f b t symbols x) x g
-          → cond u s (cond v s p) ≡ scanHead (scanTerm f b t symbols x) x (cond (cond u true v) h g)
-      go true v h g p q = p
-      go false true h g p q = p
-      go false false h g p q = q
+      go : {s n a : Scan} (u v w : Bool) (h l g : Head) → s ≡ scanHead (scanTerm f b t symbols x) x h
+          → n ≡ scanHead (scanTerm f b t symbols x) x l → a ≡ scanHead (scanTerm f b t symbols x) x g
+          → cond u s (cond v s (cond w n a)) ≡ scanHead (scanTerm f b t symbols x) x (cond (cond u true v) h (cond w l g))
+      go true v w h l g p q r = p
+      go false true w h l g p q r = p
+      go false false true h l g p q r = q
+      go false false false h l g p q r = r
 
 -- positions
 
@@ -105,7 +109,9 @@ pub head-from : (b t : List ℕ) (symbols : ℕ) (x : List ℕ) (i : ℕ) → He
 unfolding headAt headOf
 head-from b t symbols x i =
     let k = symbolFrom symbols b t 0 x i (nameEnd x i) in
-    head-either x i (cond (eqb (getD x i 0) 33) true (eqb (getD x i 0) 95)) (leafOf (scanSymbol x (i + 1)))
-    (headOf t symbols k x (nameEnd x i)) (leaf-from x i (i + 1) (scanSymbol x (i + 1)) (omega arith) (symbol-ends x (i + 1)))
+    head-either x i (cond (eqb (getD x i 0) 33) true (eqb (getD x i 0) 95)) (leafOf (scanSymbol x (i + 1))) _
+    (leaf-from x i (i + 1) (scanSymbol x (i + 1)) (omega arith) (symbol-ends x (i + 1)))
+    (head-either x i (isDigit (getD x i 0)) (leafOf (scanNumeral x i)) (headOf t symbols k x (nameEnd x i))
+    (leaf-from x i i (scanNumeral x i) (omega arith) (numeral-ends x i))
     (head-either x i (cond (ltb k symbols) (eqb (isFunctionBit t k) 1) false) (openAt (arityOf t k) x (nameEnd x i)) Absent
-    (open-from (arityOf t k) x i (nameEnd x i) (name-ends x i)) tt)
+    (open-from (arityOf t k) x i (nameEnd x i) (name-ends x i)) tt))

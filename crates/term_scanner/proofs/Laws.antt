@@ -7,13 +7,14 @@ use mathlib.Core.List.{List}
 use lib.Dec.{eqb, ltb}
 use lib.ListN.{length, getD}
 use borrow.Author.Tests.{eqb-true, eq-eqb, ne-eqb}
+use Rattle.sheet_format.specs.Bytes.{isDigit, isNameByte}
 use Rattle.node_table.specs.Layout.{isFunctionBit, arityOf}
 use Rattle.scanning.specs.declared.Number.{Number}
 use Rattle.scanning.specs.declared.Number.the-variants.{Value, Missing}
 use Rattle.scanning.specs.declared.Scan.{Scan}
 use Rattle.scanning.specs.declared.Scan.the-variants.{Term, Malformed}
 use Rattle.scanning.specs.Ranges.{scanNumber}
-use Rattle.scanning.specs.Scanning.{nameEnd, symbolFrom, scanLevel, scanAt, scanSymbol}
+use Rattle.scanning.specs.Scanning.{nameEnd, symbolFrom, scanLevel, scanAt, scanSymbol, scanNumeral}
 use Rattle.term_scanner.specs.declared.Head.{Head}
 use Rattle.term_scanner.specs.declared.Head.the-variants.{Leaf, Absent}
 use Rattle.term_scanner.specs.Heads.{leafOf, openAt, headOf, headAt}
@@ -54,29 +55,52 @@ pub symbol-none : (x : List ℕ) (i : ℕ) (r : Number) → r ≡ scanNumber x i
 unfolding scanSymbol
 symbol-none x i r p q = rw (scanSymbol, ← p, q)
 
+-- numbers
+
+pub numeral-none : (x : List ℕ) (i : ℕ) (r : Number) → r ≡ scanNumber x i → r ≡ Missing → Malformed ≡ scanNumeral x i
+unfolding scanNumeral
+numeral-none x i r p q = rw (scanNumeral, ← p, q)
+
+module _ (x : List ℕ) (i n e : ℕ) (r : Number) (p : r ≡ scanNumber x i) (q : r ≡ Value n e) (c : ℕ) (h : c ≡ getD x e 0) (z : Bool)
+    (k : z ≡ isNameByte c) where
+  numeral-next : cond z Malformed (Term e 0) ≡ scanNumeral x i
+  unfolding scanNumeral
+  numeral-next = rw (scanNumeral, ← p, q) (rw (k, h))
+
+  pub numeral-longer : z ≡ true → Malformed ≡ scanNumeral x i
+  numeral-longer g = rw (← numeral-next, g)
+
+  pub numeral-ended : z ≡ false → Term e 0 ≡ scanNumeral x i
+  numeral-ended g = rw (← numeral-next, g)
+
 -- heads
 
+pub leaf-some : (s : Scan) (e k : ℕ) → s ≡ Term e k → Leaf e k ≡ leafOf s
+unfolding leafOf
+leaf-some s e k q = rw (leafOf, q)
+
+pub leaf-none : (s : Scan) → s ≡ Malformed → Absent ≡ leafOf s
+unfolding leafOf
+leaf-none s q = rw (leafOf, q)
+
 module _ (b t : List ℕ) (symbols : ℕ) (x : List ℕ) (i c : ℕ) (z : Bool) (e : c ≡ getD x i 0) (d : z ≡ cond (eqb c 33) true (eqb c 95)) where
-  head-sigil : (s : Scan) → z ≡ true → s ≡ scanSymbol x (i + 1) → leafOf s ≡ headAt b t symbols x i
+  pub head-sigil : (s : Scan) (r : Head) → z ≡ true → s ≡ scanSymbol x (i + 1) → r ≡ leafOf s → r ≡ headAt b t symbols x i
   unfolding headAt
-  head-sigil s h k = rw (← e, ← d, h, k)
+  head-sigil s r h k l = l ∙ rw (← e, ← d, h, k)
 
-  pub head-leaf : (s : Scan) (j k : ℕ) → z ≡ true → s ≡ scanSymbol x (i + 1) → s ≡ Term j k → Leaf j k ≡ headAt b t symbols x i
-  unfolding leafOf
-  head-leaf s j k h p q = sym (ap leafOf q) ∙ head-sigil s h p
+  module _ (h : z ≡ false) (w : Bool) (v : w ≡ isDigit c) where
+    pub head-numeral : (s : Scan) (r : Head) → w ≡ true → s ≡ scanNumeral x i → r ≡ leafOf s → r ≡ headAt b t symbols x i
+    unfolding headAt
+    head-numeral s r g k l = l ∙ rw (← e, ← d, h, ← v, g, k)
 
-  pub head-no-leaf : (s : Scan) → z ≡ true → s ≡ scanSymbol x (i + 1) → s ≡ Malformed → Absent ≡ headAt b t symbols x i
-  unfolding leafOf
-  head-no-leaf s h p q = sym (ap leafOf q) ∙ head-sigil s h p
+    module _ (u : w ≡ false) (at k : ℕ) (g : at ≡ nameEnd x i) (y : k ≡ symbolFrom symbols b t 0 x i at) (a : Bool)
+        (p : a ≡ cond (ltb k symbols) (eqb (isFunctionBit t k) 1) false) where
+      head-name : cond a (openAt (arityOf t k) x at) Absent ≡ headAt b t symbols x i
+      unfolding headAt headOf
+      head-name = rw (← e, ← d, h, ← v, u, ← g, ← y, ← p)
 
-  module _ (h : z ≡ false) (at k : ℕ) (g : at ≡ nameEnd x i) (y : k ≡ symbolFrom symbols b t 0 x i at) (a : Bool)
-      (p : a ≡ cond (ltb k symbols) (eqb (isFunctionBit t k) 1) false) where
-    head-name : cond a (openAt (arityOf t k) x at) Absent ≡ headAt b t symbols x i
-    unfolding headAt headOf
-    head-name = rw (← e, ← d, h, ← g, ← y, ← p)
+      pub head-open : (n : ℕ) (r : Head) → a ≡ true → n ≡ arityOf t k → r ≡ openAt n x at → r ≡ headAt b t symbols x i
+      head-open n r q l m = m ∙ rw (l, ← head-name, q)
 
-    pub head-open : (n : ℕ) (r : Head) → a ≡ true → n ≡ arityOf t k → r ≡ openAt n x at → r ≡ headAt b t symbols x i
-    head-open n r q l m = m ∙ rw (l, ← head-name, q)
-
-    pub head-unknown : a ≡ false → Absent ≡ headAt b t symbols x i
-    head-unknown q = rw (← head-name, q)
+      pub head-unknown : a ≡ false → Absent ≡ headAt b t symbols x i
+      head-unknown q = rw (← head-name, q)

@@ -1,18 +1,19 @@
--- What a term begins with: a symbol without arguments, or a name and the bracket before its arguments.
+-- What a term begins with: a symbol or a number without arguments, or a name and the bracket before its arguments.
 use Prim.Native.Nat.{ℕ, _+_}
 use Prim.Native.Char.{code}
 use mathlib.Core.Bool.{true, false, cond}
 use mathlib.Core.List.{List}
 use lib.Dec.{eqb, ltb}
 use lib.ListN.{getD}
+use Rattle.sheet_format.specs.Bytes.{isDigit}
 use Rattle.node_table.specs.Layout.{isFunctionBit, arityOf}
 use Rattle.scanning.specs.declared.Scan.{Scan}
 use Rattle.scanning.specs.declared.Scan.the-variants.{Term, Malformed}
-use Rattle.scanning.specs.Scanning.{nameEnd, symbolFrom, scanSymbol}
+use Rattle.scanning.specs.Scanning.{nameEnd, symbolFrom, scanSymbol, scanNumeral}
 use Rattle.term_scanner.specs.declared.Head.{Head}
 use Rattle.term_scanner.specs.declared.Head.the-variants.{Leaf, Open, Absent}
 
--- A made constant or a leftover variable has no arguments.
+-- A made constant, a leftover variable or a number has no arguments.
 unfoldable pub leafOf : Scan → Head
 leafOf s = elim s [ Term e k ↦ Leaf e k | Malformed ↦ Absent ]
 
@@ -28,4 +29,5 @@ headOf t symbols k x i = cond (cond (ltb k symbols) (eqb (isFunctionBit t k) 1) 
 unfoldable pub headAt : List ℕ → List ℕ → ℕ → List ℕ → ℕ → Head
 headAt b t symbols x i =
     cond (cond (eqb (getD x i 0) (code "!")) true (eqb (getD x i 0) (code "_"))) (leafOf (scanSymbol x (i + 1)))
-    (headOf t symbols (symbolFrom symbols b t 0 x i (nameEnd x i)) x (nameEnd x i))
+    (cond (isDigit (getD x i 0)) (leafOf (scanNumeral x i))
+    (headOf t symbols (symbolFrom symbols b t 0 x i (nameEnd x i)) x (nameEnd x i)))

@@ -10,6 +10,7 @@ use delimiters::DelimiterStack;
 use delimiters::push_arguments;
 use delimiters::refilled;
 use delimiters::room;
+use line_parser::names::is_name_byte;
 use memory::byte;
 use memory::widen;
 use node_table::arity;
@@ -18,6 +19,7 @@ use ranges::monus;
 use scanning::Number;
 use scanning::Scan;
 use symbol_names::symbol_from;
+use tokens::is_digit;
 use tokens::name_end;
 use tokens::scan_number;
 ghost use mathlib.Core.Path.{_≡_};
@@ -27,9 +29,9 @@ ghost use mathlib.Core.List.{List, []};
 ghost use lib.Dec.{eqb, ltb};
 ghost use lib.ListN.{length};
 ghost use Rattle.node_table.specs.Layout.{isFunctionBit};
-ghost use Rattle.scanning.specs.Scanning.{scanLevel, scanAt, scanSymbol, higher, scanTerm};
+ghost use Rattle.scanning.specs.Scanning.{scanLevel, scanAt, scanSymbol, scanNumeral, higher, scanTerm};
 ghost use Rattle.term_scanner.specs.Delimiters.{Fits};
-ghost use Rattle.term_scanner.specs.Heads.{openAt, headAt};
+ghost use Rattle.term_scanner.specs.Heads.{leafOf, openAt, headAt};
 ghost use Rattle.term_scanner.specs.Steps.{Advances, Reaches, outcome};
 
 // Stages of a scan: what is due (specs/Steps.antt).
@@ -46,8 +48,8 @@ const FULL: u32 = 4;
 // With so many words all delimiters of a text of 65,535 bytes have room.
 const MOST_WORDS: usize = 1023;
 
-// What a term begins with: a symbol without arguments, where it ends, and its level; or a symbol with arguments, where the first one
-// begins, and how many there are.
+// What a term begins with: a symbol or a number without arguments, where it ends, and its level; or a symbol with arguments, where the
+// first one begins, and how many there are.
 pub enum Head {
     Leaf(usize, u32),
     Open(usize, u32),
@@ -103,6 +105,19 @@ pub fn scan_symbol(text: &[u8], i: usize) -> Scan
     }
 }
 
+// A number as a term: no other byte of a name follows it.
+fn scan_numeral(text: &[u8], i: usize) -> Scan
+    ensures { λ r. ⌜ r ≡ scanNumeral (now (text .entry)) i ⌝ }
+{
+    let Number::Value(_, e) = scan_number(text, i) else {
+        return Scan::Malformed;
+    };
+    if is_name_byte(byte(text, e)) {
+        return Scan::Malformed;
+    }
+    Scan::Term(e, 0)
+}
+
 // The higher of two levels.
 fn higher_of(k: u32, j: u32) -> u32
     ensures { λ r. ⌜ r ≡ higher k j ⌝ }
@@ -123,6 +138,16 @@ fn is_sigil(b: u8) -> bool
     b == b'_'
 }
 
+// What has no arguments, as a head.
+fn leaf_of(s: Scan) -> Head
+    ensures { λ r. ⌜ r ≡ leafOf s ⌝ }
+{
+    match s {
+        Scan::Term(e, k) => Head::Leaf(e, k),
+        Scan::Malformed => Head::Absent,
+    }
+}
+
 // After a name that ends at i, of a symbol with n arguments.
 fn scan_open(text: &[u8], i: usize, n: u32) -> Head
     ensures { λ r. ⌜ r ≡ openAt n (now (text .entry)) i ⌝ }
@@ -136,15 +161,16 @@ fn scan_open(text: &[u8], i: usize, n: u32) -> Head
     Head::Absent
 }
 
-// What begins at position i.
+// What begins at position i. No name begins with a digit.
 fn scan_head(sheet: &[u8], t: &[u32], symbols: u32, text: &[u8], i: usize) -> Head
     ensures { λ r. ⌜ r ≡ headAt (now (sheet .entry)) (now (t .entry)) symbols (now (text .entry)) i ⌝ }
 {
-    if is_sigil(byte(text, i)) {
-        let Scan::Term(e, k) = scan_symbol(text, i + 1) else {
-            return Head::Absent;
-        };
-        return Head::Leaf(e, k);
+    let b = byte(text, i);
+    if is_sigil(b) {
+        return leaf_of(scan_symbol(text, i + 1));
+    }
+    if is_digit(b) {
+        return leaf_of(scan_numeral(text, i));
     }
     let at = name_end(text, i);
     let k = symbol_from(symbols, sheet, t, text, i, at);

@@ -1,10 +1,11 @@
 -- Laws of substitution, sizes and levels.
 use Prim.Native.Nat.{ℕ, _≤_, max}
 use mathlib.Core.Path.{_≡_, refl, sym, ap, ap₂, subst}
-use mathlib.Core.Bool.{true≢false}
+use mathlib.Core.Bool.{true, true≢false}
 use mathlib.Core.Logic.{inl, inr}
+use borrow.Author.Tests.{eqb-true, eq-eqb}
 use native.Mathlib.Omega.{arith}
-use Rattle.terms.specs.Terms.{Term, leaf, app, Terms, nil, cons, substitute, substitutes, size, levelBy, levelsBy, Leaves, LeavesAll}
+use Rattle.terms.specs.Terms.{Functor, sheetSymbol, numeral, sameFunctor, Term, leaf, app, Terms, nil, cons, substitute, substitutes, size, levelBy, levelsBy, Leaves, LeavesAll}
 use Rattle.terms.specs.Terms.{Appears, AppearsIn}
 
 -- Two substitutions, one after the other, are one substitution.
@@ -203,8 +204,27 @@ level-substitute t θ l k h =
     (leaves-appear t (λ a. levelBy (θ a) l ≤ k) h))
 
 -- Different constructors give different terms.
-pub leaf-not-app : {A : Type 0} (a : A) (f : ℕ) (ts : Terms A) → leaf a ≡ app f ts → ⊥
+pub leaf-not-app : {A : Type 0} (a : A) (f : Functor) (ts : Terms A) → leaf a ≡ app f ts → ⊥
 leaf-not-app a f ts e = true≢false (cc)
 
 pub nil-not-cons : {A : Type 0} (t : Term A) (ts : Terms A) → nil ≡ cons t ts → ⊥
 nil-not-cons t ts e = true≢false (cc)
+
+-- functors
+
+-- The test tells equal functors: equal numbers, the same symbol, and never one of each.
+pub functor-same : (f g : Functor) → sameFunctor f g ≡ true → f ≡ g
+unfolding sameFunctor
+functor-same (sheetSymbol f) (sheetSymbol g) h = ap sheetSymbol (eqb-true f g h)
+functor-same (sheetSymbol f) (numeral m) h = absurd (true≢false (sym h))
+functor-same (numeral n) (sheetSymbol g) h = absurd (true≢false (sym h))
+functor-same (numeral n) (numeral m) h = ap numeral (eqb-true n m h)
+
+-- and back
+functor-refl : (f : Functor) → sameFunctor f f ≡ true
+unfolding sameFunctor
+functor-refl (sheetSymbol f) = eq-eqb f f refl
+functor-refl (numeral n) = eq-eqb n n refl
+
+pub same-functor : (f g : Functor) → f ≡ g → sameFunctor f g ≡ true
+same-functor f g e = subst (λ (x : Functor). sameFunctor f x ≡ true) e (functor-refl f)

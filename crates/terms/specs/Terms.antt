@@ -3,18 +3,37 @@
 -- A constant of the sheet is an application with no arguments. Nothing here says that symbols have an arity.
 use Prim.Native.Nat.{ℕ, zero, suc, _+_, max}
 use mathlib.Core.Path.{_≡_}
+use mathlib.Core.Bool.{Bool, true, false}
 use mathlib.Core.Logic.{_⊎_}
+use lib.Dec.{eqb}
+
+-- What stands before the arguments: a symbol that the sheet declares, by its place; or a number (W-204), which has no arguments.
+pub data Functor : Type 0 where
+  sheetSymbol : ℕ → Functor
+  numeral : ℕ → Functor
+  deriving Discrete as Functor-discrete
+
+-- "Two of them match if they are equal, and one never matches an application."
+unfoldable pub sameFunctor : Functor → Functor → Bool
+sameFunctor (sheetSymbol f) (sheetSymbol g) = eqb f g
+sameFunctor (sheetSymbol f) (numeral m) = false
+sameFunctor (numeral n) (sheetSymbol g) = false
+sameFunctor (numeral n) (numeral m) = eqb n m
 
 mutual
   pub data Term (A : Type 0) : Type 0 where
     leaf : A → Term A
-    app : ℕ → Terms A → Term A
+    app : Functor → Terms A → Term A
     deriving Discrete as Term-discrete
 
   pub data Terms (A : Type 0) : Type 0 where
     nil : Terms A
     cons : Term A → Terms A → Terms A
     deriving Discrete as Terms-discrete
+
+-- A number as a term.
+abbrev pub numberTerm : {A : Type 0} → ℕ → Term A
+numberTerm n = app (numeral n) nil
 
 -- Substitution: every leaf is replaced by its term.
 unfoldable mutual

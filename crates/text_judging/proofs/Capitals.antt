@@ -10,7 +10,7 @@ use lib.ListN.{getElem?}
 use borrow.Author.Tests.{ne-eqb, le-leb}
 use native.Mathlib.Omega.{arith}
 use Rattle.terms.specs.Lists.{All}
-use Rattle.terms.specs.Terms.{leaf, app, Terms, nil, cons, count}
+use Rattle.terms.specs.Terms.{Functor, sheetSymbol, numeral, leaf, app, Terms, nil, cons, count}
 use Rattle.terms.proofs.Lists.{all-map, all-weaken, map-append}
 use Rattle.sequents.specs.Symbols.{Symbol, made, leftover, Ground}
 use Rattle.sequents.specs.Sequents.{plain, Dsome, Dall, Dclause}
@@ -20,10 +20,10 @@ use Rattle.sheet_format.proofs.Bytes.{Graphic}
 use Rattle.sheet_format.proofs.Capitals.{foldedName-twice, decimal-folded, isName-folded}
 use Rattle.sheet_format.proofs.Names.{Names}
 use Rattle.answer_texts.specs.TextLines.{TextLine, resultLine, bindingLine, derivationLine}
-use Rattle.answer_texts.specs.Spelling.{nameIn, nameOf, spellSymbol, spellTerm, spellArguments, spellMore, join, textLine, spellWord}
+use Rattle.answer_texts.specs.Spelling.{nameIn, nameOf, spellFunctor, spellSymbol, spellTerm, spellArguments, spellMore, join, textLine, spellWord}
 use Rattle.answer_texts.specs.Spelling.{spellTerms, lineFields, textFields, spell}
 use Rattle.answer_texts.specs.Capitals.{smallFrom, smallText, smallDeclaration, smallNames}
-use Rattle.answer_texts.specs.Spelled.{hasArity, WritableTerm, WritableTerms, WritableLine, Writable}
+use Rattle.answer_texts.specs.Spelled.{hasArity, WritableFunctor, WritableTerm, WritableTerms, WritableLine, Writable}
 use Rattle.text_judging.proofs.Reading.{textFields-graphic}
 
 -- names
@@ -66,6 +66,12 @@ name-small ds g = go (getElem? ds g) ∙ ap nameIn (sym (at-map smallDeclaration
     go none = refl
     go (some d) = refl
 
+-- A functor, folded, is spelled with folded names; the digits of a number stay.
+functor-small : (ds : List Declaration) (g : Functor) → foldedName (spellFunctor ds g) ≡ spellFunctor (smallNames ds) g
+unfolding spellFunctor
+functor-small ds (sheetSymbol g) = name-small ds g
+functor-small ds (numeral n) = decimal-folded n
+
 -- terms
 
 -- A number and a level stay.
@@ -86,7 +92,8 @@ mutual
   -- A term, folded, is spelled with folded names.
   pub term-small : (t : Ground) (ds : List Declaration) → foldedName (spellTerm t ds) ≡ spellTerm t (smallNames ds)
   term-small (leaf s) ds = symbol-small s
-  term-small (app g ts) ds = map-append folded (nameOf ds g) (spellArguments ts ds) ∙ ap₂ _++_ (name-small ds g) (arguments-small ts ds)
+  term-small (app g ts) ds =
+      map-append folded (spellFunctor ds g) (spellArguments ts ds) ∙ ap₂ _++_ (functor-small ds g) (arguments-small ts ds)
 
   arguments-small : (ts : Terms Symbol) (ds : List Declaration) → foldedName (spellArguments ts ds) ≡ spellArguments ts (smallNames ds)
   arguments-small nil ds = refl
@@ -201,12 +208,17 @@ arity-small ds n g = ap (hasArity n) (at-map smallDeclaration ds g) ∙ go (getE
 
 -- What can be written depends on kinds and arities alone.
 module _ (ds es : List Declaration) (same : (n g : ℕ) → hasArity n (getElem? es g) ≡ hasArity n (getElem? ds g)) where
+  functor-alike : (g : Functor) (n : ℕ) → WritableFunctor ds g n → WritableFunctor es g n
+  unfolding WritableFunctor
+  functor-alike (sheetSymbol g) n h = same n g ∙ h
+  functor-alike (numeral m) n h = h
+
   mutual
     unfolding WritableTerm
 
     term-alike : (t : Ground) → WritableTerm t ds → WritableTerm t es
     term-alike (leaf s) h = h
-    term-alike (app g ts) h = (same (count ts) g ∙ h .0, terms-alike ts (h .1))
+    term-alike (app g ts) h = (functor-alike g (count ts) (h .0), terms-alike ts (h .1))
 
     terms-alike : (ts : Terms Symbol) → WritableTerms ts ds → WritableTerms ts es
     terms-alike nil h = tt

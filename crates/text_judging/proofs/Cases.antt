@@ -4,7 +4,7 @@ use Prim.Native.String.{String}
 use mathlib.Core.Path.{_≡_, refl}
 use mathlib.Core.Bool.{true, false}
 use mathlib.Core.List.{List, [], _∷_}
-use Rattle.terms.specs.Terms.{leaf, app, nil, cons}
+use Rattle.terms.specs.Terms.{numberTerm, sheetSymbol, leaf, app, nil, cons}
 use Rattle.formulas.specs.Formulas.{atom, exists, forall, fact, rule, each}
 use Rattle.sequents.specs.Symbols.{made, leftover}
 use Rattle.sequents.specs.Sequents.{Dsome, Dall}
@@ -35,10 +35,15 @@ unfolding text ascii
 numbers = refl
 
 -- A term is spelled with names, brackets and commas, and a constant as the bare name.
-spelling : text (bindingLine 3 (app 1 (cons (app 2 nil) (cons (app 1 (cons (leaf (leftover 0 0)) (cons (app 2 nil) nil))) nil))) ∷ [])
+spelling : text (bindingLine 3 (app (sheetSymbol 1) (cons (app (sheetSymbol 2) nil) (cons (app (sheetSymbol 1) (cons (leaf (leftover 0 0)) (cons (app (sheetSymbol 2) nil) nil))) nil))) ∷ [])
     ≡ ascii "B\t3\tf(a,f(_0@0,a))\n"
 unfolding text ascii
 spelling = refl
+
+-- Request W-204: a number is spelled in base ten.
+numerals : text (bindingLine 0 (app (sheetSymbol 1) (cons (numberTerm 0) (cons (numberTerm 65535) nil))) ∷ []) ≡ ascii "B\t0\tf(0,65535)\n"
+unfolding text ascii
+numerals = refl
 
 -- The sheet has the clause every z p(z,z) and the goal every b some a p(a,b).
 abbrev sheet : Sheet
@@ -130,7 +135,7 @@ abbrev inBody : Sheet
 inBody = record {
   symbols = record { function = false; name = ascii "p"; arity = 0 } ∷ record { function = false; name = ascii "q"; arity = 1 }
       ∷ record { function = true; name = ascii "a"; arity = 0 } ∷ [];
-  clauses = each 7 (rule (atom 1 (cons (leaf 7) nil)) 0 nil) ∷ fact 1 (cons (app 2 nil) nil) ∷ [];
+  clauses = each 7 (rule (atom 1 (cons (leaf 7) nil)) 0 nil) ∷ fact 1 (cons (app (sheetSymbol 2) nil) nil) ∷ [];
   goal = atom 0 nil;
 }
 
@@ -177,3 +182,48 @@ case-of-outcome = refl
 case-of-letter : tells "R\tproved\t3\nb\t3\tstrobe_1\n" ≡ invalid 2
 unfolding tells
 case-of-letter = refl
+
+-- Request W-204: any number may stand for a variable, on the sheet or not, in the form of numbers and without arguments.
+abbrev anything : Sheet
+anything = record {
+  symbols = record { function = false; name = ascii "p"; arity = 1 } ∷ record { function = true; name = ascii "f"; arity = 1 } ∷ [];
+  clauses = each 7 (fact 0 (cons (leaf 7) nil)) ∷ [];
+  goal = exists 0 (atom 0 (cons (leaf 0) nil));
+}
+
+unfoldable answers : String → Judgement
+unfolding computeJudgement ascii
+answers t = computeJudgement anything (ascii t)
+
+any-number : answers "R\tproved\t5\nD\tsome\t513\nD\tclause\t1\t513\n" ≡ valid
+unfolding answers
+any-number = refl
+
+inside : answers "R\tproved\t5\nD\tsome\tf(65535)\nD\tclause\t1\tf(65535)\n" ≡ valid
+unfolding answers
+inside = refl
+
+another-number : answers "R\tproved\t5\nD\tsome\t513\nD\tclause\t1\t514\n" ≡ invalid 3
+unfolding answers
+another-number = refl
+
+zeros-first : answers "R\tproved\t5\nD\tsome\t0513\nD\tclause\t1\t0513\n" ≡ invalid 2
+unfolding answers
+zeros-first = refl
+
+too-large : answers "R\tproved\t5\nD\tsome\t65536\nD\tclause\t1\t65536\n" ≡ invalid 2
+unfolding answers
+too-large = refl
+
+number-applied : answers "R\tproved\t5\nD\tsome\t5(5)\nD\tclause\t1\t5(5)\n" ≡ invalid 2
+unfolding answers
+number-applied = refl
+
+letters-after : answers "R\tproved\t5\nD\tsome\t5a\nD\tclause\t1\t5a\n" ≡ invalid 2
+unfolding answers
+letters-after = refl
+
+-- A number is no made constant: line 2 of the engine's text with a number in the place of one.
+number-for-all : says "R\tproved\t8\nD\tall\t5\nD\tsome\t5\nD\tclause\t1\t5\n" ≡ invalid 2
+unfolding says
+number-for-all = refl

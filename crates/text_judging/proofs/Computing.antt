@@ -2,7 +2,7 @@
 use Prim.Native.Nat.{ℕ}
 use mathlib.Core.List.{List}
 use Rattle.terms.specs.Lists.{update, elem}
-use Rattle.terms.specs.Terms.{substitute, levelBy}
+use Rattle.terms.specs.Terms.{sameFunctor, substitute, levelBy}
 use Rattle.formulas.specs.Formulas.{freeT, freeG, freeB, freeFrom, freeVariables}
 use Rattle.formulas.specs.Members.{members, quantify, standsFree}
 use Rattle.sequents.specs.Symbols.{level, symbolLevel}
@@ -16,7 +16,7 @@ use Rattle.answer_texts.specs.Numbering.{symbolsIn, symbolsOf, sameSymbol}
 use Rattle.answer_texts.specs.Capitals.{smallFrom, smallText, smallDeclaration, smallSheet}
 use Rattle.answer_texts.specs.Spelled.{boundStage, blank}
 use Rattle.text_judging.specs.Reading.{span, withLevel, readLevel, readSymbol, after, consParsed, readMore, readArguments, findName}
-use Rattle.text_judging.specs.Reading.{applyTo, readApplication, readTerm, wholeTerm, termField, consField, termFields, plainLine}
+use Rattle.text_judging.specs.Reading.{headOf, findHead, applyTo, readApplication, readTerm, wholeTerm, termField, consField, termFields, plainLine}
 use Rattle.text_judging.specs.Reading.{termLine, useLine, clauseFields, byWord, derivationFields, resultFields, bindingOf}
 use Rattle.text_judging.specs.Reading.{bindingFields, readLine}
 use Rattle.answer_texts.specs.Judgements.{Judgement}
@@ -27,9 +27,9 @@ use Rattle.text_judging.specs.Judging.{progress, judgeRead, judgeLine, j
 unfoldable pub computeJudgement : Sheet → List ℕ → Judgement
 unfolding judge smallSheet smallDeclaration smallText smallFrom folded judgeExactly judgeFrom judgeEnd judgeLine judgeRead progress allow infer inferClause entryAt inferEntry allLow inferAll inferConstant
     inferSome isPlain sameWord
-    wordNumber showSymbols showSymbol showNumber sameTerm readLine bindingFields bindingOf resultFields derivationFields byWord
+    wordNumber showSymbols showSymbol showNumber sameTerm sameFunctor readLine bindingFields bindingOf resultFields derivationFields byWord
     clauseFields useLine termLine
-    plainLine termFields consField termField wholeTerm readTerm readApplication applyTo findName readArguments readMore consParsed after
+    plainLine termFields consField termField wholeTerm readTerm readApplication applyTo findHead headOf findName readArguments readMore consParsed after
     readSymbol readLevel
     withLevel span blank boundStage sameSymbol symbolsOf symbolsIn termsOf lineTerms ascii extendLine linesOf extendField fields isDigit
     isSmall isCapital isLetter isNameByte digitsFrom

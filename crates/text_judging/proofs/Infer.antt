@@ -10,7 +10,8 @@ use lib.Dec.{eqb, leb}
 use lib.ListN.{length, getElem?}
 use borrow.Author.Tests.{eqb-true, eq-eqb, leb-true, le-leb}
 use Rattle.terms.specs.Lists.{All, Mem, here, there, place, update}
-use Rattle.terms.specs.Terms.{leaf, app, Terms, nil, cons, substitutes}
+use Rattle.terms.specs.Terms.{sameFunctor, leaf, app, Terms, nil, cons, substitutes}
+use Rattle.terms.proofs.Terms.{functor-same, same-functor}
 use Rattle.formulas.specs.Formulas.{Goal, atom, truth, and, or, implies, exists, forall}
 use Rattle.formulas.proofs.Free.{and-parts}
 use Rattle.sequents.specs.Symbols.{Symbol, made, leftover, Ground, level}
@@ -47,7 +48,7 @@ mutual
   sameTerm-true (leaf a) (app g us) h = absurd (true≢false (sym h))
   sameTerm-true (app f ts) (leaf b) h = absurd (true≢false (sym h))
   sameTerm-true (app f ts) (app g us) h =
-      let r = and-parts (eqb f g) (sameTerms ts us) h in ap₂ app (eqb-true f g (r .0)) (sameTerms-true ts us (r .1))
+      let r = and-parts (sameFunctor f g) (sameTerms ts us) h in ap₂ app (functor-same f g (r .0)) (sameTerms-true ts us (r .1))
 
   pub sameTerms-true : (ts us : Terms Symbol) → sameTerms ts us ≡ true → ts ≡ us
   sameTerms-true nil nil h = refl
@@ -62,7 +63,7 @@ mutual
 
   pub sameTerm-refl : (t : Ground) → sameTerm t t ≡ true
   sameTerm-refl (leaf a) = sameSymbol-refl a
-  sameTerm-refl (app f ts) = and-both (eqb f f) (sameTerms ts ts) (eq-eqb f f refl) (sameTerms-refl ts)
+  sameTerm-refl (app f ts) = and-both (sameFunctor f f) (sameTerms ts ts) (same-functor f f refl) (sameTerms-refl ts)
 
   pub sameTerms-refl : (ts : Terms Symbol) → sameTerms ts ts ≡ true
   sameTerms-refl nil = refl

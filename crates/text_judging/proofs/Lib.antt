@@ -2,6 +2,7 @@ pub mod Computing
 pub mod Cases
 pub mod Spans
 pub mod Symbols
+pub mod Functors
 pub mod ReadTerms
 pub mod Reading
 pub mod Infer

@@ -2,7 +2,7 @@
 use mathlib.Core.Path.{ap₂}
 use Rattle.sheet_format.proofs.Good.{good}
 use Rattle.text_judging.specs.Judging.{judgeExactly, judge}
-use Rattle.text_judging.specs.Promises.{CheckerExact, FoldsNames, JudgesAsBefore}
+use Rattle.text_judging.specs.Promises.{CheckerExact, FoldsNames, JudgesAsBefore, OldProofs}
 use Rattle.text_judging.proofs.Capitals.{spell-small}
 use Rattle.text_judging.proofs.UpToCase.{exact}
 
@@ -18,3 +18,7 @@ foldsNames bytes s read xs w = spell-small (s .symbols) xs (good bytes s read .n
 pub judgesAsBefore : JudgesAsBefore
 unfolding judge
 judgesAsBefore s text h k = ap₂ judgeExactly h k
+
+-- A text that spelled a derivation spells it still, and so is valid.
+pub oldProofs : OldProofs
+oldProofs bytes s read text h = checkerExact bytes s read text .accepts .1 (h .spells)

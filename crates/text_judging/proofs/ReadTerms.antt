@@ -7,48 +7,46 @@ use mathlib.Core.List.{List, [], _∷_, _++_, append-assoc, append-nil}
 use mathlib.Core.Option.{Option, none, some}
 use lib.Dec.{eqb}
 use lib.ListN.{length, length-append}
-use borrow.Author.Tests.{eqb-true, ne-eqb}
+use borrow.Author.Tests.{eqb-true}
 use native.Mathlib.Omega.{arith}
-use Rattle.terms.specs.Terms.{leaf, app, Terms, nil, cons, count}
+use Rattle.terms.specs.Terms.{Functor, leaf, app, Terms, nil, cons, count}
 use Rattle.terms.proofs.Lists.{all-append}
 use Rattle.sequents.specs.Symbols.{Symbol, made, leftover, Ground}
 use Rattle.sheet_format.specs.Limits.{maxNumber}
-use Rattle.sheet_format.specs.Bytes.{isDigit, isSmall, isCapital, isLetter, isNameByte, isName, decimal}
+use Rattle.sheet_format.specs.Bytes.{isDigit, isSmall, isCapital, isLetter, isNameByte, decimal}
 use Rattle.sheet_format.specs.Nodes.{Declaration}
 use Rattle.sheet_format.proofs.Options.{OnSome, some-weaken}
-use Rattle.sheet_format.proofs.Bytes.{Graphic, letter-bounds, name-nonempty, name-length, name-letter, name-kinds, name-is-graphic}
+use Rattle.sheet_format.proofs.Bytes.{Graphic}
 use Rattle.sheet_format.proofs.Numbers.{decimal-graphic}
 use Rattle.sheet_format.proofs.Names.{Names}
-use Rattle.sheet_format.proofs.Formed.{Declares}
-use Rattle.answer_texts.specs.Spelling.{nameOf, spellSymbol, spellTerm, spellArguments, spellMore}
-use Rattle.answer_texts.specs.Spelled.{SmallSymbol, WritableTerm, WritableTerms}
-use Rattle.text_judging.specs.Reading.{Span, span, Parsed, parsed, readSymbol, after, consParsed, readMore, readArguments, Found}
-use Rattle.text_judging.specs.Reading.{findName, applyTo, readApplication, readTerm, wholeTerm, termField}
+use Rattle.answer_texts.specs.Spelling.{spellFunctor, spellSymbol, spellTerm, spellArguments, spellMore}
+use Rattle.answer_texts.specs.Spelled.{WritableFunctor, SmallSymbol, WritableTerm, WritableTerms}
+use Rattle.text_judging.specs.Reading.{Span, span, Parsed, parsed, readSymbol, after, consParsed, readMore, readArguments, Head}
+use Rattle.text_judging.specs.Reading.{findHead, applyTo, readApplication, readTerm, wholeTerm, termField}
 use Rattle.text_judging.proofs.Spans.{Stops, stops-digit, span-append, span-split, after-some}
-use Rattle.answer_texts.proofs.Declared.{marked, has-arity, arity-has, name-of}
-use Rattle.text_judging.proofs.Symbols.{read-symbol, ReadsSymbol, readSymbol-some, find-name}
-use Rattle.text_judging.proofs.Symbols.{findName-some}
+use Rattle.answer_texts.proofs.Declared.{marked}
+use Rattle.text_judging.proofs.Symbols.{read-symbol, ReadsSymbol, readSymbol-some}
+use Rattle.text_judging.proofs.Functors.{Starts, functor-starts, find-head, findHead-some, starts-graphic, starts-length}
 
 -- one step
 
--- Bytes that begin with neither `!` nor `_` are read as a name, then arguments.
+-- Bytes that begin with neither `!` nor `_` are read as a name or a number, then arguments.
 readTerm-name : (f : ℕ) (ds : List Declaration) (c : ℕ) (cs : List ℕ) → eqb c (code "!") ≡ false → eqb c (code "_") ≡ false
-    → readTerm (suc f) ds (c ∷ cs) ≡ readApplication (readTerm f ds) (findName 0 ds (span isNameByte (c ∷ cs) .taken))
+    → readTerm (suc f) ds (c ∷ cs) ≡ readApplication (readTerm f ds) (findHead ds (span isNameByte (c ∷ cs) .taken))
     (span isNameByte (c ∷ cs) .rest)
 unfolding readTerm
 readTerm-name f ds c cs h k = rw (h, readTerm) (rw k)
 
 -- spelled terms are read
 
--- A name is read to its end, then its arguments are read.
-read-name : (ds : List Declaration) (b r : List ℕ) (f : ℕ) → isName b ≡ true → Stops isNameByte r
-    → readTerm (suc f) ds (b ++ r) ≡ readApplication (readTerm f ds) (findName 0 ds b) r
-read-name ds [] r f h s = absurd (name-nonempty h)
+-- A name or a number is read to its end, then its arguments are read.
+read-name : (ds : List Declaration) (b r : List ℕ) (f : ℕ) → Starts b → Stops isNameByte r
+    → readTerm (suc f) ds (b ++ r) ≡ readApplication (readTerm f ds) (findHead ds b) r
+read-name ds [] r f h s = absurd h
 read-name ds (c ∷ cs) r f h s =
-    let l = letter-bounds c (name-letter c cs h) in
-    readTerm-name f ds c (cs ++ r) (ne-eqb c 33 (λ e. omega arith)) (ne-eqb c 95 (l .2))
-    ∙ ap (λ (x : Span). readApplication (readTerm f ds) (findName 0 ds (x .taken)) (x .rest))
-    (span-append isNameByte (c ∷ cs) r (name-kinds (c ∷ cs) h) s)
+    readTerm-name f ds c (cs ++ r) (h .0) (h .1)
+    ∙ ap (λ (x : Span). readApplication (readTerm f ds) (findHead ds (x .taken)) (x .rest))
+    (span-append isNameByte (c ∷ cs) r (h .2) s)
 
 -- The spelling of a symbol is read back as a leaf.
 read-leaf : (s : Symbol) (ds : List Declaration) (f : ℕ) (r : List ℕ) → SmallSymbol s → length (spellSymbol s) ≤ f → Stops isNameByte r
@@ -60,14 +58,15 @@ read-leaf (leftover n k) ds zero r w l h = absurd (omega arith)
 read-leaf (leftover n k) ds (suc f) r w l h = read-symbol leftover n k r (w .0) (w .1) (stops-digit r h)
 
 -- An application is read back, if its arguments a are read as ts.
-read-application : (ds : List Declaration) (g : ℕ) (ts : Terms Symbol) (a : List ℕ) (f : ℕ) (r : List ℕ) → Names ds
-    → Declares ds true g (count ts)
+read-application : (ds : List Declaration) (g : Functor) (ts : Terms Symbol) (a : List ℕ) (f : ℕ) (r : List ℕ) → Names ds
+    → WritableFunctor ds g (count ts)
     → Stops isNameByte (a ++ r) → readArguments (readTerm f ds) (count ts) (a ++ r) ≡ parsed ts r
-    → readTerm (suc f) ds ((nameOf ds g ++ a) ++ r) ≡ parsed (app g ts) r
+    → readTerm (suc f) ds ((spellFunctor ds g ++ a) ++ r) ≡ parsed (app g ts) r
 unfolding readApplication applyTo
 read-application ds g ts a f r ns d s h =
-    ap (readTerm (suc f) ds) (append-assoc (nameOf ds g) a r) ∙ read-name ds (nameOf ds g) (a ++ r) f (name-of ds g (count ts) ns d) s
-    ∙ ap (λ (o : Option Found). readApplication (readTerm f ds) o (a ++ r)) (find-name ds g (count ts) ns d) ∙ ap (applyTo g) h
+    ap (readTerm (suc f) ds) (append-assoc (spellFunctor ds g) a r)
+    ∙ read-name ds (spellFunctor ds g) (a ++ r) f (functor-starts ds g (count ts) ns d) s
+    ∙ ap (λ (o : Option Head). readApplication (readTerm f ds) o (a ++ r)) (find-head ds g (count ts) ns d) ∙ ap (applyTo g) h
 
 -- The spelling of arguments does not begin with a byte of a name, if what follows it does not.
 stops-arguments : (ts : Terms Symbol) (ds : List Declaration) (r : List ℕ) → Stops isNameByte r
@@ -91,15 +90,13 @@ mutual
       → readTerm f ds (spellTerm t ds ++ r) ≡ parsed t r
   read-term (leaf s) ds f r ns w l h = read-leaf s ds f r w l h
   read-term (app g ts) ds zero r ns w l h =
-      let d = has-arity ds g (count ts) (w .0) in
-      let a = name-length (nameOf ds g) (name-of ds g (count ts) ns d) in
-      let b = length-append (nameOf ds g) (spellArguments ts ds) in
+      let a = starts-length (spellFunctor ds g) (functor-starts ds g (count ts) ns (w .0)) in
+      let b = length-append (spellFunctor ds g) (spellArguments ts ds) in
       absurd (omega arith)
   read-term (app g ts) ds (suc f) r ns w l h =
-      let d = has-arity ds g (count ts) (w .0) in
-      let a = name-length (nameOf ds g) (name-of ds g (count ts) ns d) in
-      let b = length-append (nameOf ds g) (spellArguments ts ds) in
-      read-application ds g ts (spellArguments ts ds) f r ns d (stops-arguments ts ds r h)
+      let a = starts-length (spellFunctor ds g) (functor-starts ds g (count ts) ns (w .0)) in
+      let b = length-append (spellFunctor ds g) (spellArguments ts ds) in
+      read-application ds g ts (spellArguments ts ds) f r ns (w .0) (stops-arguments ts ds r h)
       (read-arguments ts ds f r ns (w .1) (omega arith))
 
   pub read-arguments : (ts : Terms Symbol) (ds : List Declaration) (f : ℕ) (r : List ℕ) → Names ds → WritableTerms ts ds
@@ -193,22 +190,22 @@ readArguments-some ds r h (suc n) b =
     (λ d. elim (r d) [ none ↦ none | some p ↦ consParsed (p .value) (readMore r n (p .rest)) ])
     (next-some spellArguments (code "(") ds r n (λ t ts. refl) h (readMore-some ds r h n)) b
 
--- An application that is read as the name m and arguments is spelled so.
-applyTo-some : (ds : List Declaration) (m b : List ℕ) (f : Found) (o : Option (Parsed (Terms Symbol))) → nameOf ds (f .symbol) ≡ m
-    → Declares ds true (f .symbol) (f .arity)
-    → OnSome (ReadsTerms spellArguments ds (f .arity) b) o → OnSome (ReadsTerm ds (m ++ b)) (applyTo (f .symbol) o)
+-- An application that is read as the name or the number m and arguments is spelled so.
+applyTo-some : (ds : List Declaration) (m b : List ℕ) (f : Head) (o : Option (Parsed (Terms Symbol))) → spellFunctor ds (f .functor) ≡ m
+    → WritableFunctor ds (f .functor) (f .arity)
+    → OnSome (ReadsTerms spellArguments ds (f .arity) b) o → OnSome (ReadsTerm ds (m ++ b)) (applyTo (f .functor) o)
 unfolding applyTo spellTerm WritableTerm
 applyTo-some ds m b f none e d h = tt
 applyTo-some ds m b f (some p) e d h =
     record {
-      spelled = ap₂ _++_ (sym e) (h .spelled) ∙ sym (append-assoc (nameOf ds (f .symbol)) (spellArguments (p .value) ds) (p .rest));
-      writable = (arity-has ds (f .symbol) (count (p .value)) (subst (Declares ds true (f .symbol)) (sym (h .counted)) d), h .writable);
+      spelled = ap₂ _++_ (sym e) (h .spelled) ∙ sym (append-assoc (spellFunctor ds (f .functor)) (spellArguments (p .value) ds) (p .rest));
+      writable = (subst (WritableFunctor ds (f .functor)) (sym (h .counted)) d, h .writable);
     }
 
--- An application that is read as a name that was looked up and arguments is spelled so.
+-- An application that is read as a name or a number that was looked up and arguments is spelled so.
 readApplication-some : (ds : List Declaration) (r : List ℕ → Option (Parsed Ground)) → ((b : List ℕ) → OnSome (ReadsTerm ds b) (r b))
-    → (m b : List ℕ) (o : Option Found)
-    → OnSome (λ f. (nameOf ds (f .symbol) ≡ m) × Declares ds true (f .symbol) (f .arity)) o
+    → (m b : List ℕ) (o : Option Head)
+    → OnSome (λ f. (spellFunctor ds (f .functor) ≡ m) × WritableFunctor ds (f .functor) (f .arity)) o
     → OnSome (ReadsTerm ds (m ++ b)) (readApplication r o b)
 unfolding readApplication
 readApplication-some ds r h m b none k = tt
@@ -247,9 +244,9 @@ readTerm-some (suc f) ds (c ∷ cs) = go (eqb c (code "!")) refl (eqb c (code "_
     go false p true q h = rw (eqb-true c (code "_") q) (leaf-some ds leftover (code "_") cs (λ m k. refl) (λ m k x y. (x, y)))
     go false p false q h =
         subst (OnSome (ReadsTerm ds (c ∷ cs))) (sym (readTerm-name f ds c cs p q))
-        (subst (λ (b : List ℕ). OnSome (ReadsTerm ds b) (readApplication (readTerm f ds) (findName 0 ds (n .taken)) (n .rest)))
+        (subst (λ (b : List ℕ). OnSome (ReadsTerm ds b) (readApplication (readTerm f ds) (findHead ds (n .taken)) (n .rest)))
         (sym (span-split isNameByte (c ∷ cs)))
-        (readApplication-some ds (readTerm f ds) h (n .taken) (n .rest) (findName 0 ds (n .taken)) (findName-some ds (n .taken))))
+        (readApplication-some ds (readTerm f ds) h (n .taken) (n .rest) (findHead ds (n .taken)) (findHead-some ds (n .taken))))
 
 -- fields that are terms
 
@@ -292,8 +289,8 @@ mutual
   pub term-graphic : (t : Ground) (ds : List Declaration) → Names ds → WritableTerm t ds → Graphic (spellTerm t ds)
   term-graphic (leaf s) ds ns w = symbol-graphic s
   term-graphic (app g ts) ds ns w =
-      all-append (λ d. 32 < d) (nameOf ds g) (spellArguments ts ds)
-      (name-is-graphic (nameOf ds g) (name-of ds g (count ts) ns (has-arity ds g (count ts) (w .0))))
+      all-append (λ d. 32 < d) (spellFunctor ds g) (spellArguments ts ds)
+      (starts-graphic (spellFunctor ds g) (functor-starts ds g (count ts) ns (w .0)))
       (arguments-graphic ts ds ns (w .1))
 
   arguments-graphic : (ts : Terms Symbol) (ds : List Declaration) → Names ds → WritableTerms ts ds → Graphic (spellArguments ts ds)

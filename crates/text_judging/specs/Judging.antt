@@ -8,7 +8,7 @@ use mathlib.Core.Option.{Option, none, some, Option·map}
 use lib.Dec.{eqb, leb, ltb}
 use lib.ListN.{length, getElem?, getD}
 use Rattle.terms.specs.Lists.{update}
-use Rattle.terms.specs.Terms.{leaf, app, Terms, nil, cons, substitutes}
+use Rattle.terms.specs.Terms.{sameFunctor, leaf, app, Terms, nil, cons, substitutes}
 use Rattle.formulas.specs.Formulas.{Goal, atom, truth, and, or, implies, exists, forall, freeVariables}
 use Rattle.sequents.specs.Symbols.{Symbol, made, leftover, Ground, level}
 use Rattle.sequents.specs.Sequents.{Environment, Program, hypothesis, Entry, entries, Sequent, sequent, assign, bodySequent, Word, Dtrue}
@@ -29,7 +29,7 @@ unfoldable mutual
   sameTerm (leaf a) (leaf b) = sameSymbol a b
   sameTerm (leaf a) (app g us) = false
   sameTerm (app f ts) (leaf b) = false
-  sameTerm (app f ts) (app g us) = eqb f g && sameTerms ts us
+  sameTerm (app f ts) (app g us) = sameFunctor f g && sameTerms ts us
 
   pub sameTerms : Terms Symbol → Terms Symbol → Bool
   sameTerms nil nil = true

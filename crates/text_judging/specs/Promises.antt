@@ -8,8 +8,9 @@ use Rattle.terms.specs.Lists.{All}
 use Rattle.sheet_format.specs.Sheets.{Sheet, sheet, readSheet}
 use Rattle.answer_texts.specs.TextLines.{TextLine}
 use Rattle.answer_texts.specs.Spelling.{spell}
-use Rattle.answer_texts.specs.Capitals.{smallText, smallNames, smallSheet}
+use Rattle.answer_texts.specs.Capitals.{smallText, SameText, smallNames, smallSheet}
 use Rattle.answer_texts.specs.Spelled.{Writable, SpellsDerivation, BreaksAfter}
+use Rattle.answer_texts.specs.FormerTexts.{SpellsBefore}
 use Rattle.answer_texts.specs.Judgements.{valid, invalid}
 use Rattle.text_judging.specs.Judging.{judgeExactly, judge}
 
@@ -31,3 +32,8 @@ FoldsNames = (bytes : List ℕ) (s : Sheet) → readSheet bytes ≡ sheet s → 
 -- Request W-201: over a sheet with small names, a text with small names is judged as before.
 abbrev pub JudgesAsBefore : Type 0
 JudgesAsBefore = (s : Sheet) (text : List ℕ) → smallSheet s ≡ s → smallText text ≡ text → judge s text ≡ judgeExactly s text
+
+-- Request W-204: "an old proof over a sheet without N lines must still check". It does over every sheet.
+abbrev pub OldProofs : Type 0
+OldProofs = (bytes : List ℕ) (s : Sheet) → readSheet bytes ≡ sheet s → (text : List ℕ) → SpellsBefore SameText s text
+    → judge s text ≡ valid

@@ -6,7 +6,7 @@ use mathlib.Core.List.{List, [], _∷_}
 use mathlib.Core.Option.{Option, none, some, Option·map}
 use lib.Dec.{eqb}
 use lib.ListN.{length}
-use Rattle.terms.specs.Terms.{leaf, app, Terms, nil, cons}
+use Rattle.terms.specs.Terms.{Functor, sheetSymbol, numeral, leaf, app, Terms, nil, cons}
 use Rattle.sequents.specs.Symbols.{Symbol, made, leftover, Ground}
 use Rattle.sequents.specs.Sequents.{Word, Dtrue, Dand, Dleft, Dright, Dassume, plain, Dsome, Dall, Dclause}
 use Rattle.sheet_format.specs.Bytes.{ascii, isDigit, isNameByte, number, sameBytes}
@@ -77,13 +77,26 @@ findName k (d ∷ ds) n = elim (sameBytes n (d .name)) [
   | false ↦ findName (suc k) ds n
 ]
 
-unfoldable pub applyTo : ℕ → Option (Parsed (Terms Symbol)) → Option (Parsed Ground)
+-- What is written so before arguments, and how many it takes: a number takes none, a function symbol its arity.
+pub record Head : Type 0 where
+  pub functor : Functor
+  pub arity : ℕ
+
+unfoldable pub headOf : Option ℕ → Option Found → Option Head
+headOf (some n) f = some (record { functor = numeral n; arity = 0 })
+headOf none none = none
+headOf none (some f) = some (record { functor = sheetSymbol (f .symbol); arity = f .arity })
+
+unfoldable pub findHead : List Declaration → List ℕ → Option Head
+findHead ds b = headOf (number b) (findName 0 ds b)
+
+unfoldable pub applyTo : Functor → Option (Parsed (Terms Symbol)) → Option (Parsed Ground)
 applyTo f none = none
 applyTo f (some p) = parsed (app f (p .value)) (p .rest)
 
-unfoldable pub readApplication : (List ℕ → Option (Parsed Ground)) → Option Found → List ℕ → Option (Parsed Ground)
+unfoldable pub readApplication : (List ℕ → Option (Parsed Ground)) → Option Head → List ℕ → Option (Parsed Ground)
 readApplication r none bytes = none
-readApplication r (some f) bytes = applyTo (f .symbol) (readArguments r (f .arity) bytes)
+readApplication r (some h) bytes = applyTo (h .functor) (readArguments r (h .arity) bytes)
 
 -- A term, nested at most as deep as the first argument says.
 unfoldable pub readTerm : ℕ → List Declaration → List ℕ → Option (Parsed Ground)
@@ -95,7 +108,7 @@ readTerm (suc f) ds (c ∷ cs) =
       | true ↦ readSymbol made cs
       | false ↦ elim (eqb c (code "_")) [
         | true ↦ readSymbol leftover cs
-        | false ↦ readApplication (readTerm f ds) (findName 0 ds (n .taken)) (n .rest)
+        | false ↦ readApplication (readTerm f ds) (findHead ds (n .taken)) (n .rest)
       ]
     ]
 

@@ -10,7 +10,7 @@ use lib.Dec.{eqb, leb}
 use borrow.Author.Tests.{eqb-true, eq-eqb, leb-false}
 use Rattle.terms.specs.Lists.{All, update}
 use Rattle.terms.specs.Terms.{Term, leaf, app, Terms, nil, cons, substitute, substitutes, size, sizes, levelBy, levelsBy, Leaves}
-use Rattle.terms.proofs.Terms.{leaf-not-app, nil-not-cons}
+use Rattle.terms.proofs.Terms.{same-functor, leaf-not-app, nil-not-cons}
 use Rattle.unification.specs.Store.{Leaf, var, con, Store, look, lower, bind}
 use Rattle.unification.specs.Matching.{Pair, Matching, pairs, check, fail, pushTerms, pushPairs, comparing, afterNode, visit}
 use Rattle.unification.specs.Matching.{compareTerms, matchStep, matchSteps}
@@ -130,7 +130,7 @@ module _ {B : Type 0} (D : Domain B) (σ : ℕ → Term B) where
   compareTerms-complete s (app f ts) (leaf (var y)) ps v e h = check-complete s y (app f ts) ps v (sym e) h
   compareTerms-complete s (app f ts) (leaf (con d j)) ps v e h =
       absurd (leaf-not-app (D .constant d j) f (substitutes ts (value D σ)) (sym e))
-  compareTerms-complete s (app f ts) (app g us) ps v e h = rw (eq-eqb f g (cc)) (comparing-complete s ts us ps v (cc) h)
+  compareTerms-complete s (app f ts) (app g us) ps v e h = rw (same-functor f g (cc)) (comparing-complete s ts us ps v (cc) h)
 
   -- A node is not y: it is t, which is not, or it is too small.
   not-itself : (R : ℕ → Type 0) (s : Store) (y : ℕ) (t n : Term Leaf) (ns : List (Term Leaf)) → Solves D σ s → Checking R s y t ns

@@ -9,7 +9,7 @@ use native.Mathlib.Omega.{arith}
 use lib.Dec.{eqb, leb}
 use borrow.Author.Tests.{eqb-false, leb-true}
 use Rattle.terms.specs.Lists.{All}
-use Rattle.terms.specs.Terms.{Term, leaf, app, Terms, nil, cons, substitute, substitutes, Leaves, LeavesAll, Appears, AppearsIn}
+use Rattle.terms.specs.Terms.{sameFunctor, Term, leaf, app, Terms, nil, cons, substitute, substitutes, Leaves, LeavesAll, Appears, AppearsIn}
 use Rattle.terms.proofs.Terms.{leaf-not-app}
 use Rattle.unification.specs.Store.{Leaf, var, con, Store, look, lower, bind, at, apply, solution}
 use Rattle.unification.specs.Matching.{Pair, Matching, pairs, check, fail, pushTerms, pushPairs, comparing, afterNode, visit}
@@ -215,7 +215,7 @@ module _ (R : ℕ → Type 0) where
       check-running s y (app f ts) ps g eu et (λ q. leaf-not-app (var y) f ts (sym q)) bu bt b
   compareTerms-running s (app f ts) (leaf (con d j)) ps g et eu bt bu b = tt
   compareTerms-running s (app f ts) (app h us) ps g et eu bt bu b =
-      if-running (eqb f h) (comparing s (pushPairs ts us ps)) (comparing-running s ts us ps g bt bu b)
+      if-running (sameFunctor f h) (comparing s (pushPairs ts us ps)) (comparing-running s ts us ps g bt bu b)
 
   -- The node that is due, looked through.
   look-checking : (s : Store) (y : ℕ) (t n : Term Leaf) (ns : List (Term Leaf)) → Checking s y t (n ∷ ns)

@@ -18,3 +18,4 @@ pub mod Labelled
 pub mod Unify
 pub mod Promises
 pub mod Cases
+pub mod Numbers

@@ -8,7 +8,8 @@ use native.Mathlib.Omega.{arith}
 use lib.Dec.{eqb, leb}
 use borrow.Author.Tests.{eqb-true}
 use Rattle.terms.specs.Lists.{All, update}
-use Rattle.terms.specs.Terms.{Term, leaf, app, Terms, nil, cons, substitute, substitutes, levelBy}
+use Rattle.terms.specs.Terms.{sameFunctor, Term, leaf, app, Terms, nil, cons, substitute, substitutes, levelBy}
+use Rattle.terms.proofs.Terms.{functor-same}
 use Rattle.unification.specs.Store.{Leaf, var, con, Store, look, lower, bind}
 use Rattle.unification.specs.Matching.{Pair, Matching, pairs, check, fail, pushTerms, pushPairs, comparing, afterNode, visit}
 use Rattle.unification.specs.Matching.{compareTerms, matchStep, matchSteps}
@@ -102,11 +103,11 @@ module _ {B : Type 0} (D : Domain B) (σ : ℕ → Term B) where
   compareTerms-sound s (leaf (con c k)) (app g us) ps h = absurd h
   compareTerms-sound s (app f ts) (leaf (var y)) ps h = (h .0, sym (h .1), h .2)
   compareTerms-sound s (app f ts) (leaf (con d j)) ps h = absurd h
-  compareTerms-sound s (app f ts) (app g us) ps h = go (eqb f g) refl h
+  compareTerms-sound s (app f ts) (app g us) ps h = go (sameFunctor f g) refl h
     where
-      go : (b : Bool) → eqb f g ≡ b → SolvesMatching (cond b (comparing s (pushPairs ts us ps)) fail)
+      go : (b : Bool) → sameFunctor f g ≡ b → SolvesMatching (cond b (comparing s (pushPairs ts us ps)) fail)
           → SolvesWith s (app f (substitutes ts (value D σ)) ≡ app g (substitutes us (value D σ))) ps
-      go true e h = let r = comparing-sound s ts us ps h in (r .0, ap₂ app (eqb-true f g e) (r .1), r .2)
+      go true e h = let r = comparing-sound s ts us ps h in (r .0, ap₂ app (functor-same f g e) (r .1), r .2)
       go false e h = absurd h
 
   -- One act.

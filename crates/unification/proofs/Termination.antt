@@ -9,7 +9,7 @@ use mathlib.Core.Logic.{_⊎_, inl, inr}
 use native.Mathlib.Omega.{arith}
 use lib.Dec.{eqb, leb}
 use borrow.Author.Tests.{eqb-true, eqb-false, leb-true, leb-false}
-use Rattle.terms.specs.Terms.{Term, leaf, app, Terms, nil, cons, substitute, substitutes, size, sizes}
+use Rattle.terms.specs.Terms.{Functor, sameFunctor, Term, leaf, app, Terms, nil, cons, substitute, substitutes, size, sizes}
 use Rattle.terms.proofs.Terms.{size-pos}
 use Rattle.terms.proofs.Tests.{refuted}
 use Rattle.unification.specs.Store.{Leaf, var, con, Binding, Store, look, lower, bind, at, apply}
@@ -175,7 +175,7 @@ unfolding first second weights
 check-less s y t ps k l = by-second (omega arith) (omega arith)
 
 -- The arguments weigh less than the two applications.
-applications-less : (bs : List Binding) (f g : ℕ) (ts us : Terms Leaf) (n k : ℕ) → weight bs (app f ts) + weight bs (app g us) + n ≤ k
+applications-less : (bs : List Binding) (f g : Functor) (ts us : Terms Leaf) (n k : ℕ) → weight bs (app f ts) + weight bs (app g us) + n ≤ k
     → argumentsWeight bs ts + argumentsWeight bs us + n < k
 unfolding weight substitute size
 applications-less bs f g ts us n k l = omega arith
@@ -198,7 +198,7 @@ compareTerms-less s (leaf (con c i)) (app g us) ps k p q l = at-end tt
 compareTerms-less s (app f ts) (leaf (var y)) ps k p q l = check-less s y (app f ts) ps k (omega arith)
 compareTerms-less s (app f ts) (leaf (con d j)) ps k p q l = at-end tt
 compareTerms-less s (app f ts) (app g us) ps k p q l =
-    if-less (unbounds s) k (eqb f g) (comparing s (pushPairs ts us ps))
+    if-less (unbounds s) k (sameFunctor f g) (comparing s (pushPairs ts us ps))
     (comparing-less s ts us ps k (applications-less (s .bindings) f g ts us (pairWeights (s .bindings) ps) k l))
 
 module _ (R : ℕ → Type 0) where

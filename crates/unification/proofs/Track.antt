@@ -9,7 +9,7 @@ use native.Mathlib.Omega.{arith}
 use lib.Dec.{eqb, leb}
 use borrow.Author.Tests.{eqb-true, eqb-false, leb-true, leb-false}
 use Rattle.terms.specs.Lists.{All}
-use Rattle.terms.specs.Terms.{Term, leaf, app, Terms, nil, cons, substitute, substitutes, Appears, AppearsIn}
+use Rattle.terms.specs.Terms.{sameFunctor, Term, leaf, app, Terms, nil, cons, substitute, substitutes, Appears, AppearsIn}
 use Rattle.unification.specs.Store.{Leaf, var, con, Binding, Store, look, lower, bind, at, solution}
 use Rattle.unification.specs.Matching.{Pair, Matching, pairs, check, fail, pushTerms, pushPairs, comparing, afterNode, visit}
 use Rattle.unification.specs.Matching.{compareTerms, matchStep, matchSteps}
@@ -213,7 +213,7 @@ module _ (R : ℕ → Type 0) (s₀ : Store) where
   compareTerms-tracked s (app f ts) (leaf (var y)) ps et eu h = check-tracked s y (app f ts) ps eu h
   compareTerms-tracked s (app f ts) (leaf (con d j)) ps et eu h = tt
   compareTerms-tracked s (app f ts) (app g us) ps et eu h =
-      if-tracked (eqb f g) (comparing s (pushPairs ts us ps)) (comparing-tracked s (pushPairs ts us ps) ps h)
+      if-tracked (sameFunctor f g) (comparing s (pushPairs ts us ps)) (comparing-tracked s (pushPairs ts us ps) ps h)
 
   -- The node that is due, looked through.
   look-tracing : (s : Store) (y : ℕ) (t n : Term Leaf) (ns : List (Term Leaf)) → Formed s → Tracing s₀ s y t (n ∷ ns)

@@ -3,3 +3,4 @@ pub mod Store
 pub mod Matching
 pub mod Labelled
 pub mod Promises
+pub mod Numbers

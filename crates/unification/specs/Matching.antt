@@ -5,7 +5,7 @@ use mathlib.Core.Bool.{Bool, true, false, _&&_, cond}
 use mathlib.Core.List.{List, [], _∷_}
 use mathlib.Core.Option.{Option, none, some, Option·map}
 use lib.Dec.{eqb, leb}
-use Rattle.terms.specs.Terms.{Term, leaf, app, Terms, nil, cons}
+use Rattle.terms.specs.Terms.{sameFunctor, Term, leaf, app, Terms, nil, cons}
 use Rattle.unification.specs.Store.{Leaf, var, con, Store, look, lower, bind}
 
 -- A term of the goal's side and one of the clause's.
@@ -49,7 +49,7 @@ visit s y t (leaf (con c j)) ns ps = cond (leb j (s .level y)) (afterNode s y t 
 visit s y t (app f ts) ns ps = afterNode s y t (pushTerms ts ns) ps
 
 -- "The same variable or the same made constant twice: done. Goal side a variable: range check the other side, then bind. Else
--- clause side a variable: likewise. Two applications: the same symbol, then their arguments; else fail." Both sides are given
+-- clause side a variable: likewise. Two applications: the same symbol (or number), then their arguments; else fail." Both sides are given
 -- as looked through.
 unfoldable pub compareTerms : Store → Term Leaf → Term Leaf → List Pair → Matching
 compareTerms s (leaf (var x)) (leaf (var y)) ps = cond (eqb x y) (pairs s ps) (check s x (leaf (var y)) (leaf (var y)) [] ps)
@@ -60,7 +60,7 @@ compareTerms s (leaf (con c k)) (leaf (con d j)) ps = cond (eqb c d && eqb k j) 
 compareTerms s (leaf (con c k)) (app g us) ps = fail
 compareTerms s (app f ts) (leaf (var y)) ps = check s y (app f ts) (app f ts) [] ps
 compareTerms s (app f ts) (leaf (con d j)) ps = fail
-compareTerms s (app f ts) (app g us) ps = cond (eqb f g) (comparing s (pushPairs ts us ps)) fail
+compareTerms s (app f ts) (app g us) ps = cond (sameFunctor f g) (comparing s (pushPairs ts us ps)) fail
 
 -- One act: "argument pairs are compared, left to right, depth first, goal side first, both looked through their bindings".
 unfoldable pub matchStep : Matching → Matching

@@ -15,6 +15,7 @@ pub fn hard_texts(bytes: usize) -> Vec<Hard> {
         deep_term(bytes),
         one_long_line(bytes),
         many_names(bytes),
+        many_numbers(bytes),
         late_showings(bytes),
         late_showings_on_lines(bytes),
         many_assumptions(bytes),
@@ -85,6 +86,13 @@ fn many_names(bytes: usize) -> Hard {
         &format!("F g 2; F a 0{declared}"),
         &list(elements),
     )
+}
+
+/// Numbers of five digits, hardly one of them twice.
+fn many_numbers(bytes: usize) -> Hard {
+    let count = (bytes - AROUND_WITNESS) / ("65535".len() + 4);
+    let elements = (0..count).map(|place| (10_000 + 7 * place % 55_536).to_string());
+    witness("thousands of numbers", "F g 2; F a 0", &list(elements))
 }
 
 /// Half of the text shows new leftover variables, the other half the last of them again.

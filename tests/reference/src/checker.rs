@@ -30,14 +30,23 @@ pub fn check(sheet: &Sheet, text: &[u8]) -> Result<(), u32> {
 /// A term of the text. Equal terms have equal numbers, so comparing never unfolds them.
 type TermId = usize;
 
-/// The symbols of derivations: a sheet's function symbols, made constants, leftover variables.
+/// The symbols of derivations: a sheet's function symbols, numbers, made constants, leftover variables.
 #[derive(Clone, PartialEq, Eq, Hash)]
 enum Spelled {
     Application(usize, Vec<TermId>),
+    /// Any number, whether or not the sheet has it (W-204).
+    Number(u32),
     /// A made constant (eigenvariable): number and level.
     Constant(u32, u32),
     /// A leftover variable (a logic variable that the search left unbound; here a constant): number and level.
     Variable(u32, u32),
+}
+
+/// What is compared of two terms before their arguments. A number has none.
+#[derive(PartialEq, Eq)]
+enum Head {
+    Function(usize),
+    Number(u32),
 }
 
 /// The terms of a text, each kept once, with the highest level of its symbols.
@@ -62,6 +71,7 @@ impl Terms {
         }
         let level = match &term {
             Spelled::Application(_, arguments) => arguments.iter().map(|&id| self.levels[id]).max().unwrap_or(0),
+            Spelled::Number(_) => 0,
             Spelled::Constant(_, level) | Spelled::Variable(_, level) => *level,
         };
         let id = self.spelled.len();
@@ -81,11 +91,10 @@ impl Terms {
                 }
                 continue;
             }
-            let (Some((left_symbol, left)), Some((right_symbol, right))) = (self.apart(&left), self.apart(&right))
-            else {
+            let (Some((left_head, left)), Some((right_head, right))) = (self.apart(&left), self.apart(&right)) else {
                 return false;
             };
-            if left_symbol != right_symbol {
+            if left_head != right_head {
                 return false;
             }
             pairs.extend(left.into_iter().zip(right));
@@ -93,25 +102,32 @@ impl Terms {
         true
     }
 
-    /// Function symbol and arguments; None for a made constant or leftover variable.
-    fn apart(&self, term: &Instance) -> Option<(usize, Vec<Instance>)> {
+    /// Head and arguments; None for a made constant or leftover variable.
+    fn apart(&self, term: &Instance) -> Option<(Head, Vec<Instance>)> {
         match term {
             Instance::Text(id) => match &self.spelled[*id] {
                 Spelled::Application(symbol, arguments) => {
-                    Some((*symbol, arguments.iter().map(|&id| Instance::Text(id)).collect()))
+                    let arguments = arguments.iter().map(|&id| Instance::Text(id)).collect();
+                    Some((Head::Function(*symbol), arguments))
                 }
-                _ => None,
+                Spelled::Number(number) => Some((Head::Number(*number), Vec::new())),
+                Spelled::Constant(..) | Spelled::Variable(..) => None,
             },
             Instance::Sheet(node, environment) => {
+                let head = match node.shape {
+                    Shape::Number(number) => Head::Number(number),
+                    _ => Head::Function(node.symbol()?),
+                };
                 let arguments = node.arguments().iter();
                 let arguments = arguments.map(|argument| Instance::new(argument, environment)).collect();
-                Some((node.symbol()?, arguments))
+                Some((head, arguments))
             }
         }
     }
 }
 
-/// A term of a sequent: spelled in the text, or an application on the sheet with text terms for its variables.
+/// A term of a sequent: spelled in the text, or a number or an application on the sheet, with text terms for its
+/// variables.
 enum Instance {
     Text(TermId),
     Sheet(Rc<Node>, Environment<TermId>),
@@ -308,7 +324,7 @@ impl<'a> Checker<'a> {
     }
 
     /// "A term is written as its name and, in round brackets, its arguments parted by commas, a constant as the bare
-    /// name".
+    /// name"; W-204: a number is written in base ten.
     fn term(&mut self, field: &[u8]) -> Option<TermId> {
         // Applications whose closing bracket is still to come, with the arguments read.
         let mut open: Vec<(usize, Vec<TermId>)> = Vec::new();
@@ -320,6 +336,11 @@ impl<'a> Checker<'a> {
                     let (level, after) = digits(after.strip_prefix(b"@")?)?;
                     rest = after;
                     self.numbered(*kind == b'!', number, level)?
+                }
+                b'0'..=b'9' => {
+                    let (number, after) = digits(rest)?;
+                    rest = after;
+                    self.terms.id(Spelled::Number(number))
                 }
                 _ => {
                     let length = rest.iter().take_while(|&&byte| is_name_byte(byte)).count();

@@ -45,6 +45,8 @@ impl VariableSet {
 
 pub enum Shape {
     Variable(u8),
+    /// A number as a term (W-204): neither a symbol nor an application of one.
+    Number(u32),
     /// A function symbol with its arguments.
     Application(usize, Vec<Rc<Node>>),
     /// A predicate with its arguments.
@@ -67,7 +69,8 @@ pub struct Node {
     /// The number of members, if the node is a clause.
     pub members: Option<usize>,
     pub free: VariableSet,
-    /// Variables and symbols of a term, "counted as often as they stand"; 0 for what is no term.
+    /// Variables and symbols of a term, "counted as often as they stand"; a number "counts as one symbol" (W-204). 0 for
+    /// what is no term.
     pub size: usize,
 }
 
@@ -84,7 +87,7 @@ impl Node {
             shape,
         };
         match &node.shape {
-            Shape::Variable(_) => {
+            Shape::Variable(_) | Shape::Number(_) => {
                 node.is_term = true;
                 node.size = 1;
             }
@@ -153,7 +156,7 @@ fn free_variables(shape: &Shape) -> VariableSet {
         Shape::Application(_, arguments) | Shape::Atom(_, arguments) => arguments
             .iter()
             .fold(VariableSet::EMPTY, |set, term| set.and(term.free)),
-        Shape::True => VariableSet::EMPTY,
+        Shape::Number(_) | Shape::True => VariableSet::EMPTY,
         Shape::And(left, right) | Shape::Or(left, right) | Shape::Implies(left, right) => left.free.and(right.free),
         Shape::Some(variable, part) | Shape::Every(variable, part) => part.free.without(*variable),
     }

@@ -1,4 +1,4 @@
-//! Document 01 and the requests of document 02 that have landed (W-201), as a Rust program, written from these
+//! Document 01 and the requests of document 02 that have landed (W-201, W-204), as a Rust program, written from these
 //! documents alone, to judge another program by.
 //!
 //! Everything the search can come back to is persistent: formulas are shared trees, and bindings, levels, open goals,

@@ -1,6 +1,6 @@
 //! The numbers document 01 fixes, each with the paragraph it stands in.
 
-/// "Numbers are in base ten, ... up to 65,535."
+/// "Numbers are in base ten, ... up to 65,535"; W-204: "n from 0 to 65,535".
 pub const LARGEST_NUMBER: u32 = 65_535;
 /// "The sheet": arity 0 to 4.
 pub const LARGEST_ARITY: usize = 4;

@@ -216,7 +216,7 @@ impl Walk<'_> {
                 };
                 return self.try_members(goal, candidates, after);
             }
-            Shape::Variable(_) | Shape::Application(..) => unreachable!("a term is no goal"),
+            Shape::Variable(_) | Shape::Number(_) | Shape::Application(..) => unreachable!("a term is no goal"),
         }))
     }
 

@@ -25,6 +25,7 @@ enum Form<'a> {
         predicate: bool,
     },
     Variable(u8),
+    Number(u32),
     Applied {
         symbol: usize,
         nodes: Vec<usize>,
@@ -70,6 +71,7 @@ fn form(line: &[u8]) -> Option<Form<'_>> {
             predicate: letter == b"P",
         },
         [b"V", v] => Form::Variable(variable(v)?),
+        [b"N", n] => Form::Number(number(n)?),
         [b"A", symbol, ref nodes @ ..] if nodes.len() <= LARGEST_ARITY => Form::Applied {
             symbol: node(symbol)?,
             nodes: nodes.iter().map(|field| node(field)).collect::<Option<_>>()?,
@@ -172,6 +174,7 @@ impl Reader {
     fn shape(&self, form: Form) -> Result<Shape, u32> {
         Ok(match form {
             Form::Variable(variable) => Shape::Variable(variable),
+            Form::Number(number) => Shape::Number(number),
             Form::Applied { symbol: place, nodes } => {
                 let symbol = self.symbols.get(place).ok_or(8u32)?;
                 let arguments = nodes

@@ -61,6 +61,8 @@ impl<T: Copy> Environment<T> {
 #[derive(Clone)]
 pub enum Term {
     Fresh(Fresh),
+    /// A number, which is a term by itself (W-204).
+    Number(u32),
     /// An application on the sheet, read in an environment.
     Application(Rc<Node>, Environment<Fresh>),
 }
@@ -69,6 +71,7 @@ impl Term {
     pub fn new(node: &Rc<Node>, environment: &Environment<Fresh>) -> Term {
         match node.shape {
             Shape::Variable(variable) => Term::Fresh(environment.get(variable)),
+            Shape::Number(number) => Term::Number(number),
             _ => Term::Application(node.clone(), environment.clone()),
         }
     }

@@ -111,6 +111,8 @@ impl Writer<'_> {
                 Rest::Term(term) => match store.look(term) {
                     Term::Fresh(Fresh::Variable(variable)) => self.variable(variable, store.level(variable))?,
                     Term::Fresh(Fresh::Constant(constant)) => self.constant(constant)?,
+                    // W-204: "The text writes it in base ten."
+                    Term::Number(number) => self.put(number.to_string().as_bytes())?,
                     Term::Application(node, environment) => {
                         self.name(&node)?;
                         push_arguments(&mut rest, node.arguments(), &environment);

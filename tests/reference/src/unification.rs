@@ -134,6 +134,8 @@ fn compare(
             }
             Ok(in_range)
         }
+        // W-204: "Two of them match if they are equal, and one never matches an application."
+        (Term::Number(goal), Term::Number(clause)) => Ok(goal == clause),
         (Term::Application(goal, goal_environment), Term::Application(clause, clause_environment)) => {
             let same = goal.symbol() == clause.symbol();
             if same {
@@ -174,6 +176,8 @@ fn range_check(variable: Variable, term: Term, store: &mut Store, units: &mut Un
                     return Ok(false);
                 }
             }
+            // W-204: a number is "of level 0", which no variable is below.
+            Term::Number(_) => {}
             Term::Application(node, environment) => {
                 let arguments = node.arguments().iter().rev();
                 left.extend(arguments.map(|argument| Term::new(argument, &environment)));

@@ -4,7 +4,7 @@ mod common;
 
 use std::collections::{BTreeMap, BTreeSet};
 
-use calls::generate::{changed_case, checks, damaged, respelled_text, sheet};
+use calls::generate::{changed_case, checks, damaged, respelled_text, sheet, FAMILIES};
 use calls::random::Random;
 use common::naive::Judge;
 use reference::{answer, check, check_text, engine_run, Outcome, Refusal, Verdict};
@@ -159,9 +159,9 @@ fn capitals_occur() {
         for term in terms.filter_map(|line| line.get(4..)) {
             let in_term = |byte: &u8| byte.is_ascii_alphanumeric() || b"_!@".contains(byte);
             for name in term.split(|byte| !in_term(byte)).filter(|name| !name.is_empty()) {
-                let symbol = b"_!".contains(&name[0]);
-                assert!(symbol || exact.contains(name), "seed {seed}, {family:?}");
-                written += usize::from(!symbol && name.iter().any(u8::is_ascii_uppercase));
+                let bare = name[0].is_ascii_alphabetic();
+                assert!(!bare || exact.contains(name), "seed {seed}, {family:?}");
+                written += usize::from(bare && name.iter().any(u8::is_ascii_uppercase));
             }
         }
     }
@@ -169,6 +169,65 @@ fn capitals_occur() {
         "{small} sheets in small letters, {capital} with capitals, {again} with a name again; {written} names written"
     );
     assert!(small > SHEETS / 2 && capital > SHEETS / 5 && again > 20 && written > 100);
+}
+
+/// W-204: a third of the sheets have N lines, of each family and with each outcome; numbers are written on every line
+/// that has terms, bare and inside terms.
+#[test]
+fn numbers_occur() {
+    let mut families: BTreeMap<String, u64> = BTreeMap::new();
+    let mut outcomes: BTreeMap<String, u64> = BTreeMap::new();
+    let mut written: BTreeMap<&str, u64> = BTreeMap::new();
+    for seed in 0..SHEETS {
+        let (family, sheet) = sheet(seed);
+        if !sheet.split(|&byte| byte == b'\n').any(|line| line.starts_with(b"N\t")) {
+            continue;
+        }
+        *families.entry(format!("{family:?}")).or_default() += 1;
+        let (outcome, _, text) = answer(&sheet, budget(seed), 65_535);
+        *outcomes.entry(name(outcome)).or_default() += 1;
+        for line in String::from_utf8_lossy(&text).lines() {
+            let fields: Vec<&str> = line.split('\t').collect();
+            let (kind, terms) = match fields[..] {
+                ["B", _, ref terms @ ..] => ("B", terms),
+                ["D", "some", ref terms @ ..] => ("some", terms),
+                ["D", "clause", _, ref terms @ ..] => ("clause", terms),
+                _ => continue,
+            };
+            for term in terms {
+                let starts_with_digit = |part: &str| part.starts_with(|byte: char| byte.is_ascii_digit());
+                if starts_with_digit(term) {
+                    *written.entry(kind).or_default() += 1;
+                } else if term.split(['(', ',']).any(starts_with_digit) {
+                    *written.entry("inside").or_default() += 1;
+                }
+            }
+        }
+    }
+    let sheets: u64 = families.values().sum();
+    println!("{sheets} of {SHEETS} sheets with numbers: {outcomes:?}; terms written: {written:?}");
+    assert!(sheets > SHEETS / 4 && families.len() == FAMILIES.len() && families.values().all(|&count| count > 20));
+    for wanted in [
+        "proved",
+        "no",
+        "spent",
+        "refused 06",
+        "refused 07",
+        "refused 08",
+        "refused 09",
+        "refused 12",
+    ] {
+        assert!(
+            outcomes.get(wanted).is_some_and(|&count| count >= 3),
+            "{wanted} is rare"
+        );
+    }
+    for wanted in ["B", "some", "clause", "inside"] {
+        assert!(
+            written.get(wanted).is_some_and(|&count| count >= 50),
+            "{wanted} is rare"
+        );
+    }
 }
 
 /// W-201: a proof with its names in any mix of cases is valid, and a letter or word in another case breaks its line.

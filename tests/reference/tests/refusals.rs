@@ -130,14 +130,19 @@ const SHEETS: &[(&str, u32, u32)] = &[
 /// The same for several sheets at once: each of the parts, between commas, stands for #.
 const PARTS: &[(&str, &str, u32, u32)] = &[
     // 6: letters and field counts.
-    ("Y; #", ",x,y,YY,Y Y,N 1,O latest,R proved 3,f a 0,#", 6, 2),
-    ("Y; #", "F,F a,F a 0 0,P a,V,V 0 0,A", 6, 2),
+    ("Y; #", ",x,y,YY,Y Y,n 1,O latest,R proved 3,f a 0,#", 6, 2),
+    ("Y; #", "F,F a,F a 0 0,P a,V,V 0 0,N,N 1 2,A", 6, 2),
     ("Y; #", "&,& 0,& 0 0 0,| 0,| 0 0 0,> 0,> 0 0 0", 6, 2),
     ("Y; #", "E 0,E 0 0 0,U 0,U 0 0 0,C,C 0 0,Q,Q 0 0", 6, 2),
     // 6: names.
     ("F # 0", "a,z,a_,a0,a9z_,abcdefghijklmnop", 11, 2),
     // 7: lines of a node.
-    ("NODES; #", "Y,V 0,A 9,& 2000 0,| 0 0,> 0 0,E 0 0,U 0 0", 7, 1_025),
+    (
+        "NODES; #",
+        "Y,V 0,N 0,N 65535,A 9,& 2000 0,| 0 0,> 0 0,E 0 0,U 0 0",
+        7,
+        1_025,
+    ),
     // 9: lines that are neither goal nor clause.
     ("KINDS; #", "& 0 0,& 0 1,& 1 0,& 2 3,& 3 2", 9, 6),
     ("KINDS; #", "| 0 1,| 1 0,| 3 1,| 1 3", 9, 6),
@@ -246,7 +251,7 @@ fn sheets() {
 fn numbers() {
     let (ones, zeros) = ("1".repeat(5_000), "0".repeat(5_000));
     let short = "65536,99999,100000,4294967296,18446744073709551616,00,01,+1,-0,-1,,1x,0x1,1.0, 0";
-    let fields = "Q\t#,C\t#,A\t#,A\t0\t#,&\t#\t0,|\t0\t#,>\t#\t0,E\t0\t#,U\t#\t0,V\t#,F\ta\t#";
+    let fields = "Q\t#,C\t#,A\t#,A\t0\t#,&\t#\t0,|\t0\t#,>\t#\t0,E\t0\t#,U\t#\t0,V\t#,N\t#,F\ta\t#";
     for number in short.split(',').chain([&ones[..], &zeros]) {
         for field in fields.split(',') {
             is(format!("{}\n", field.replace('#', number)).as_bytes(), 6, 1);

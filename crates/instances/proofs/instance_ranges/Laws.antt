@@ -8,12 +8,14 @@ use lib.Dec.{eqb}
 use lib.ListN.{length}
 use borrow.Author.Tests.{eq-eqb, ne-eqb, le-leb, lt-leb}
 use Rattle.node_table.specs.Layout.{nameStart}
+use Rattle.scanning.specs.declared.Number.{Number}
+use Rattle.scanning.specs.declared.Number.the-variants.{Value, Missing}
 use Rattle.scanning.specs.declared.Reach.{Reach}
 use Rattle.scanning.specs.declared.Reach.the-variants.{To, Differs}
-use Rattle.scanning.specs.Ranges.{sameFolded}
+use Rattle.scanning.specs.Ranges.{sameFolded, scanNumber}
 use Rattle.scanning.specs.Scanning.{nameSize}
 use Rattle.scanning.specs.Frames.{slotStart, slotEnd}
-use Rattle.scanning.specs.Instances.{sameSlots, matchRange, matchName, matchSlot, matchInstance, endsAt, isInstance}
+use Rattle.scanning.specs.Instances.{sameSlots, matchRange, matchName, matchNumber, matchSlot, matchInstance, endsAt, isInstance}
 
 -- terms of the text
 
@@ -42,10 +44,29 @@ pub range-long : (n : ℕ) (a : List ℕ) (s : ℕ) (x : List ℕ) (i l : ℕ) �
 unfolding matchRange
 range-long n a s x i l e h = rw (← e, lt-leb n l h)
 
+-- names
+
 pub name-matches : (b t : List ℕ) (k : ℕ) (x : List ℕ) (i n p s : ℕ) (r : Reach) → n ≡ nameSize b t k → p ≡ nameStart t k → s ≡ p
     → r ≡ matchRange n b s x i → r ≡ matchName b t k x i
 unfolding matchName
 name-matches b t k x i n p s r en ep es h = rw (← en, ← ep, ← es) h
+
+-- numbers
+
+module _ (n : ℕ) (x : List ℕ) (i : ℕ) (o : Number) (p : o ≡ scanNumber x i) where
+  pub number-equal : (m e : ℕ) → o ≡ Value m e → m ≡ n → To e ≡ matchNumber n x i
+  unfolding matchNumber
+  number-equal m e q h = rw (matchNumber, ← p, q) (rw (eq-eqb m n h))
+
+  pub number-other : (m e : ℕ) → o ≡ Value m e → (m ≡ n → ⊥) → Differs ≡ matchNumber n x i
+  unfolding matchNumber
+  number-other m e q h = rw (matchNumber, ← p, q) (rw (ne-eqb m n h))
+
+  pub number-none : o ≡ Missing → Differs ≡ matchNumber n x i
+  unfolding matchNumber
+  number-none q = rw (matchNumber, ← p, q)
+
+-- terms of frames
 
 pub slot-matches : (x w : List ℕ) (g v i a s c e n : ℕ) (r : Reach) → a ≡ slotStart w g v → s ≡ a → c ≡ slotEnd w g v → e ≡ c → n ≡ e - s
     → r ≡ matchRange n x s x i → r ≡ matchSlot x w g v i

@@ -11,12 +11,16 @@ use lib.Dec.{eqb, leb, ltb}
 use lib.ListN.{length, getD, set, length-set}
 use lib.Seq.{getD-set-same, getD-set-other}
 use borrow.Author.Tests.{eq-eqb, ne-eqb, eqb-true, eqb-false, ltb-true, ltb-false, lt-ltb, le-ltb}
+use Rattle.sheet_format.specs.Limits.{maxSymbols}
 use Rattle.node_table.specs.Layout.{kindOf, labelOf, variableKind}
+use Rattle.scanning.specs.declared.Number.{Number}
+use Rattle.scanning.specs.declared.Number.the-variants.{Value, Missing}
 use Rattle.scanning.specs.declared.Reach.{Reach}
 use Rattle.scanning.specs.declared.Reach.the-variants.{To, Differs}
-use Rattle.scanning.specs.Ranges.{sameFolded}
-use Rattle.scanning.specs.Instances.{matchRange, matchName, matchSlot, argumentCount, argumentOf, matchMore, matchArguments}
-use Rattle.scanning.specs.Instances.{matchApplication, matchInstance}
+use Rattle.scanning.specs.Ranges.{sameFolded, scanNumber}
+use Rattle.scanning.specs.Instances.{matchRange, matchName, matchNumber, matchFunctor, matchSlot, argumentCount, argumentOf, matchMore}
+use Rattle.scanning.specs.Instances.{matchArguments, matchApplication, matchInstance}
+use Rattle.term_scanner.proofs.Ends.{NumberFrom, number-ends}
 use Rattle.instances.specs.OpenNodes.{opensOf, matchHead, markBefore, matchChildren}
 
 -- Going on from a position that was reached.
@@ -47,13 +51,29 @@ range-forward n a s x i e h = go (leb n (length x - i)) (sameFolded n a s x i) h
     go true false k = absurd (let q : _≡_ {A = ℕ} 0 1 = cc in omega arith)
     go false z k = absurd (let q : _≡_ {A = ℕ} 0 1 = cc in omega arith)
 
-pub head-forward : (b t x w : List ℕ) (g m i e : ℕ) (r : Reach) → r ≡ matchHead b t x w g m i → r ≡ To e → i ≤ e
-unfolding matchHead matchSlot matchName
-head-forward b t x w g m i e r p q = go (eqb (kindOf t m) 0) (sym p ∙ q)
+number-forward : (n : ℕ) (x : List ℕ) (i e : ℕ) → matchNumber n x i ≡ To e → i ≤ e
+unfolding matchNumber
+number-forward n x i e h = go (scanNumber x i) (number-ends x i) h
   where
-    go : (z : Bool) → cond z (matchSlot x w g (labelOf t m) i) (matchName b t (labelOf t m) x i) ≡ To e → i ≤ e
-    go true h = range-forward _ _ _ _ i e h
-    go false h = range-forward _ _ _ _ i e h
+    equal : (m j : ℕ) → i ≤ j → (z : Bool) → cond z (To j) Differs ≡ To e → i ≤ e
+    equal m j l true k = let q : j ≡ e = cc in omega arith
+    equal m j l false k = absurd (let q : _≡_ {A = ℕ} 0 1 = cc in omega arith)
+
+    go : (o : Number) → NumberFrom i o
+        → elim o as (λ z. Reach) [ Value m j ↦ cond (eqb m n) (To j) Differs | Missing ↦ Differs ] ≡ To e → i ≤ e
+    go (Value m j) l k = equal m j l (eqb m n) k
+    go Missing l k = absurd (let q : _≡_ {A = ℕ} 0 1 = cc in omega arith)
+
+pub head-forward : (b t x w : List ℕ) (g m i e : ℕ) (r : Reach) → r ≡ matchHead b t x w g m i → r ≡ To e → i ≤ e
+unfolding matchHead matchSlot matchFunctor matchName
+head-forward b t x w g m i e r p q = go (eqb (kindOf t m) 0) (ltb (labelOf t m) maxSymbols) (sym p ∙ q)
+  where
+    go : (y z : Bool)
+        → cond y (matchSlot x w g (labelOf t m) i)
+        (cond z (matchName b t (labelOf t m) x i) (matchNumber (labelOf t m - maxSymbols) x i)) ≡ To e → i ≤ e
+    go true z h = range-forward _ _ _ _ i e h
+    go false true h = range-forward _ _ _ _ i e h
+    go false false h = number-forward (labelOf t m - maxSymbols) x i e h
 
 -- The children of a node
 
@@ -163,7 +183,7 @@ module _ (b t x w : List ℕ) (g : ℕ) where
         ∙ onward-same (matchMore r (c - v % 8 - 1) t (v / 8) (v % 8 + 1) x 44) (matchNode f (v + 1))
         (λ p. rw (m, j, ← count, z, ne-eqb (v % 8 + 1) 0 (λ o. omega arith))) (r (argumentOf t (v / 8) (v % 8)) (e + 1))
 
-  -- The symbol of a node, and its children if there are any.
+  -- The symbol or number of a node, and its children if there are any.
 
   module _ (f m i : ℕ) (r : Reach) (head : r ≡ matchHead b t x w g m i) where
     pub head-differs : r ≡ Differs → matchInstance (suc f) b t x w g m i ≡ Differs
@@ -173,7 +193,7 @@ module _ (b t x w : List ℕ) (g : ℕ) where
         go : (z : Bool) → eqb (kindOf t m) 0 ≡ z → matchInstance (suc f) b t x w g m i ≡ Differs
         go true q = rw (matchInstance, q) (sym (head ∙ rw q refl) ∙ h)
         go false q =
-            let y : matchName b t (labelOf t m) x i ≡ Differs = sym (head ∙ rw q refl) ∙ h in
+            let y : matchFunctor b t (labelOf t m) x i ≡ Differs = sym (head ∙ rw q refl) ∙ h in
             rw (matchInstance, q, matchApplication, y)
 
     module _ (e o : ℕ) (there : r ≡ To e) (opens : o ≡ opensOf t m) where
@@ -184,7 +204,7 @@ module _ (b t x w : List ℕ) (g : ℕ) where
           go : (y : Bool) → eqb (kindOf t m) 0 ≡ y → (z : Bool) → eqb (argumentCount t m) 0 ≡ z → matchInstance (suc f) b t x w g m i ≡ To e
           go true q z k = rw (matchInstance, q) (sym (head ∙ rw q refl) ∙ there)
           go false q true k =
-              let y : matchName b t (labelOf t m) x i ≡ To e = sym (head ∙ rw q refl) ∙ there in
+              let y : matchFunctor b t (labelOf t m) x i ≡ To e = sym (head ∙ rw q refl) ∙ there in
               rw (matchInstance, q, matchApplication, y, k)
           go false q false k = absurd (let y : 0 ≡ 1 = sym h ∙ opens ∙ rw (q, k) refl in omega arith)
 
@@ -197,7 +217,7 @@ module _ (b t x w : List ℕ) (g : ℕ) where
           go true q z k = absurd (h (opens ∙ rw q refl))
           go false q true k = absurd (h (opens ∙ rw (q, k) refl))
           go false q false k =
-              let y : matchName b t (labelOf t m) x i ≡ To e = sym (head ∙ rw q refl) ∙ there in
+              let y : matchFunctor b t (labelOf t m) x i ≡ To e = sym (head ∙ rw q refl) ∙ there in
               rw (matchInstance, q, matchApplication, y, k)
 
   -- The children of a node that has just been opened.

@@ -11,9 +11,9 @@ use lib.ListN.{length, drop, take}
 use borrow.Author.Tests.{lt-ltb, le-ltb, le-leb, lt-leb, ne-eqb, eqb-true, eqb-false}
 use Rattle.sheet_format.specs.Limits.{maxArity, variableNames}
 use Rattle.sheet_format.specs.Bytes.{fields, isName, number}
-use Rattle.sheet_format.specs.SheetLines.{variableLine, andLine, orLine, impliesLine, someLine, everyLine, SheetLine, declareLine, nodeLine}
-use Rattle.sheet_format.specs.SheetLines.{clauseLine, goalLine, consNumber, numbers, declared, declaration, oneNumber, twoNumbers}
-use Rattle.sheet_format.specs.SheetLines.{withVariable, application}
+use Rattle.sheet_format.specs.SheetLines.{variableLine, numberLine, andLine, orLine, impliesLine, someLine, everyLine, SheetLine}
+use Rattle.sheet_format.specs.SheetLines.{declareLine, nodeLine, clauseLine, goalLine, consNumber, numbers, declared, declaration}
+use Rattle.sheet_format.specs.SheetLines.{oneNumber, twoNumbers, withVariable, application}
 use Rattle.line_parser.specs.declared.fields.Number.the-variants.{Value, Bad}
 use Rattle.line_parser.specs.Fields.{fieldLen, firstField, firstNumber, firstName, nameAnswer}
 use Rattle.line_parser.specs.declared.names.Name.the-variants.{Of, NotAName}
@@ -21,7 +21,7 @@ use Rattle.line_parser.proofs.fields.Laws.{rest-part}
 use Rattle.line_parser.proofs.fields.Fields.{fields-first, fields-last, fields-more, first-bad, first-last, first-more, first-length}
 use Rattle.line_parser.proofs.fields.Fields.{name-absent, name-present}
 use Rattle.line_parser.specs.declared.lines.Nodes.{Nodes}
-use Rattle.line_parser.specs.declared.lines.NodeLine.the-variants.{Variable, Apply, And, Or, Implies, Exists, Forall}
+use Rattle.line_parser.specs.declared.lines.NodeLine.the-variants.{Variable, Numeral, Apply, And, Or, Implies, Exists, Forall}
 use Rattle.line_parser.specs.declared.lines.Line.the-variants.{Declare, Node, Clause, Goal}
 use Rattle.line_parser.specs.declared.lines.One.{One}
 use Rattle.line_parser.specs.declared.lines.One.the-variants.{Only, Refused as RefusedOne}
@@ -59,7 +59,7 @@ two-none l (some (p ∷ [])) r h = refl
 two-none l (some (p ∷ q ∷ [])) r h = let z : _≡_ {A = ℕ} 0 1 = cc in absurd (omega arith)
 two-none l (some (p ∷ q ∷ o ∷ ns)) r h = refl
 
--- C, Q and V
+-- C, Q, N and V
 
 module _ (x : Option (List ℕ)) where
   -- A line that takes one number is malformed where there is not one number.
@@ -76,6 +76,11 @@ module _ (x : Option (List ℕ)) where
   pub goal-is : (n : ℕ) → oneAnswer x ≡ Only n → Goal n ≡ lineAnswer (oneNumber goalLine x)
   unfolding lineAnswer oneNumber
   goal-is n h = rw (one-is x n h)
+
+  -- One number makes the line of a number as a term.
+  pub numeral-is : (n : ℕ) → oneAnswer x ≡ Only n → Node (Numeral n) ≡ lineAnswer (oneNumber (λ m. nodeLine (numberLine m)) x)
+  unfolding lineAnswer nodeAnswer oneNumber
+  numeral-is n h = rw (one-is x n h)
 
   -- A variable line with a variable from 8 on is malformed.
   pub variable-large : (v : ℕ) → oneAnswer x ≡ Only v → variableNames ≤ v

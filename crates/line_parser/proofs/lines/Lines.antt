@@ -11,9 +11,9 @@ use lib.ListN.{length, drop, take, length-take, length-drop}
 use borrow.Author.Tests.{leb-true, eqb-true}
 use Rattle.sheet_format.specs.Limits.{maxArity, maxName}
 use Rattle.sheet_format.specs.Bytes.{tab, fields, isName, number}
-use Rattle.sheet_format.specs.SheetLines.{variableLine, applyLine, trueLine, andLine, orLine, impliesLine, someLine, everyLine, SheetLine}
-use Rattle.sheet_format.specs.SheetLines.{declareLine, nodeLine, clauseLine, goalLine, numbers, declared, declaration, noNumber, oneNumber}
-use Rattle.sheet_format.specs.SheetLines.{twoNumbers, withVariable, application, lineOf, ofFields, parseLine}
+use Rattle.sheet_format.specs.SheetLines.{variableLine, numberLine, applyLine, trueLine, andLine, orLine, impliesLine, someLine, everyLine}
+use Rattle.sheet_format.specs.SheetLines.{SheetLine, declareLine, nodeLine, clauseLine, goalLine, numbers, declared, declaration, noNumber}
+use Rattle.sheet_format.specs.SheetLines.{oneNumber, twoNumbers, withVariable, application, lineOf, ofFields, parseLine}
 use Rattle.sheet_format.proofs.Options.{some-is}
 use Rattle.sheet_format.proofs.Bytes.{name-short, name-length}
 use Rattle.sheet_format.proofs.SheetLines.{FormedLine, parseLine-some}
@@ -46,6 +46,7 @@ Back s o = lineBack s (lineAnswer o) ≡ o
 abbrev Plain : SheetLine → Type 0
 Plain (declareLine k n a) = ⊥
 Plain (nodeLine (variableLine v)) = Unit {0}
+Plain (nodeLine (numberLine n)) = Unit {0}
 Plain (nodeLine (applyLine f ns)) = ⊥
 Plain (nodeLine trueLine) = Unit {0}
 Plain (nodeLine (andLine n m)) = Unit {0}
@@ -94,6 +95,7 @@ module _ (P : Option SheetLine → Type 0) (absent : P none) (plain : (l : Sheet
       cond-holds (eqb c (code "F")) _ _ (h true)
       (cond-holds (eqb c (code "P")) _ _ (h false)
       (cond-holds (eqb c (code "V")) _ _ (one-holds (λ v. nodeLine (variableLine v)) (λ v. tt) (withVariable (numbers fs)))
+      (cond-holds (eqb c (code "N")) _ _ (one-holds (λ n. nodeLine (numberLine n)) (λ n. tt) (numbers fs))
       (cond-holds (eqb c (code "A")) _ _ a
       (cond-holds (eqb c (code "Y")) _ _ (no-holds (nodeLine trueLine) tt (numbers fs))
       (cond-holds (eqb c (code "&")) _ _ (two-holds (λ n m. nodeLine (andLine n m)) (λ n m. tt) (numbers fs))
@@ -102,7 +104,7 @@ module _ (P : Option SheetLine → Type 0) (absent : P none) (plain : (l : Sheet
       (cond-holds (eqb c (code "E")) _ _ (two-holds (λ v n. nodeLine (someLine v n)) (λ v n. tt) (withVariable (numbers fs)))
       (cond-holds (eqb c (code "U")) _ _ (two-holds (λ v n. nodeLine (everyLine v n)) (λ v n. tt) (withVariable (numbers fs)))
       (cond-holds (eqb c (code "C")) _ _ (one-holds clauseLine (λ n. tt) (numbers fs))
-      (cond-holds (eqb c (code "Q")) _ _ (one-holds goalLine (λ n. tt) (numbers fs)) absent)))))))))))
+      (cond-holds (eqb c (code "Q")) _ _ (one-holds goalLine (λ n. tt) (numbers fs)) absent))))))))))))
 
 module _ (s : List ℕ) where
   -- A plain line comes back.
@@ -110,6 +112,7 @@ module _ (s : List ℕ) where
   unfolding lineAnswer nodeAnswer lineBack nodeBack
   plain-back (declareLine k n a) h = absurd h
   plain-back (nodeLine (variableLine v)) h = refl
+  plain-back (nodeLine (numberLine n)) h = refl
   plain-back (nodeLine (applyLine f ns)) h = absurd h
   plain-back (nodeLine trueLine) h = refl
   plain-back (nodeLine (andLine n m)) h = refl

@@ -21,7 +21,7 @@ use Rattle.sheet_format.specs.Sheets.{Taken as SheetTaken, takeLine as sheetLin
 use Rattle.sheet_format.specs.Sheets.{takeNode as sheetNode, takeClause as sheetClause}
 use Rattle.sheet_format.proofs.SheetLines.{FormedNodeLine}
 use Rattle.line_parser.specs.declared.lines.NodeLine.{NodeLine}
-use Rattle.line_parser.specs.declared.lines.NodeLine.the-variants.{Variable, Apply, True, And, Or, Implies, Exists, Forall}
+use Rattle.line_parser.specs.declared.lines.NodeLine.the-variants.{Variable, Numeral, Apply, True, And, Or, Implies, Exists, Forall}
 use Rattle.line_parser.specs.declared.lines.Line.{Line}
 use Rattle.line_parser.specs.declared.lines.Line.the-variants.{Declare, Node, Clause as ClauseLine, Goal as GoalLine}
 use Rattle.line_parser.specs.declared.lines.Line.the-variants.{Refused as RefusedLine}
@@ -34,8 +34,9 @@ use Rattle.table_builder.specs.declared.node_info.Taken.the-variants.{Stop, Las
 use Rattle.table_builder.specs.Nodes.{Made, made, checkGoal}
 use Rattle.table_builder.specs.Symbols.{StandsAt, insertDeclaration}
 use Rattle.table_decoding.specs.Decoding.{tableOf, Decodes, Agrees, Follows}
-use Rattle.table_decoding.proofs.Lines.{follows-variable, follows-true, follows-and, follows-or, follows-implies, follows-exists}
-use Rattle.table_decoding.proofs.Lines.{follows-forall, follows-application, follows-clause, follows-goal, follows-declaration}
+use Rattle.table_decoding.proofs.Lines.{follows-variable, follows-numeral, follows-true, follows-and, follows-or, follows-implies}
+use Rattle.table_decoding.proofs.Lines.{follows-exists, follows-forall, follows-application, follows-clause, follows-goal}
+use Rattle.table_decoding.proofs.Lines.{follows-declaration}
 use Rattle.sheet_reader.specs.Reader.{nodesIn, goalOr, FormedNode, FormedDeclaration, FormedLine, takeNode, takeLine, lineTaken}
 
 -- The bytes from `at` up to `end`.
@@ -76,6 +77,7 @@ named-at s at end n h k i =
 node-formed : (s : List ℕ) (l : NodeLine) → Node l ≡ lineAnswer (parseLine s) → FormedNodeLine (nodeBack l) → FormedNode l
 unfolding FormedNode nodeBack
 node-formed s (Variable v) e h = h
+node-formed s (Numeral n) e h = h
 node-formed s (Apply f ns) e h = apply-count s f ns e
 node-formed s True e h = tt
 node-formed s (And n m) e h = tt
@@ -234,6 +236,7 @@ module _ (bytes t : List ℕ) (k : Counts) (h : Decodes bytes t k) where
       → Follows bytes t k (takeNode t k l) (sheetLine sameName (tableOf bytes t k) (some (nodeLine (nodeBack l))))
   unfolding takeNode nodeBack nodeList FormedNode
   node-follows (Variable v) f g = follows-variable bytes t k h v f
+  node-follows (Numeral n) f g = follows-numeral bytes t k h n
   node-follows (Apply f ns) p g = follows-application bytes t k h f (ns .count) (ns .a) (ns .b) (ns .c) (ns .d) g
   node-follows True f g = follows-true bytes t k h
   node-follows (And n m) f g = follows-and bytes t k h n m
@@ -271,7 +274,8 @@ module _ (bytes t : List ℕ) (k : Counts) (h : Decodes bytes t k) where
     answer-follows (RefusedLine n) e = rw (refused-number (parseLine (between bytes at end)) n e) malformed-follows
 
     -- The line as it is read is answered as document 01's definitions say.
-    pub line-follows : Follows bytes t k (lineTaken bytes t k at end) (sheetLine sameName (tableOf bytes t k) (parseLine (between bytes at end)))
+    pub line-follows : Follows bytes t k (lineTaken bytes t k at end)
+        (sheetLine sameName (tableOf bytes t k) (parseLine (between bytes at end)))
     unfolding lineTaken
     line-follows =
         let r = lineAnswer (parseLine (between bytes at end)) in

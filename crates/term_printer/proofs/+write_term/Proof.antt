@@ -1,5 +1,5 @@
 use Prim.Native.Nat.{_+_, _-_, _<_, _≤_, ℕ}
-use Rattle.term_printer.proofs.PositionsRise.{emit-after, name-after, term-after}
+use Rattle.term_printer.proofs.PositionsRise.{emit-after, functor-after, term-after}
 use Rattle.term_printer.proofs.Laws.{
   arguments-end,
   arguments-first,
@@ -47,7 +47,7 @@ use Rattle.machine_memory.proofs.words.word_of.Reads as word-of-reads
 use Rattle.machine_memory.proofs.words.deref.Reads as deref-reads
 use Rattle.term_printer.proofs.cursor.write_constant_in.Reads as write-constant-in-reads
 use Rattle.term_printer.proofs.cursor.emit_in.Reads as emit-in-reads
-use Rattle.term_printer.proofs.cursor.write_name_in.Reads as write-name-in-reads
+use Rattle.term_printer.proofs.cursor.write_functor_in.Reads as write-functor-in-reads
 use Rattle.term_printer.proofs.cursor.lower.Reads as lower-reads
 use Rattle.term_printer.proofs.cursor.put_limit.Reads as put-limit-reads
 use Rattle.term_printer.proofs.cursor.separator.Reads as separator-reads
@@ -83,8 +83,8 @@ claims t = (
   node-of-reads.Learnt,
   label-reads.Asked,
   label-reads.Learnt,
-  write-name-in-reads.Asked,
-  write-name-in-reads.Learnt,
+  write-functor-in-reads.Asked,
+  write-functor-in-reads.Learnt,
   child-count-reads.Asked,
   child-count-reads.Learnt,
   frame-of-reads.Asked,
@@ -150,16 +150,16 @@ returns-4 t c =
 returns-5 : (t : ℕ) → lts.Need-returns-5 (claims t) (at t) own.Post Inv-loop μ-loop
 returns-5 t c =
     let at-point = c .before .before .before .before .before in
-    let at-write-name-in = at-point in
-    let at-node-of = at-write-name-in .before .before .before .before .before .before .before in
+    let at-write-functor-in = at-point in
+    let at-node-of = at-write-functor-in .before .before .before .before .before .before .before in
     let at-deref = at-node-of .before .before .before .before in
     let at-if1 = at-deref .before .before .before .before .before .before in (
       term-bare _ _ _ _ _ _ _ _ _ _ _ (at-if1 .if1 .left) (within _ (at-deref .before .before .before .if2 .left))
           (sought _ _ _ _ (at-deref .deref .ensures)) (at-node-of .before .before .before .tag-of .ensures) _ _ _ _
           (at-node-of .before .before .if3 .left) (at-node-of .before .if4 .left) (at-node-of .node-of .ensures)
-          (at-write-name-in .before .label .ensures) (at-write-name-in .write-name-in .ensures .0 _) (c .before .child-count .ensures)
+          (at-write-functor-in .before .label .ensures) (at-write-functor-in .write-functor-in .ensures .0 _) (c .before .child-count .ensures)
           (c .if5 .taken),
-      at-write-name-in .write-name-in .ensures .1,
+      at-write-functor-in .write-functor-in .ensures .1,
     )
 
 loop-holds : (t : ℕ) → lts.Need-loop-holds (claims t) (at t) own.Post Inv-loop μ-loop
@@ -167,9 +167,9 @@ loop-holds t c = (search needs, search needs, search needs, refl, arguments-firs
 
 sub-limit : (t : ℕ) → lts.Need-sub-limit (claims t) (at t) own.Post Inv-loop μ-loop
 sub-limit t c =
-    let at-write-name-in = c .before .before .before .before .before .before in
+    let at-write-functor-in = c .before .before .before .before .before .before in
     let at-if1 =
-    at-write-name-in .before .before .before .before .before .before .before .before .before .before .before .before .before .before
+    at-write-functor-in .before .before .before .before .before .before .before .before .before .before .before .before .before .before
     .before .before .before in
     omega (arith, at-if1 .if1 .left)
 
@@ -178,16 +178,16 @@ write-term-requires t c κs =
     let at-emit-in = c .before .before .before .before .before .before .before .before .before .before in
     let at-loop = at-emit-in .before .before .before .before .before in
     let at-put-limit = at-loop .before in
-    let at-write-name-in = at-put-limit .before .before .before .before .before .before .before .before .before in
+    let at-write-functor-in = at-put-limit .before .before .before .before .before .before .before .before .before in
     let at-if1 =
-    at-write-name-in .before .before .before .before .before .before .before .before .before .before .before .before .before .before
+    at-write-functor-in .before .before .before .before .before .before .before .before .before .before .before .before .before .before
     .before .before .before in
     let start = at-if1 .before .before .before in
-    let bounds = at-loop .loop .inv .3 ∙ lowered _ _ _ (at-write-name-in .write-name-in .ensures .1) (start .pre .1 .1) _ _
+    let bounds = at-loop .loop .inv .3 ∙ lowered _ _ _ (at-write-functor-in .write-functor-in .ensures .1) (start .pre .1 .1) _ _
     (at-put-limit .before .lower .ensures) (at-put-limit .put-limit .ensures .1) in (
       less _ _ (at-emit-in .emit-in .ensures .1 ∙ bounds) _ _ _ _ (start .pre .0) (at-if1 .if1 .left)
-          (le-trans (kept-at _ _ _ (at-put-limit .put-limit .ensures .0) (name-after _ (start .pre .1 .0) _ _ _ _ _
-          (at-write-name-in .write-name-in .ensures .0 (start .args .w .now))))
+          (le-trans (kept-at _ _ _ (at-put-limit .put-limit .ensures .0) (functor-after _ (start .pre .1 .0) _ _ _ _ _
+          (at-write-functor-in .write-functor-in .ensures .0 (start .args .w .now))))
           (le-trans (at-loop .loop .inv .2) (emit-after _ (small-lowered _ _ bounds (start .pre .1 .0)) _ _ _
           (at-emit-in .emit-in .ensures .0 (at-loop .loop .w))))),
       (
@@ -203,11 +203,11 @@ loop-again t c =
     let at-emit-in = at-word-of .before .before .before .before .before .before .before in
     let at-loop-test = at-emit-in .before .before .before .before in
     let at-put-limit = at-loop-test .before .before in
-    let at-write-name-in = at-put-limit .before .before .before .before .before .before .before .before .before in
-    let start = at-write-name-in .before .before .before .before .before .before .before .before .before .before .before .before
+    let at-write-functor-in = at-put-limit .before .before .before .before .before .before .before .before .before in
+    let start = at-write-functor-in .before .before .before .before .before .before .before .before .before .before .before .before
     .before .before .before .before .before .before .before .before in
     let small = small-lowered _ _ (at-loop-test .before .loop .inv .3
-    ∙ lowered _ _ _ (at-write-name-in .write-name-in .ensures .1) (start .pre .1 .1) _ _ (at-put-limit .before .lower .ensures)
+    ∙ lowered _ _ _ (at-write-functor-in .write-functor-in .ensures .1) (start .pre .1 .1) _ _ (at-put-limit .before .lower .ensures)
     (at-put-limit .put-limit .ensures .1)) (start .pre .1 .0) in (
       at-write-term .write-term .kept .1 .1 .1 .0 ∙ at-loop-test .before .loop .inv .0,
       at-write-term .write-term .kept .1 .1 .1 .1 .0
@@ -231,8 +231,8 @@ same-length-7 t c = c .before .before .before .before .before .before .before .b
 same-length-8 : (t : ℕ) → lts.Need-same-length-8 (claims t) (at t) own.Post Inv-loop μ-loop
 same-length-8 t c =
     let at-loop = c .before .before .before .before .before .before .before .before in
-    let at-write-name-in = at-loop .before .before .before .before .before .before .before .before .before .before in
-    c .before .before .emit-in2 .kept .0 ∙ at-loop .loop .inv .1 ∙ at-write-name-in .write-name-in .kept .1 .1 .0
+    let at-write-functor-in = at-loop .before .before .before .before .before .before .before .before .before .before in
+    c .before .before .emit-in2 .kept .0 ∙ at-loop .loop .inv .1 ∙ at-write-functor-in .write-functor-in .kept .1 .1 .0
 
 returns-6 : (t : ℕ) → lts.Need-returns-6 (claims t) (at t) own.Post Inv-loop μ-loop
 returns-6 t c =
@@ -241,12 +241,12 @@ returns-6 t c =
     let at-put-limit = at-loop-test .before .before in
     let at-frame-of = at-put-limit .before .before .before in
     let at-child-count = at-frame-of .before .before in
-    let at-write-name-in = at-child-count .before .before .before .before in
-    let at-node-of = at-write-name-in .before .before .before .before .before .before .before in
+    let at-write-functor-in = at-child-count .before .before .before .before in
+    let at-node-of = at-write-functor-in .before .before .before .before .before .before .before in
     let at-deref = at-node-of .before .before .before .before in
     let at-if1 = at-deref .before .before .before .before .before .before in
     let start = at-if1 .before .before .before in
-    let bounds = lowered _ _ _ (at-write-name-in .write-name-in .ensures .1) (start .pre .1 .1) _ _ (at-put-limit .before .lower .ensures)
+    let bounds = lowered _ _ _ (at-write-functor-in .write-functor-in .ensures .1) (start .pre .1 .1) _ _ (at-put-limit .before .lower .ensures)
     (at-put-limit .put-limit .ensures .1) in
     let back = raised _ _ _ _ (start .pre .1 .1) (at-loop-test .before .loop .inv .3 ∙ bounds) (at-put-limit2 .put-limit2 .ensures .1) in (
       closed _ _ bounds _ _ _ _ _ _ _ _ _ _ _ _ _ _ _ _ _ (at-put-limit .put-limit .ensures .0) (at-loop-test .before .loop .inv .4)
@@ -255,7 +255,7 @@ returns-6 t c =
           ∙ sym (term-applied _ _ _ _ _ _ _ _ _ _ _ (at-if1 .if1 .left) (within _ (at-deref .before .before .before .if2 .left))
           (sought _ _ _ _ (at-deref .deref .ensures)) (at-node-of .before .before .before .tag-of .ensures) _ _ _ _ _
           (at-node-of .before .before .if3 .left) (at-node-of .before .if4 .left) (at-node-of .node-of .ensures)
-          (at-write-name-in .before .label .ensures) (at-write-name-in .write-name-in .ensures .0 _) (at-child-count .child-count .ensures)
+          (at-write-functor-in .before .label .ensures) (at-write-functor-in .write-functor-in .ensures .0 _) (at-child-count .child-count .ensures)
           (at-frame-of .before .if5 .left) (at-frame-of .frame-of .ensures)),
       c .before .before .emit-in2 .ensures .1 ∙ back,
     )

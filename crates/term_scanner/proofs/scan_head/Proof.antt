@@ -1,6 +1,6 @@
 use borrow.Author.Needs.{needs}
 use native.Mathlib.Omega.{arith}
-use Rattle.term_scanner.proofs.Laws.{sigil-inside, head-leaf, head-no-leaf, head-open, head-unknown}
+use Rattle.term_scanner.proofs.Laws.{sigil-inside, head-sigil, head-numeral, head-open, head-unknown}
 use Rattle.term_scanner.proofs.scan_head.Statement.{statement}
 use Rattle.term_scanner.proofs.scan_head.Tie as tie
 
@@ -14,36 +14,39 @@ add-scan-symbol c =
 
 returns : tie.Need-returns
 returns c =
-    let at-if1 = c .before .before .before in
-    head-no-leaf _ _ _ _ _ _ _ (at-if1 .before .before .byte .ensures) (at-if1 .before .is-sigil .ensures) _ (at-if1 .if1 .taken)
-    (c .before .before .scan-symbol .ensures) (c .enum-told .given .1)
+    let at-if1 = c .before .before in
+    head-sigil _ _ _ _ _ _ _ (at-if1 .before .before .byte .ensures) (at-if1 .before .is-sigil .ensures) _ _ (at-if1 .if1 .taken)
+    (c .before .scan-symbol .ensures) (c .leaf-of .ensures)
 
 returns-2 : tie.Need-returns-2
 returns-2 c =
-    let at-scan-symbol = c .before .before .before in
-    let at-if1 = at-scan-symbol .before in
-    head-leaf _ _ _ _ _ _ _ (at-if1 .before .before .byte .ensures) (at-if1 .before .is-sigil .ensures) _ _ _ (at-if1 .if1 .taken)
-    (at-scan-symbol .scan-symbol .ensures) (c .before .e .given .1)
+    let at-if2 = c .before .before in
+    let at-if1 = at-if2 .before .before in
+    head-numeral _ _ _ _ _ _ _ (at-if1 .before .before .byte .ensures) (at-if1 .before .is-sigil .ensures) (at-if1 .if1 .left) _
+    (at-if2 .before .is-digit .ensures) _ _ (at-if2 .if2 .taken) (c .before .scan-numeral .ensures) (c .leaf-of2 .ensures)
 
 returns-3 : tie.Need-returns-3
 returns-3 c =
     let at-is-applied = c .before .before .before in
-    let at-if1 = at-is-applied .before .before .before in
-    head-open _ _ _ _ _ _ _ (at-if1 .before .before .byte .ensures) (at-if1 .before .is-sigil .ensures) (at-if1 .if1 .left) _ _
-    (at-is-applied .before .before .name-end .ensures) (at-is-applied .before .symbol-from .ensures) _
-    (at-is-applied .is-applied .ensures) _ _ (c .before .before .if2 .taken) (c .before .arity .ensures) (c .scan-open .ensures)
+    let at-if2 = at-is-applied .before .before .before in
+    let at-if1 = at-if2 .before .before in
+    head-open _ _ _ _ _ _ _ (at-if1 .before .before .byte .ensures) (at-if1 .before .is-sigil .ensures) (at-if1 .if1 .left) _
+    (at-if2 .before .is-digit .ensures) (at-if2 .if2 .left) _ _ (at-is-applied .before .before .name-end .ensures)
+    (at-is-applied .before .symbol-from .ensures) _ (at-is-applied .is-applied .ensures) _ _ (c .before .before .if3 .taken)
+    (c .before .arity .ensures) (c .scan-open .ensures)
 
 returns-4 : tie.Need-returns-4
 returns-4 c =
     let at-is-applied = c .before in
-    let at-if1 = at-is-applied .before .before .before in
-    head-unknown _ _ _ _ _ _ _ (at-if1 .before .before .byte .ensures) (at-if1 .before .is-sigil .ensures) (at-if1 .if1 .left) _ _
-    (at-is-applied .before .before .name-end .ensures) (at-is-applied .before .symbol-from .ensures) _
-    (at-is-applied .is-applied .ensures) (c .if2 .left)
+    let at-if2 = at-is-applied .before .before .before in
+    let at-if1 = at-if2 .before .before in
+    head-unknown _ _ _ _ _ _ _ (at-if1 .before .before .byte .ensures) (at-if1 .before .is-sigil .ensures) (at-if1 .if1 .left) _
+    (at-if2 .before .is-digit .ensures) (at-if2 .if2 .left) _ _ (at-is-applied .before .before .name-end .ensures)
+    (at-is-applied .before .symbol-from .ensures) _ (at-is-applied .is-applied .ensures) (c .if3 .left)
 
 pub scan-head-spec : {M : Type 1} → statement M
 scan-head-spec =
     tie.close
-    (tie.spec (λ c κs. search needs) (λ c κs. search needs) add-scan-symbol (λ c κs. search needs) (λ c. search needs)
-    (λ c. search needs) returns returns-2 (λ c κs. search needs) (λ c κs. search needs) (λ c κs. search needs)
-    (λ c κs. search needs) (λ c κs. search needs) returns-3 returns-4)
+    (tie.spec (λ c κs. search needs) (λ c κs. search needs) add-scan-symbol (λ c κs. search needs) (λ c κs. search needs) returns
+    (λ c κs. search needs) (λ c κs. search needs) (λ c κs. search needs) returns-2 (λ c κs. search needs) (λ c κs. search needs)
+    (λ c κs. search needs) (λ c κs. search needs) (λ c κs. search needs) returns-3 returns-4)

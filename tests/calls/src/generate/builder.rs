@@ -56,6 +56,10 @@ impl Builder {
         self.node(format!("V {variable}"))
     }
 
+    pub fn number(&mut self, number: u32) -> usize {
+        self.node(format!("N {number}"))
+    }
+
     pub fn apply(&mut self, symbol: usize, arguments: &[usize]) -> usize {
         let arguments: String = arguments.iter().map(|node| format!(" {node}")).collect();
         self.node(format!("A {symbol}{arguments}"))

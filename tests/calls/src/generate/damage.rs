@@ -9,7 +9,7 @@ pub fn damaged(bytes: &[u8], random: &mut Random) -> Vec<u8> {
     }
     let mut changed = bytes.to_vec();
     let at = random.below(bytes.len());
-    let some_byte = |random: &mut Random| *random.pick(b"\t\n 0123456789abfgp_!@(),&|>EUVAYCQFPRBD\r\0\xff");
+    let some_byte = |random: &mut Random| *random.pick(b"\t\n 0123456789abfgp_!@(),&|>EUVNAYCQFPRBD\r\0\xff");
     match random.below(10) {
         0 => changed[at] = some_byte(random),
         1 => {
@@ -45,9 +45,9 @@ pub fn damaged(bytes: &[u8], random: &mut Random) -> Vec<u8> {
 
 /// Bytes without a plan: any at all, or lines of letters, numbers, names and tabs in any order.
 pub fn noise(random: &mut Random) -> Vec<u8> {
-    const PIECES: [&str; 42] = [
-        "F", "P", "V", "A", "Y", "&", "|", ">", "E", "U", "C", "Q", "R", "B", "D", "\t", "\t", "\t", "\t", "\n", "\n",
-        "\n", "0", "1", "2", "3", "10", "65535", "65536", "a", "p", "f", "_0@0", "!0@1", "(", ")", ",", "proved",
+    const PIECES: [&str; 43] = [
+        "F", "P", "V", "N", "A", "Y", "&", "|", ">", "E", "U", "C", "Q", "R", "B", "D", "\t", "\t", "\t", "\t", "\n",
+        "\n", "\n", "0", "1", "2", "3", "10", "65535", "65536", "a", "p", "f", "_0@0", "!0@1", "(", ")", ",", "proved",
         "clause", "some", "Pp", "SOME",
     ];
     let most = if random.one_in(50) { 20_000 } else { 120 };
@@ -61,8 +61,8 @@ pub fn noise(random: &mut Random) -> Vec<u8> {
 
 /// A line of a right form with small numbers: what it names may not be there.
 fn line_of_any_form(random: &mut Random) -> Vec<u8> {
-    const FORMS: [&str; 16] = [
-        "F f# n", "P p# n", "F a# 0", "V n", "A n", "A n n", "A n n n", "Y", "& # #", "| # #", "> # #", "E n #",
+    const FORMS: [&str; 17] = [
+        "F f# n", "P p# n", "F a# 0", "V n", "N #", "A n", "A n n", "A n n n", "Y", "& # #", "| # #", "> # #", "E n #",
         "U n #", "C #", "F A# 0", "P P# n",
     ];
     let form = if random.one_in(12) { "Q #" } else { *random.pick(&FORMS) };

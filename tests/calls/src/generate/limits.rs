@@ -4,6 +4,7 @@ use reference::limits::{SHEET_BYTES, TEXT_BYTES};
 use reference::{answer, Outcome};
 
 use super::builder::Builder;
+use super::numbers::some_number;
 use crate::random::Random;
 
 pub fn limits(random: &mut Random) -> Vec<u8> {
@@ -13,7 +14,7 @@ pub fn limits(random: &mut Random) -> Vec<u8> {
         1 => nodes(past, random),
         2 | 3 => clauses(past),
         4..=6 => members(past, random),
-        7..=9 => term_size(past),
+        7..=9 => term_size(past, random),
         10..=14 => forms(random),
         15..=18 => ends(past, random),
         19 => sheet_bytes(past),
@@ -35,12 +36,20 @@ fn symbols(past: usize, random: &mut Random) -> Vec<u8> {
     builder.goal(atom)
 }
 
+/// 1,024 or 1,025 nodes: true, or numbers and true.
 fn nodes(past: usize, random: &mut Random) -> Vec<u8> {
     let mut builder = Builder::new(false);
-    for _ in 0..1_024 + past {
-        builder.truth();
+    let numbers = random.one_in(2);
+    let mut goals = vec![builder.truth()];
+    for _ in 1..1_024 + past {
+        if numbers && random.one_in(2) {
+            builder.number(some_number(random));
+        } else {
+            goals.push(builder.truth());
+        }
     }
-    builder.goal(random.below(1_024))
+    goals.retain(|&goal| goal < 1_024);
+    builder.goal(*random.pick(&goals))
 }
 
 fn clauses(past: usize) -> Vec<u8> {
@@ -78,12 +87,16 @@ fn members(past: usize, random: &mut Random) -> Vec<u8> {
     }
 }
 
-/// A term of 1,024 or 1,025 variables and symbols.
-fn term_size(past: usize) -> Vec<u8> {
+/// A term of 1,024 or 1,025 variables, numbers and symbols.
+fn term_size(past: usize, random: &mut Random) -> Vec<u8> {
     let mut builder = Builder::new(false);
     let g = builder.function("g", 2);
     let s = builder.function("s", 1);
-    let mut term = builder.variable(0);
+    let mut term = if random.one_in(2) {
+        builder.variable(0)
+    } else {
+        builder.number(some_number(random))
+    };
     for _ in 0..9 {
         term = builder.apply(g, &[term, term]);
     }
@@ -100,7 +113,7 @@ fn term_size(past: usize) -> Vec<u8> {
 /// Names, numbers, arities, variables and field counts at the edge of their forms.
 fn forms(random: &mut Random) -> Vec<u8> {
     let long = |length: usize| "n".repeat(length);
-    let edge = match random.below(12) {
+    let edge = match random.below(15) {
         0 => format!("F {} 4", long(16 + random.below(2))),
         1 => format!("P {} 0", long(16 + random.below(2))),
         2 => format!("F m {}", 4 + random.below(2)),
@@ -112,6 +125,9 @@ fn forms(random: &mut Random) -> Vec<u8> {
         8 => format!("C {}", 65_535 + random.below(2)),
         9 => format!("A 0{}", " 0".repeat(4 + random.below(2))),
         10 => format!("> {}1 1", "0".repeat(random.below(2))),
+        11 => format!("N {}", 65_535 + random.below(2)),
+        12 => format!("N {}7", "0".repeat(random.below(2))),
+        13 => format!("N{}", " 7".repeat(random.below(3))),
         _ => format!("F {}m 0", random.pick(&["", "_", "9", "z"])),
     };
     let mut builder = Builder::new(false);

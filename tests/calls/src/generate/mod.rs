@@ -9,6 +9,7 @@ mod formulas;
 mod language;
 mod levels;
 mod limits;
+mod numbers;
 mod prefixes;
 mod special;
 mod symbols;
@@ -23,6 +24,7 @@ pub use texts::changed_text;
 
 use crate::random::Random;
 use capitals::with_capitals;
+use numbers::with_numbers;
 
 #[derive(Clone, Copy, PartialEq, Eq, Debug, PartialOrd, Ord)]
 pub enum Family {
@@ -54,13 +56,15 @@ pub enum Family {
     Recursion,
     /// Searches that grow their program.
     Growth,
+    /// Facts and goals over a few numbers.
+    Channels,
     /// Sheets at a limit or one past it.
     Limits,
     /// Any other sheet with some bytes or lines changed.
     Damaged,
 }
 
-pub const FAMILIES: [Family; 16] = [
+pub const FAMILIES: [Family; 17] = [
     Family::Formulas,
     Family::Shadowing,
     Family::Sharing,
@@ -75,15 +79,20 @@ pub const FAMILIES: [Family; 16] = [
     Family::Terms,
     Family::Recursion,
     Family::Growth,
+    Family::Channels,
     Family::Limits,
     Family::Damaged,
 ];
 
-/// The sheet of a seed; the families take turns. A third of the sheets have capitals in their names, and longer names,
-/// but for the sheets at a limit, where the length of a name counts.
+/// The sheet of a seed; the families take turns. A third of the sheets have N lines, and a third capitals in their names,
+/// and longer names. Sheets at a limit, where the length of a line counts, have no longer names, and some have N lines of
+/// their own.
 pub fn sheet(seed: u64) -> (Family, Vec<u8>) {
     let family = FAMILIES[(seed % FAMILIES.len() as u64) as usize];
-    let sheet = of_family(family, &mut Random::new(seed));
+    let mut sheet = of_family(family, &mut Random::new(seed));
+    if !matches!(family, Family::Channels | Family::Limits) {
+        sheet = with_numbers(sheet, &mut Random::new(seed ^ 0x204));
+    }
     let random = &mut Random::new(seed ^ 0xCA9);
     let ending = match family {
         Family::Limits => "",
@@ -108,6 +117,7 @@ pub fn of_family(family: Family, random: &mut Random) -> Vec<u8> {
         Family::Terms => terms::terms(random),
         Family::Recursion => terms::recursion(random),
         Family::Growth => terms::growth(random),
+        Family::Channels => numbers::channels(random),
         Family::Limits => limits::limits(random),
         Family::Damaged => {
             let other = FAMILIES[random.below(FAMILIES.len() - 1)];

@@ -34,7 +34,7 @@ fn deep(depth: usize, random: &mut Random) -> (Vec<u8>, Vec<u8>) {
         1 => depth.saturating_sub(1),
         _ => depth,
     };
-    let leaf = *random.pick(&["a", "_0@0", "!0@0", "_0@1", "b", ""]);
+    let leaf = *random.pick(&["a", "_0@0", "!0@0", "_0@1", "b", "", "0", "65535", "65536", "07"]);
     let term = format!("{}{leaf}{}", "s(".repeat(depth), ")".repeat(closing));
     (
         bytes("F s 1; F a 0; Y; E 0 0; Q 1"),
@@ -157,17 +157,23 @@ fn leveled(rounds: usize, random: &mut Random) -> (Vec<u8>, Vec<u8>) {
     )
 }
 
-/// p if (q(v) implies p), so often used with any term for v; then q(v) from one of the assumptions.
+/// p if (q(v) implies p), so often used with any term for v; then q(a), or q(7), from one of the assumptions.
 fn assumed(rounds: usize, random: &mut Random) -> (Vec<u8>, Vec<u8>) {
-    let sheet = "P p 0; P q 1; F a 0; F b 0; V 0; A 1 0; A 0; > 1 2; > 3 2; U 0 4; C 5; A 2; A 1 6; > 7 2; C 8; Q 2";
+    let (wanted, terms) = if random.one_in(2) {
+        ("A 2", ["b", "b", "b", "2", "a"])
+    } else {
+        ("N 7", ["8", "263", "b", "65535", "7"])
+    };
+    let rules = "P p 0; P q 1; F a 0; F b 0; V 0; A 1 0; A 0; > 1 2; > 3 2; U 0 4; C 5";
+    let sheet = format!("{rules}; {wanted}; A 1 6; > 7 2; C 8; Q 2");
     let mut text = String::from("R proved 1");
     for round in 0..rounds {
-        let term = *random.pick(&["b", "b", "b", "b", "a"]);
+        let term = *random.pick(&terms);
         text.push_str(&format!("; D clause {} {term}; D assume", round + 1));
     }
     let last = 1 + random.below(rounds + 1);
     (
-        bytes(sheet),
+        bytes(&sheet),
         bytes(&format!("{text}; D clause {}; D clause {last}", rounds + 2)),
     )
 }

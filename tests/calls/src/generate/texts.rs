@@ -2,12 +2,13 @@
 
 use super::capitals::{changed_case, respelled_text, shifted_name};
 use super::damage::damaged;
+use super::numbers::{changed_number, some_number};
 use super::symbols::{joined, pieces, renumbered, replaced, symbols, Piece, Symbol};
 use crate::random::Random;
 
 /// A proof's text with something changed, often so that it is still right.
 pub fn changed_text(sheet: &[u8], text: &[u8], random: &mut Random) -> Vec<u8> {
-    match random.below(25) {
+    match random.below(28) {
         0..=2 => damaged(text, random),
         3..=10 => changed_symbols(sheet, text, random),
         11 => first_line(text, random),
@@ -18,7 +19,8 @@ pub fn changed_text(sheet: &[u8], text: &[u8], random: &mut Random) -> Vec<u8> {
         18 | 19 => changed_name(sheet, text, random),
         20..=22 => respelled_text(text, random),
         23 => shifted_name(text, random),
-        _ => changed_case(text, random),
+        24 => changed_case(text, random),
+        _ => changed_number(sheet, text, random),
     }
 }
 
@@ -93,29 +95,30 @@ fn changed_symbols(sheet: &[u8], text: &[u8], random: &mut Random) -> Vec<u8> {
     joined(&changed)
 }
 
-/// A term over the sheet's functions, a new symbol, or one that the text has.
+/// A term over the sheet's functions, a number, a new symbol, or one that the text has.
 fn some_term(sheet: &[u8], replaced: Symbol, other: Symbol, random: &mut Random) -> Vec<Piece> {
-    let leaf = match random.below(3) {
-        0 => other,
-        1 => Symbol {
+    let leaf = match random.below(4) {
+        0 => Piece::Symbol(other),
+        1 => Piece::Symbol(Symbol {
             number: 60_000,
             ..replaced
-        },
-        _ => Symbol {
+        }),
+        2 => Piece::Symbol(Symbol {
             made: true,
             number: 60_001,
             level: random.below(replaced.level as usize + 1) as u32,
-        },
+        }),
+        _ => Piece::Bytes(some_number(random).to_string().into_bytes()),
     };
     let functions = functions(sheet);
     if functions.is_empty() || random.one_in(3) {
-        return vec![Piece::Symbol(leaf)];
+        return vec![leaf];
     }
     let (name, arity) = random.pick(&functions).clone();
     let mut term = vec![Piece::Bytes(name)];
     for place in 0..arity {
         term.push(Piece::Bytes(if place == 0 { b"(".to_vec() } else { b",".to_vec() }));
-        term.push(Piece::Symbol(leaf));
+        term.push(leaf.clone());
     }
     if arity > 0 {
         term.push(Piece::Bytes(b")".to_vec()));
@@ -129,7 +132,7 @@ fn functions(sheet: &[u8]) -> Vec<(Vec<u8>, usize)> {
 }
 
 /// Names and arities of the lines that declare symbols with one of these letters.
-fn declared(sheet: &[u8], letters: &[&str]) -> Vec<(Vec<u8>, usize)> {
+pub fn declared(sheet: &[u8], letters: &[&str]) -> Vec<(Vec<u8>, usize)> {
     let mut declared = Vec::new();
     for line in sheet.split(|&byte| byte == b'\n') {
         let fields: Vec<&[u8]> = line.split(|&byte| byte == b'\t').collect();
@@ -273,7 +276,8 @@ fn exchanged_fields(text: &[u8], random: &mut Random) -> Vec<u8> {
     changed
 }
 
-/// A name exchanged for another of the sheet's, predicates among them, or with empty brackets.
+/// A name exchanged for another of the sheet's, predicates among them, for a number, which may be its symbol's own, or
+/// with empty brackets.
 fn changed_name(sheet: &[u8], text: &[u8], random: &mut Random) -> Vec<u8> {
     let names = declared(sheet, &["F", "P"]);
     let starts: Vec<usize> = (1..text.len())
@@ -285,8 +289,11 @@ fn changed_name(sheet: &[u8], text: &[u8], random: &mut Random) -> Vec<u8> {
     let start = *random.pick(&starts);
     let name_byte = |byte: &&u8| byte.is_ascii_alphanumeric() || **byte == b'_';
     let end = start + text[start..].iter().take_while(name_byte).count();
-    let name = match random.below(4) {
-        0 => [&text[start..end], b"()"].concat(),
+    let own = names.iter().position(|(name, _)| name == &text[start..end]);
+    let name = match (random.below(6), own) {
+        (0, _) => [&text[start..end], b"()"].concat(),
+        (1, Some(symbol)) => symbol.to_string().into_bytes(),
+        (1 | 2, _) => some_number(random).to_string().into_bytes(),
         _ => random.pick(&names).0.clone(),
     };
     [&text[..start], &name, &text[end..]].concat()

@@ -7,7 +7,7 @@ use std::collections::HashMap;
 #[derive(Clone, PartialEq, Debug)]
 enum Term {
     Variable(u8),
-    /// Function symbols, and made constants and leftover variables under their whole spelling.
+    /// Function symbols; numbers (W-204), made constants and leftover variables under their whole spelling.
     Applied(String, Vec<Term>),
 }
 
@@ -43,6 +43,7 @@ impl Lines<'_> {
         let (letter, numbers) = &self.nodes[node];
         match *letter {
             "V" => Term::Variable(numbers[0] as u8),
+            "N" => Term::Applied(numbers[0].to_string(), Vec::new()),
             _ => Term::Applied(self.symbols[numbers[0]].0.clone(), self.terms(&numbers[1..])),
         }
     }
@@ -102,7 +103,7 @@ impl Judge {
                 }
                 letter => {
                     let parts = match letter {
-                        "V" => &[],
+                        "V" | "N" => &[],
                         "A" | "E" | "U" => &numbers[1..],
                         _ => &numbers[..],
                     };
@@ -283,7 +284,10 @@ impl<'a> Reading<'a> {
             }
             return Some((Term::Applied(name.to_string(), Vec::new()), rest));
         }
-        let arity = *self.judge.functions.get(name)?;
+        let arity = match number(name) {
+            Some(_) => 0,
+            None => *self.judge.functions.get(name)?,
+        };
         let mut arguments = Vec::new();
         while arguments.len() < arity {
             let (argument, after) = self.read(rest.get(1..)?, level)?;

@@ -14,7 +14,7 @@ returns-2 : tie.Need-returns-2
 unfolding matchHead
 returns-2 c =
     rw (← c .before .before .kind .ensures, ne-eqb _ _ (c .before .if1 .left), ← c .before .before .before .label .ensures)
-    (c .match-name .ensures)
+    (c .match-functor .ensures)
 
 pub match-head-spec : {M : Type 1} → statement M
 match-head-spec =
