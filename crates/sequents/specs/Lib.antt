@@ -3,5 +3,6 @@ pub mod Symbols
 pub mod Sequents
 pub mod Derivations
 pub mod Lines
+pub mod Numbers
 pub mod Renamings
 pub mod Promises
