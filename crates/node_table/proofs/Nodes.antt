@@ -11,9 +11,9 @@ use Rattle.terms.specs.Terms.{Term, size}
 use Rattle.formulas.specs.Formulas.{Goal, Clause, freeT, freeG, freeC}
 use Rattle.formulas.specs.Members.{members}
 use Rattle.sheet_format.specs.Limits.{maxSymbols}
-use Rattle.node_table.specs.Layout.{kindOf, labelOf, childOf, maskOf, bitOf, membersOf, arityOf, atomKind, applicationKind}
+use Rattle.node_table.specs.Layout.{kindOf, labelOf, childOf, maskOf, bitOf, membersOf, arityOf, atomKind}
 use Rattle.node_table.specs.Decoding.{termAt, goalAt, clauseAtNode}
-use Rattle.node_table.specs.WellMade.{IsTerm, IsGoal, IsClause, labelArity, Arguments, Declared, TermNode, GoalNode, ClauseNode}
+use Rattle.node_table.specs.WellMade.{IsTerm, IsGoal, IsClause, labelArity, Arguments, Declared, Labelled, Named, TermNode, GoalNode, ClauseNode}
 use Rattle.node_table.proofs.Same.{Same, same-kind, same-count, same-label, same-child, same-mask, same-goal, same-members}
 use Rattle.node_table.proofs.Same.{same-size, same-arity}
 use Rattle.node_table.proofs.Decoding.{Nodes, termAt-same, goalAt-same, clauseAt-same}
@@ -75,11 +75,22 @@ module _ (t u : List ℕ) (symbols nodes : ℕ) (s : Same t u symbols nodes) whe
           terms = λ j k. term-child j (omega arith) (a .terms j (omega arith));
         }
 
-  module _ (made : Nodes t nodes) (named : (n : ℕ) → n < nodes → applicationKind ≤ kindOf t n → kindOf t n ≤ atomKind
-      → Declared symbols (labelOf t n)) where
+  -- A label stays what it is, also when symbols are added.
+  pub labelled-same : (more n : ℕ) → symbols ≤ more → n < nodes → Labelled t symbols n → Labelled u more n
+  labelled-same more n m h a =
+      let e = same-kind t u symbols nodes s n h in
+      let f = same-label t u symbols nodes s n h in
+      let most = a .most in
+      record {
+        declared = λ l. let d = a .declared (omega arith) in omega arith;
+        most = omega arith;
+        predicate = λ k. let p = a .predicate (sym e ∙ k) in omega arith;
+      }
+
+  module _ (made : Nodes t nodes) (named : Named t nodes symbols) where
     -- An older node has its arguments in the other table.
     older : (n : ℕ) → n < nodes → (k : ℕ) → kindOf t n ≡ k → 1 ≤ k → k ≤ 2 → Arguments t n → Arguments u n
-    older n h k e l m a = arguments-same n h (named n h (omega arith) (omega arith)) a
+    older n h k e l m a = arguments-same n h (named n h (omega arith) (omega arith) .declared) a
 
     free-same : (n : ℕ) → n < nodes → (f f′ : ℕ → Bool) → ((v : ℕ) → v < 8 → eqb (bitOf (maskOf t n) v) 1 ≡ f v) → ((v : ℕ) → f v ≡ f′ v)
         → (v : ℕ) → v < 8 → eqb (bitOf (maskOf u n) v) 1 ≡ f′ v

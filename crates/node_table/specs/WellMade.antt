@@ -9,7 +9,7 @@ use lib.ListN.{length}
 use Rattle.terms.specs.Terms.{size}
 use Rattle.formulas.specs.Formulas.{freeT, freeG, freeC}
 use Rattle.formulas.specs.Members.{members}
-use Rattle.sheet_format.specs.Limits.{maxArity, maxNodes, maxSymbols, maxClauses, variableNames, maxMembers}
+use Rattle.sheet_format.specs.Limits.{maxArity, maxNodes, maxNumber, maxSymbols, maxClauses, variableNames, maxMembers}
 use Rattle.node_table.specs.Layout.{kindOf, childCount, labelOf, childOf, maskOf, bitOf, goalBit, membersOf, sizeOf, arityOf}
 use Rattle.node_table.specs.Layout.{clauseNode, applicationKind, forallKind, impliesKind, atomKind, andKind, existsKind, orKind}
 use Rattle.node_table.specs.Layout.{variableKind}
@@ -82,6 +82,12 @@ pub record WellMade (t : List ℕ) (nodes clauses goal : ℕ) : Type 0 where
 abbrev pub Declared : ℕ → ℕ → Type 0
 Declared symbols l = l < maxSymbols → l < symbols
 
--- The applications of a table name symbols that are declared, or are numbers.
+-- What the label of an application or an atom is: a symbol, one that is declared, or, of an application alone, a number up to 65,535.
+pub record Labelled (t : List ℕ) (symbols n : ℕ) : Type 0 where
+  pub declared : Declared symbols (labelOf t n)
+  pub most : labelOf t n ≤ maxSymbols + maxNumber
+  pub predicate : kindOf t n ≡ atomKind → labelOf t n < maxSymbols
+
+-- The applications and atoms of a table have such labels.
 abbrev pub Named : List ℕ → ℕ → ℕ → Type 0
-Named t nodes symbols = (n : ℕ) → n < nodes → IsTerm t n → kindOf t n ≡ applicationKind → Declared symbols (labelOf t n)
+Named t nodes symbols = (n : ℕ) → n < nodes → applicationKind ≤ kindOf t n → kindOf t n ≤ atomKind → Labelled t symbols n

@@ -233,7 +233,8 @@ module _ (sheet t : List ℕ) (symbols nodes : ℕ) (w : List ℕ) (acts : ℕ) 
         let name = spellFunctor declarations (functorOf f) in
         let h = writeFunctor sheet t limit g f in
         let e : h ≡ steps limit (map byte name) g =
-        functor-then sheet t symbols limit g f (b .named (nodeOf x) (c .there) (c .term) (c .application))
+        functor-then sheet t symbols limit g f
+        (let kind = c .application in b .named (nodeOf x) (c .there) (omega arith) (omega arith) .declared)
         ∙ sym (steps-bytes limit name g)
         in
         let p = exactly limit (map byte name) g h (subst (All (Right w (s .next) acts)) (sym (none-signs name)) tt) e in

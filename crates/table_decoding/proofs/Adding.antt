@@ -14,13 +14,13 @@ use Rattle.formulas.specs.Formulas.{Goal, Clause}
 use Rattle.sheet_format.specs.Nodes.{Declaration, Node, isSome, isSomething}
 use Rattle.sheet_format.specs.Sheets.{Table, next, stop}
 use Rattle.sheet_format.specs.Sheets.{addNode as sheetAddNode}
-use Rattle.node_table.specs.Layout.{kindOf, labelOf, infoOf, goalBit, membersOf, sizeOf, clauseNode, applicationKind, atomKind}
+use Rattle.node_table.specs.Layout.{kindOf, infoOf, goalBit, membersOf, sizeOf, clauseNode, applicationKind, atomKind}
 use Rattle.node_table.specs.Decoding.{termAt, goalAt, clauseAtNode, declarationAt, declarationsFrom, clausesFrom}
-use Rattle.node_table.specs.WellMade.{IsTerm, IsGoal, IsClause, Declared, TermNode, GoalNode, ClauseNode}
-use Rattle.node_table.proofs.Same.{Same, same-kind, same-label, same-start, same-length, same-function, same-arity, same-goal, same-members}
+use Rattle.node_table.specs.WellMade.{IsTerm, IsGoal, IsClause, Labelled, TermNode, GoalNode, ClauseNode}
+use Rattle.node_table.proofs.Same.{Same, same-kind, same-start, same-length, same-function, same-arity, same-goal, same-members}
 use Rattle.node_table.proofs.Same.{same-size}
 use Rattle.node_table.proofs.Decoding.{Nodes, termAt-same, goalAt-same, clauseAt-same}
-use Rattle.node_table.proofs.Nodes.{is-term-back, is-goal-back, is-clause-back, is-clause-same, term-same, goal-same, clause-same}
+use Rattle.node_table.proofs.Nodes.{is-term-back, is-goal-back, is-clause-back, is-clause-same, labelled-same, term-same, goal-same, clause-same}
 use Rattle.table_builder.specs.declared.node_info.Counts.{Counts}
 use Rattle.table_builder.specs.declared.node_info.NodeRecord.{NodeRecord}
 use Rattle.table_builder.specs.declared.node_info.Taken.the-variants.{Next, Stop}
@@ -96,7 +96,7 @@ module _ (bytes t u : List ℕ) (symbols nodes : ℕ) (s : Same t u symbols node
 
 -- What is to be shown of it.
 pub record NewNode (u : List ℕ) (n symbols : ℕ) : Type 0 where
-  pub named : applicationKind ≤ kindOf u n → kindOf u n ≤ atomKind → Declared symbols (labelOf u n)
+  pub named : applicationKind ≤ kindOf u n → kindOf u n ≤ atomKind → Labelled u symbols n
   pub term : IsTerm u n → TermNode u n
   pub goal : IsGoal u n → GoalNode u n
   pub clause : IsClause u n → ClauseNode u n
@@ -142,12 +142,10 @@ module _ (bytes t : List ℕ) (k : Counts) (st : Decodes bytes t k) (h : k .node
             let b = same-length t u (k .symbols) n same i l in
             let c = st .names i l in
             omega arith;
-        named = below-more (λ i. applicationKind ≤ kindOf u i → kindOf u i ≤ atomKind → Declared (k .symbols) (labelOf u i)) n
-            (λ i l p q s.
+        named = below-more (λ i. applicationKind ≤ kindOf u i → kindOf u i ≤ atomKind → Labelled u (k .symbols) i) n
+            (λ i l p q.
             let e = same-kind t u (k .symbols) n same i l in
-            let f = same-label t u (k .symbols) n same i l in
-            let g = st .named i l (omega arith) (omega arith) (omega arith) in
-            omega arith)
+            labelled-same t u (k .symbols) n same (k .symbols) i (omega arith) l (st .named i l (omega arith) (omega arith)))
             (new .named);
         term = below-more (λ i. IsTerm u i → TermNode u i) n
             (λ i l p. term-same t u (k .symbols) n same m (st .named) i l (is-term-back t u (k .symbols) n same i l p)) (new .term);

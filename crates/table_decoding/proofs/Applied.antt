@@ -17,9 +17,9 @@ use Rattle.formulas.specs.Members.{members}
 use Rattle.sheet_format.specs.Limits.{maxSymbols}
 use Rattle.sheet_format.specs.Nodes.{Declaration, Node, neither, termNodes, sized, termNode, applied, applyNode, isSome, isSomething}
 use Rattle.sheet_format.specs.Sheets.{addNode as sheetAddNode}
-use Rattle.node_table.specs.Layout.{childCount, labelOf, childOf, maskOf, bitOf, packInfo, isFunctionBit, arityOf}
+use Rattle.node_table.specs.Layout.{childCount, childOf, maskOf, bitOf, packInfo, isFunctionBit, arityOf}
 use Rattle.node_table.specs.Decoding.{functorOf, childrenBy, termBy, termAt, argumentsAt, goalAt, clauseAtNode, declarationAt}
-use Rattle.node_table.specs.WellMade.{IsTerm, labelArity, Arguments, Declared}
+use Rattle.node_table.specs.WellMade.{IsTerm, labelArity, Arguments, Labelled}
 use Rattle.node_table.proofs.Same.{same-arity}
 use Rattle.node_table.proofs.Decoding.{termBy-application, goalBy-atom, clauseBy-fact, termAt-same}
 use Rattle.node_table.proofs.Nodes.{is-term-same}
@@ -99,8 +99,11 @@ module _ (bytes t : List ℕ) (k : Counts) (st : Decodes bytes t k) (h : k .node
         ap (λ (m : ℕ). eqb (bitOf m v) 1) (is .mask ∙ q) ∙ masks-are bytes t k st 0 args v l all
         ∙ ap (λ (x : ℕ). eqb x 1 || freeTs terms v) (bit-none v)
 
-    named : Declared (k .symbols) (labelOf u n)
-    named s = let l = is .label in omega arith
+    named : Labelled u (k .symbols) n
+    named =
+        let l = is .label in
+        let s = is-symbol in
+        record { declared = λ z. omega arith; most = omega arith; predicate = λ z. omega arith }
 
   abbrev mask : ℕ
   mask = masksFrom t 0 args

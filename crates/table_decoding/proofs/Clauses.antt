@@ -17,9 +17,9 @@ use Rattle.sheet_format.specs.Sheets.{goalAt as sheetGoalAt}
 use Rattle.node_table.specs.Layout.{clauseAt, maskOf, goalBit, membersOf, clauseNode}
 use Rattle.node_table.specs.Decoding.{goalAt, clauseAtNode, clausesFrom}
 use Rattle.node_table.specs.WellMade.{IsClause}
-use Rattle.node_table.proofs.Same.{Same, same-kind, same-label, same-start, same-length}
+use Rattle.node_table.proofs.Same.{Same, same-kind, same-start, same-length}
 use Rattle.node_table.proofs.Decoding.{clauseAt-same}
-use Rattle.node_table.proofs.Nodes.{is-term-back, is-goal-back, is-clause-back, is-clause-same, term-same, goal-same, clause-same}
+use Rattle.node_table.proofs.Nodes.{is-term-back, is-goal-back, is-clause-back, is-clause-same, labelled-same, term-same, goal-same, clause-same}
 use Rattle.table_builder.specs.declared.node_info.Counts.{Counts}
 use Rattle.table_builder.specs.declared.node_info.Taken.the-variants.{Next, Stop, Last}
 use Rattle.table_builder.specs.Nodes.{made, counts, insertClause, checkGoal}
@@ -79,11 +79,9 @@ module _ (bytes t : List ℕ) (k : Counts) (st : Decodes bytes t k) (n : ℕ) wh
               let b = same-length t u (k .symbols) (k .nodes) s j p in
               let c = st .names j p in
               omega arith;
-          named = λ j p q r d.
+          named = λ j p q r.
               let e = same-kind t u (k .symbols) (k .nodes) s j p in
-              let f = same-label t u (k .symbols) (k .nodes) s j p in
-              let g = st .named j p (omega arith) (omega arith) (omega arith) in
-              omega arith;
+              labelled-same t u (k .symbols) (k .nodes) s (k .symbols) j (omega arith) p (st .named j p (omega arith) (omega arith));
           term = λ j p q. term-same t u (k .symbols) (k .nodes) s m (st .named) j p (is-term-back t u (k .symbols) (k .nodes) s j p q);
           goal = λ j p q. goal-same t u (k .symbols) (k .nodes) s m (st .named) j p (is-goal-back t u (k .symbols) (k .nodes) s j p q);
           clause =

@@ -19,8 +19,8 @@ use Rattle.sheet_format.proofs.Bytes.{same-equal}
 use Rattle.node_table.specs.Layout.{nameStart, nameLength, clauseNode}
 use Rattle.node_table.specs.Decoding.{declarationAt, declarationsFrom}
 use Rattle.node_table.specs.WellMade.{IsClause}
-use Rattle.node_table.proofs.Same.{Same, same-kind, same-label, same-start, same-length}
-use Rattle.node_table.proofs.Nodes.{is-term-back, is-goal-back, is-clause-back, is-clause-same, term-same, goal-same, clause-same}
+use Rattle.node_table.proofs.Same.{Same, same-kind, same-start, same-length}
+use Rattle.node_table.proofs.Nodes.{is-term-back, is-goal-back, is-clause-back, is-clause-same, labelled-same, term-same, goal-same, clause-same}
 use Rattle.table_builder.specs.declared.node_info.Counts.{Counts}
 use Rattle.table_builder.specs.declared.node_info.Taken.the-variants.{Next, Stop}
 use Rattle.table_builder.specs.Nodes.{made, counts}
@@ -149,11 +149,9 @@ module _ (bytes t : List ℕ) (k : Counts) (st : Decodes bytes t k) (function : 
               (let a = written-start t i start len (symbolWord function arity) l (st .long) in
               let b = written-length t i start len (symbolWord function arity) l (st .long) in
               omega arith);
-          named = λ n p q r d.
+          named = λ n p q r.
               let e = same-kind t u i (k .nodes) same-table n p in
-              let f = same-label t u i (k .nodes) same-table n p in
-              let g = st .named n p (omega arith) (omega arith) (omega arith) in
-              omega arith;
+              labelled-same t u i (k .nodes) same-table (k′ .symbols) n (omega arith) p (st .named n p (omega arith) (omega arith));
           term = λ n p q. term-same t u i (k .nodes) same-table m (st .named) n p (is-term-back t u i (k .nodes) same-table n p q);
           goal = λ n p q. goal-same t u i (k .nodes) same-table m (st .named) n p (is-goal-back t u i (k .nodes) same-table n p q);
           clause = λ n p q. clause-same t u i (k .nodes) same-table m (st .named) n p (is-clause-back t u i (k .nodes) same-table n p q);

@@ -9,6 +9,7 @@ use mathlib.Core.Option.{Option, none, some, Option·map}
 use lib.Dec.{ltb, leb}
 use lib.ListN.{length, take, drop, getElem?}
 use borrow.Author.Tests.{le-ltb, lt-ltb, leb-true, leb-false}
+use Rattle.sheet_format.specs.Limits.{maxNumber}
 use Rattle.sheet_format.specs.Bytes.{sameName}
 use Rattle.sheet_format.specs.SheetLines.{NodeLine, variableLine, numberLine, applyLine, trueLine, andLine, orLine, impliesLine, someLine}
 use Rattle.sheet_format.specs.SheetLines.{everyLine, declareLine, nodeLine, clauseLine, goalLine}
@@ -94,9 +95,10 @@ module _ (bytes t : List ℕ) (k : Counts) (st : Decodes bytes t k) where
   unfolding insertVariable takeLine nodeOf
   follows-variable v l = room (variableLine v) _ (λ p. variable-added bytes t k st p v l)
 
-  pub follows-numeral : (n : ℕ) → Follows bytes t k (insertNumeral t k n) (takeLine sameName table (some (nodeLine (numberLine n))))
+  pub follows-numeral : (n : ℕ) → n ≤ maxNumber
+      → Follows bytes t k (insertNumeral t k n) (takeLine sameName table (some (nodeLine (numberLine n))))
   unfolding insertNumeral takeLine nodeOf
-  follows-numeral n = room (numberLine n) _ (λ p. numeral-added bytes t k st p n)
+  follows-numeral n l = room (numberLine n) _ (λ p. numeral-added bytes t k st p n l)
 
   pub follows-true : Follows bytes t k (insertTrue t k) (takeLine sameName table (some (nodeLine trueLine)))
   unfolding insertTrue takeLine nodeOf
@@ -215,4 +217,4 @@ well-made bytes t k goal st l i =
     }
 
 pub all-named : (bytes t : List ℕ) (k : Counts) → Decodes bytes t k → Named t (k .nodes) (k .symbols)
-all-named bytes t k st n l i e = st .named n l (omega arith) (omega arith)
+all-named bytes t k st = st .named

@@ -323,7 +323,7 @@ module _ (bytes t : List ℕ) (k : Counts) (st : Decodes bytes t k) (h : k .node
         lb,
         same-kind t impliesTable (k .symbols) n s b lb
             ∙ e,
-        arguments-same t impliesTable (k .symbols) n s b lb (st .named b lb (omega arith) (omega arith)) x,
+        arguments-same t impliesTable (k .symbols) n s b lb (st .named b lb (omega arith) (omega arith) .declared) x,
       )
 
   implies-new : NewNode impliesTable n (k .symbols)

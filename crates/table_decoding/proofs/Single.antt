@@ -1,5 +1,5 @@
 -- V, N, Y, E and U: the node that the code makes is the one of the definitions.
-use Prim.Native.Nat.{ℕ, _+_, _-_, _<_}
+use Prim.Native.Nat.{ℕ, _+_, _<_, _≤_}
 use native.Mathlib.Omega.{arith}
 use mathlib.Core.Path.{_≡_, sym, ap, ap₂, _∙_}
 use mathlib.Core.Bool.{Bool, not, _&&_}
@@ -11,7 +11,7 @@ use Rattle.terms.specs.Terms.{numberTerm, Term, leaf, app, size}
 use Rattle.terms.proofs.Lists.{length-map}
 use Rattle.formulas.specs.Formulas.{Goal, truth, exists, forall, Clause, each, freeT, freeTs, freeG, freeC}
 use Rattle.formulas.specs.Members.{members, quantify}
-use Rattle.sheet_format.specs.Limits.{maxSymbols}
+use Rattle.sheet_format.specs.Limits.{maxSymbols, maxNumber}
 use Rattle.sheet_format.specs.Nodes.{termNode}
 use Rattle.sheet_format.specs.Sheets.{addNode as sheetAddNode}
 use Rattle.node_table.specs.Layout.{maskOf, bitOf, goalBit, membersOf, packInfo, applicationKind}
@@ -76,7 +76,7 @@ module _ (bytes t : List ℕ) (k : Counts) (st : Decodes bytes t k) (h : k .node
 
   -- N
 
-  module _ (m : ℕ) where
+  module _ (m : ℕ) (lm : m ≤ maxNumber) where
     abbrev numeralRecord : NodeRecord
     numeralRecord = nodeRecord applicationKind (maxSymbols + m) 0 0 0 0 (packInfo 0 0 0 1)
 
@@ -112,7 +112,10 @@ module _ (bytes t : List ℕ) (k : Counts) (st : Decodes bytes t k) (h : k .node
     unfolding freeT freeTs size
     numeral-new =
         record {
-          named = λ p q s. let o = numeral-is .label in absurd (omega arith);
+          named = λ p q.
+              let l = numeral-is .label in
+              let e = numeral-is .kind in
+              record { declared = λ z. absurd (omega arith); most = omega arith; predicate = λ z. absurd (omega arith) };
           term = λ i.
               an-application numeralTable n (numeral-is .kind) numeral-arguments
               (numeral-is .size ∙ ap (λ (x : Term ℕ). size x) (sym numeral-term))

@@ -11,10 +11,10 @@ use Rattle.sheet_format.specs.Nodes.{Node}
 use Rattle.sheet_format.specs.Sheets.{Table, next, stop, last}
 use Rattle.sheet_format.specs.Sheets.{Taken as SheetTaken}
 use Rattle.sheet_format.specs.Limits.{maxNodes, tableNumbers, maxSymbols, maxClauses}
-use Rattle.node_table.specs.Layout.{kindOf, labelOf, goalBit, membersOf, sizeOf, nameStart, nameLength, clauseNode, applicationKind}
+use Rattle.node_table.specs.Layout.{kindOf, goalBit, membersOf, sizeOf, nameStart, nameLength, clauseNode, applicationKind}
 use Rattle.node_table.specs.Layout.{atomKind}
 use Rattle.node_table.specs.Decoding.{termAt, goalAt, clauseAtNode, declarationsFrom, clausesFrom}
-use Rattle.node_table.specs.WellMade.{IsTerm, IsGoal, IsClause, Declared, TermNode, GoalNode, ClauseNode}
+use Rattle.node_table.specs.WellMade.{IsTerm, IsGoal, IsClause, Labelled, TermNode, GoalNode, ClauseNode}
 use Rattle.table_builder.specs.declared.node_info.Counts.{Counts}
 use Rattle.table_builder.specs.declared.node_info.Taken.{Taken}
 use Rattle.table_builder.specs.declared.node_info.Taken.the-variants.{Next, Stop, Last}
@@ -38,15 +38,15 @@ unfoldable pub tableOf : List ℕ → List ℕ → Counts → Table
 tableOf bytes t k =
     record { symbols = declarationsFrom bytes t (k .symbols) 0; nodes = nodesFrom t (k .nodes) 0; clauses = clausesFrom t (k .clauses) 0 }
 
--- What holds of the table after every line. Symbols are named by their bytes on the sheet; the symbols of applications and atoms are
--- there.
+-- What holds of the table after every line. Symbols are named by their bytes on the sheet; the labels of applications and atoms are symbols
+-- that are there, or numbers.
 pub record Decodes (bytes t : List ℕ) (k : Counts) : Type 0 where
   pub long : tableNumbers ≤ length t
   pub fewSymbols : k .symbols ≤ maxSymbols
   pub fewNodes : k .nodes ≤ maxNodes
   pub fewClauses : k .clauses ≤ maxClauses
   pub names : (i : ℕ) → i < k .symbols → nameStart t i + nameLength t i ≤ length bytes
-  pub named : (n : ℕ) → n < k .nodes → applicationKind ≤ kindOf t n → kindOf t n ≤ atomKind → Declared (k .symbols) (labelOf t n)
+  pub named : (n : ℕ) → n < k .nodes → applicationKind ≤ kindOf t n → kindOf t n ≤ atomKind → Labelled t (k .symbols) n
   pub term : (n : ℕ) → n < k .nodes → IsTerm t n → TermNode t n
   pub goal : (n : ℕ) → n < k .nodes → IsGoal t n → GoalNode t n
   pub clause : (n : ℕ) → n < k .nodes → IsClause t n → ClauseNode t n

@@ -236,7 +236,7 @@ module _ (bytes t : List ℕ) (k : Counts) (h : Decodes bytes t k) where
       → Follows bytes t k (takeNode t k l) (sheetLine sameName (tableOf bytes t k) (some (nodeLine (nodeBack l))))
   unfolding takeNode nodeBack nodeList FormedNode
   node-follows (Variable v) f g = follows-variable bytes t k h v f
-  node-follows (Numeral n) f g = follows-numeral bytes t k h n
+  node-follows (Numeral n) f g = follows-numeral bytes t k h n f
   node-follows (Apply f ns) p g = follows-application bytes t k h f (ns .count) (ns .a) (ns .b) (ns .c) (ns .d) g
   node-follows True f g = follows-true bytes t k h
   node-follows (And n m) f g = follows-and bytes t k h n m
