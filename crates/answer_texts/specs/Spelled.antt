@@ -24,7 +24,7 @@ use Rattle.answer_texts.specs.Spelling.{spell, proofText}
 use Rattle.answer_texts.specs.Capitals.{SameText}
 
 -- What can be written: terms over the function symbols that the sheet declares, each applied to its arity of terms; numbers as
--- terms, applied to none ("Any n may stand in a derivation and its text, whether or not the sheet has it"); "Numbers
+-- terms, applied to none (request W-204: "Any n may stand in a derivation and its text, whether or not the sheet has it"); "Numbers
 -- are ... up to 65,535", which is for places, for numbers and for levels.
 unfoldable pub hasArity : ℕ → Option Declaration → Bool
 hasArity n none = false

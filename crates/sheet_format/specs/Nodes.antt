@@ -1,5 +1,6 @@
 -- Document 01, the paragraph after the table: what a node is. "Terms on a sheet are V and F applications ... Goals are ... Clauses
--- are ... A node may be goal and clause." Nodes are made from nodes already there, so that shared ones stand for themselves.
+-- are ... A node may be goal and clause." Request W-204 adds the numbers of N lines to the terms. Nodes are made from nodes already
+-- there, so that shared ones stand for themselves.
 use Prim.Native.Nat.{ℕ, zero, suc, _+_}
 use mathlib.Core.Bool.{Bool, true, false, _&&_, _||_, cond}
 use mathlib.Core.List.{List, [], _∷_}

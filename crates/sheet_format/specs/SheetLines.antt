@@ -9,7 +9,7 @@ use lib.ListN.{length}
 use Rattle.sheet_format.specs.Limits.{maxArity, variableNames}
 use Rattle.sheet_format.specs.Bytes.{fields, number, isName}
 
--- A line that makes a node.
+-- A line that makes a node; `numberLine` is that of request W-204: "A node line `N n` is a term, n from 0 to 65,535".
 pub data NodeLine : Type 0 where
   variableLine numberLine : ℕ → NodeLine
   applyLine : ℕ → List ℕ → NodeLine

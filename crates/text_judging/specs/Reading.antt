@@ -77,7 +77,7 @@ findName k (d ∷ ds) n = elim (sameBytes n (d .name)) [
   | false ↦ findName (suc k) ds n
 ]
 
--- What is written so before arguments, and how many it takes: a number takes none, a function symbol its arity.
+-- What is written so before arguments, and how many it takes: a number (request W-204) takes none, a function symbol its arity.
 pub record Head : Type 0 where
   pub functor : Functor
   pub arity : ℕ

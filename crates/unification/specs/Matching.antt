@@ -49,8 +49,8 @@ visit s y t (leaf (con c j)) ns ps = cond (leb j (s .level y)) (afterNode s y t 
 visit s y t (app f ts) ns ps = afterNode s y t (pushTerms ts ns) ps
 
 -- "The same variable or the same made constant twice: done. Goal side a variable: range check the other side, then bind. Else
--- clause side a variable: likewise. Two applications: the same symbol (or number), then their arguments; else fail." Both sides are given
--- as looked through.
+-- clause side a variable: likewise. Two applications: the same symbol, then their arguments; else fail." Both sides are given
+-- as looked through. Request W-204: a number stands where a symbol does, and `sameFunctor` never takes one for the other.
 unfoldable pub compareTerms : Store → Term Leaf → Term Leaf → List Pair → Matching
 compareTerms s (leaf (var x)) (leaf (var y)) ps = cond (eqb x y) (pairs s ps) (check s x (leaf (var y)) (leaf (var y)) [] ps)
 compareTerms s (leaf (var x)) (leaf (con d j)) ps = check s x (leaf (con d j)) (leaf (con d j)) [] ps
