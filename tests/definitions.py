@@ -50,8 +50,8 @@ def byte_list(data):
     return "(" + " ++ (".join(parts) + ")" * len(parts)
 
 
-def ran(sheet, expected):
-    """The equation of a run with 256 units, as document 01's sheet runner has it."""
+def ran(sheet, expected, budget=256):
+    """The equation of a run with 256 units, as document 01's sheet runner has it, or with another budget."""
     if expected.startswith(b"X"):
         _, number, line = expected.decode().split("\t")
         right = f"turnedBack (refusal {number} {line.strip()})"
@@ -59,7 +59,14 @@ def ran(sheet, expected):
         _, outcome, units = expected.split(b"\n")[0].decode().split("\t")
         text = byte_list(expected)
         right = f"answered (record {{ outcome = {OUTCOMES[outcome]}; units = {units}; text = {text} }})"
-    return f"computeRun {byte_list(sheet)} 256 8192 16384 16384 ≡ {right}", "computeRun"
+    return f"computeRun {byte_list(sheet)} {budget} 8192 16384 16384 ≡ {right}", "computeRun"
+
+
+def ran_at_its_units(sheet, expected):
+    """Request W-206: the units told suffice, and one fewer are spent, also where the last act looks through a binding."""
+    units = int(expected.split(b"\n")[0].split(b"\t")[2])
+    yield ran(sheet, expected, units)
+    yield ran(sheet, b"R\tspent\t%d\n" % (units - 1), units - 1)
 
 
 def checked(sheet, text, verdict):
@@ -124,6 +131,8 @@ def equations():
         for path in sorted(glob.glob(os.path.join(cases, "*.sheet"))):
             sheet, expected = stored(path, "sheet"), stored(path, "256")
             yield ran(sheet, expected)
+            if os.path.basename(path).startswith("w206_") and not expected.startswith(b"R\tspent"):
+                yield from ran_at_its_units(sheet, expected)
             for text, verdict in by_document(sheet, expected):
                 yield checked(sheet, text, verdict)
             if expected.startswith(b"R\tproved"):

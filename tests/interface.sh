@@ -61,7 +61,7 @@ expect_text 'X\t3\t0\n' $strobe 0
 : >"$work/empty"
 expect_text 'X\t11\t1\n' "$work/empty"
 expect_text 'R\tproved\t11\nB\t0\tSTROBE\nB\t1\tOld_Vic\nD\tclause\t1\tOld_Vic\nD\tclause\t2\nvalid\n' examples/capitals.sheet
-expect_text 'R\tproved\t29\nB\t0\t514\nD\tclause\t1\t514\t7\nD\tand\nD\tclause\t3\nD\tclause\t4\nvalid\n' examples/channels.sheet
+expect_text 'R\tproved\t31\nB\t0\t514\nD\tclause\t1\t514\t7\nD\tand\nD\tclause\t3\nD\tclause\t4\nvalid\n' examples/channels.sheet
 # Request W-204: a unit for each of the five nodes of g(1,g(2,3)).
 expect_text 'R\tspent\t9\n' tests/cases/w204_range_check_through_n.sheet 9
 members 64 >"$work/members64"
@@ -77,5 +77,15 @@ for sheet in tests/cases/*.sheet; do
         fi
         expect "$work/expected" "$sheet" "$budget"
     done
+done
+# Request W-206: the units told suffice, and one fewer are spent, also where the last act looks through a binding.
+for sheet in tests/cases/w206_*.sheet; do
+    cp "${sheet%.sheet}.50000" "$work/expected"
+    units=$(head -n 1 "$work/expected" | cut -f 3)
+    if [[ $(head -c 8 "$work/expected") == $'R\tproved' ]]; then
+        echo valid >>"$work/expected"
+    fi
+    expect "$work/expected" "$sheet" "$units"
+    expect_text "R\\tspent\\t$((units - 1))\\n" "$sheet" $((units - 1))
 done
 echo "interface: $compared outputs of the C, C++ and Rust examples, all as expected"

@@ -45,9 +45,18 @@ module _ (T : Table) where
         branch = h .branch;
       }
   configuration-counted n w r x (match (pairs s []) b) h = h
-  configuration-counted n w r x (match (pairs s (p ∷ ps)) b) h = h
+  configuration-counted n w r x (match (pairs s (p ∷ ps)) b) h =
+      record { mode = h .mode; goal = h .goal; clause = h .clause; pairs = h .pairs; branch = h .branch }
   configuration-counted n w r x (match (check s y t z ns ps) b) h =
-      record { mode = h .mode; variable = h .variable; value = h .value; nodes = h .nodes; pairs = h .pairs; branch = h .branch }
+      record {
+        mode = h .mode;
+        variable = h .variable;
+        value = h .value;
+        node = h .node;
+        nodes = h .nodes;
+        pairs = h .pairs;
+        branch = h .branch;
+      }
   configuration-counted n w r x (match fail b) h = h
   configuration-counted n w r x (done s ls) h = h
 
@@ -65,7 +74,7 @@ module _ (T : Table) where
   mode-due n w r (take s g b) h d = let e = h .0 in omega arith
   mode-due n w r (try s a m ms k b) h d = let e = h .mode in omega arith
   mode-due n w r (match (pairs s []) b) h d = absurd h
-  mode-due n w r (match (pairs s (p ∷ ps)) b) h d = let e = h .0 in omega arith
+  mode-due n w r (match (pairs s (p ∷ ps)) b) h d = let e = h .mode in omega arith
   mode-due n w r (match (check s y t z ns ps) b) h d = let e = h .mode in omega arith
   mode-due n w r (match fail b) h d = absurd h
   mode-due n w r (done s ls) h d = absurd (d (h .0))
@@ -105,7 +114,7 @@ module _ (T : Table) where
         (try-act T w r b ds room small s a m ms k (i .formed) (i .extra .members .0) st)
     due-act (match (pairs s []) b) i d st = absurd (st .front)
     due-act (match (pairs s (p ∷ ps)) b) i d st =
-        let e = st .front .0 in
+        let e = st .front .mode in
         rw (ne-eqb (r .mode) takeMode (λ z. omega arith), ne-eqb (r .mode) tryMode (λ z. omega arith), eq-eqb (r .mode) compareMode e)
         (compare-act T w r b ds room small s p ps i st)
     due-act (match (check s y t z ns ps) b) i d st =

@@ -4,7 +4,6 @@ use native.Mathlib.Omega.{arith}
 use mathlib.Core.Bool.{cond}
 use mathlib.Core.Path.{_≡_, refl, sym, ap, _∙_, subst}
 use mathlib.Core.List.{List, [], _∷_, _++_, map}
-use mathlib.Core.Logic.{_⊎_, inl, inr}
 use lib.Dec.{eqb}
 use lib.ListN.{length, drop}
 use borrow.Author.Tests.{ne-eqb}
@@ -76,24 +75,29 @@ module _ (T : Table) where
     pub low : k ≤ n
     pub branch : BranchAt T n x w (r .goals) (r .path) (r .line) b
 
-  -- The node that is due in a range check of t, and the nodes left.
-  abbrev pub DueAt : ℕ → ℕ → List ℕ → ℕ → Term Leaf → Term Leaf → List (Term Leaf) → Type 0
-  DueAt n v w a t x ns = ((a ≡ 0) × (x ≡ t) × (ns ≡ [])) ⊎ NodesAt T n v (x ∷ ns) w a
-
+  -- A range check: the variable to be bound, its value, and the node that is due are in hand.
   pub record CheckAt (n v : ℕ) (w : List ℕ) (r : Registers) (y : ℕ) (t x : Term Leaf) (ns : List (Term Leaf)) (ps : List Pair)
       (b : Branch) : Type 0 where
     pub mode : r .mode ≡ checkMode
-    pub variable : r .variable ≡ 4 * y + 1
-    pub value : WordAt T n v w (r .value) t
-    pub nodes : DueAt n v w (r .nodes) t x ns
+    pub variable : r .left ≡ 4 * y + 1
+    pub value : WordAt T n v w (r .right) t
+    pub node : WordAt T n v w (r .due) x
+    pub nodes : NodesAt T n v ns w (r .nodes)
     pub pairs : PairsAt T n v ps w (r .pairs)
     pub branch : BranchAt T n v w (r .goals) (r .path) (r .line) b
+
+  -- A comparison: both sides of the pair that is due are in hand.
+  pub record PairAt (n x : ℕ) (w : List ℕ) (r : Registers) (p : Pair) (ps : List Pair) (b : Branch) : Type 0 where
+    pub mode : r .mode ≡ compareMode
+    pub goal : WordAt T n x w (r .left) (p .goal)
+    pub clause : WordAt T n x w (r .right) (p .clause)
+    pub pairs : PairsAt T n x ps w (r .pairs)
+    pub branch : BranchAt T n x w (r .goals) (r .path) (r .line) b
 
   -- Pairs left to compare: one at least.
   unfoldable pub CompareAt : ℕ → ℕ → List ℕ → Registers → List Pair → Branch → Type 0
   CompareAt n x w r [] b = ⊥
-  CompareAt n x w r (p ∷ ps) b =
-      (r .mode ≡ compareMode) × PairsAt T n x (p ∷ ps) w (r .pairs) × BranchAt T n x w (r .goals) (r .path) (r .line) b
+  CompareAt n x w r (p ∷ ps) b = PairAt n x w r p ps b
 
   -- A configuration, by the act that is due.
   unfoldable pub ConfigurationAt : ℕ → List ℕ → Registers → Configuration → Type 0
@@ -210,17 +214,6 @@ module _ (T : Table) where
     are = rw (e₀, e₁, e₂) (c .are);
   }
 
-  -- The nodes of a range check stay in an extended memory.
-  due-extends : (n v : ℕ) (w w′ : List ℕ) (a : ℕ) (t x : Term Leaf) (ns : List (Term Leaf)) → Extends fields.constantLevel n w w′
-      → DueAt n v w a t x ns → DueAt n v w′ a t x ns
-  due-extends n v w w′ a t x ns e (inl c) = inl c
-  due-extends n v w w′ a t x ns e (inr c) = inr (nodes-extends T n v (x ∷ ns) w w′ a e c)
-
-  -- The nodes of a range check stay one act later.
-  due-up : (n v : ℕ) (w : List ℕ) (a : ℕ) (t x : Term Leaf) (ns : List (Term Leaf)) → DueAt n v w a t x ns → DueAt (suc n) v w a t x ns
-  due-up n v w a t x ns (inl c) = inl c
-  due-up n v w a t x ns (inr c) = inr (nodes-up T n v v (x ∷ ns) w a (omega arith) c)
-
   -- The whole configuration stays in an extended memory.
   pub configuration-extends : (n : ℕ) (w w′ : List ℕ) (r : Registers) (c : Configuration) → Extends fields.constantLevel n w w′
       → ConfigurationAt n w r c → ConfigurationAt n w′ r c
@@ -240,16 +233,19 @@ module _ (T : Table) where
     branch = branch-extends T n (s .next) w w′ (r .goals) (r .path) (r .line) b e (h .branch);
   }
   configuration-extends n w w′ r (match (pairs s []) b) e h = h
-  configuration-extends n w w′ r (match (pairs s (p ∷ ps)) b) e h = (
-    h .0,
-    pairs-extends T n (s .next) (p ∷ ps) w w′ (r .pairs) e (h .1),
-    branch-extends T n (s .next) w w′ (r .goals) (r .path) (r .line) b e (h .2),
-  )
+  configuration-extends n w w′ r (match (pairs s (p ∷ ps)) b) e h = record {
+    mode = h .mode;
+    goal = word-extends T n (s .next) w w′ e (h .goal);
+    clause = word-extends T n (s .next) w w′ e (h .clause);
+    pairs = pairs-extends T n (s .next) ps w w′ (r .pairs) e (h .pairs);
+    branch = branch-extends T n (s .next) w w′ (r .goals) (r .path) (r .line) b e (h .branch);
+  }
   configuration-extends n w w′ r (match (check s y t x ns ps) b) e h = record {
     mode = h .mode;
     variable = h .variable;
     value = word-extends T n (s .next) w w′ e (h .value);
-    nodes = due-extends n (s .next) w w′ (r .nodes) t x ns e (h .nodes);
+    node = word-extends T n (s .next) w w′ e (h .node);
+    nodes = nodes-extends T n (s .next) ns w w′ (r .nodes) e (h .nodes);
     pairs = pairs-extends T n (s .next) ps w w′ (r .pairs) e (h .pairs);
     branch = branch-extends T n (s .next) w w′ (r .goals) (r .path) (r .line) b e (h .branch);
   }
@@ -274,16 +270,19 @@ module _ (T : Table) where
     branch = branch-up T n (s .next) w (r .goals) (r .path) (r .line) b (h .branch);
   }
   configuration-up n w r (match (pairs s []) b) h = h
-  configuration-up n w r (match (pairs s (p ∷ ps)) b) h = (
-    h .0,
-    pairs-up T n (s .next) (s .next) (p ∷ ps) w (r .pairs) (omega arith) (h .1),
-    branch-up T n (s .next) w (r .goals) (r .path) (r .line) b (h .2),
-  )
+  configuration-up n w r (match (pairs s (p ∷ ps)) b) h = record {
+    mode = h .mode;
+    goal = word-up T n (s .next) (s .next) w (omega arith) (h .goal);
+    clause = word-up T n (s .next) (s .next) w (omega arith) (h .clause);
+    pairs = pairs-up T n (s .next) (s .next) ps w (r .pairs) (omega arith) (h .pairs);
+    branch = branch-up T n (s .next) w (r .goals) (r .path) (r .line) b (h .branch);
+  }
   configuration-up n w r (match (check s y t x ns ps) b) h = record {
     mode = h .mode;
     variable = h .variable;
     value = word-up T n (s .next) (s .next) w (omega arith) (h .value);
-    nodes = due-up n (s .next) w (r .nodes) t x ns (h .nodes);
+    node = word-up T n (s .next) (s .next) w (omega arith) (h .node);
+    nodes = nodes-up T n (s .next) (s .next) ns w (r .nodes) (omega arith) (h .nodes);
     pairs = pairs-up T n (s .next) (s .next) ps w (r .pairs) (omega arith) (h .pairs);
     branch = branch-up T n (s .next) w (r .goals) (r .path) (r .line) b (h .branch);
   }

@@ -27,7 +27,7 @@ use Rattle.machine.proofs.MemoryOrder.{grow-level}
 use Rattle.machine.proofs.Tables.{Table}
 use Rattle.machine.proofs.Terms.{LeafAt, variable-at, leaf-up, FrameAt, frame-extends, slot-leaf, slot-extends, leaf-extends}
 use Rattle.machine.proofs.Terms.{variable-leaf}
-use Rattle.machine.proofs.Bindings.{unbound-cell}
+use Rattle.unification.proofs.Follow.{unbound-binding}
 use Rattle.machine.proofs.Stores.{StoreAt, store-grow, store-fresh}
 use Rattle.memory.proofs.Records.{length-put, field-same, field-other, puts, puts-out}
 use Rattle.memory.specs.Records.{field, putField}
@@ -238,7 +238,7 @@ fresh-made (suc n) T w u vs i s e fm room small b st m =
     let l₁ = g₁ .extends .len in
     let z : variableWord x ≡ 4 * x + 1 = variable-small x (omega arith) in
     let st₁ : StoreAt T u w₁ s₁ = store-fresh T u w s v i (there u x w room (omega arith))
-    (unbound-cell (s .bindings) x (fm .bound) (unbound-beyond (s .bindings) x x (omega arith) (fm .below))) st in
+    (unbound-binding (s .bindings) x (fm .bound) (unbound-beyond (s .bindings) x x (omega arith) (fm .below))) st in
     let lv : v < 8 = omega arith in
     let st₂ : StoreAt T u w₂ s₁ = store-grow T u (s₁ .next) w₁ w₂ s₁
     (grow-put u (s₁ .next) w₁ u (fields.frame + v) (variableWord x) (omega arith) (omega arith) (omega arith)) (omega arith) st₁ in

@@ -5,8 +5,6 @@ pub mod Tables
 pub mod MemoryOrder
 pub mod Terms
 pub mod Trail
-pub mod Bindings
-pub mod Deref
 pub mod Stores
 pub mod WaitingArguments
 pub mod Branches

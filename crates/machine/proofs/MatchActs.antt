@@ -1,105 +1,117 @@
--- The two acts of matching, from state to state.
-use Prim.Native.Nat.{ℕ, suc, _+_, _-_, _*_, _/_, _%_, _≤_, _<_}
+-- The acts of matching, from state to state: following a binding, comparing a pair, looking at a node.
+use Prim.Native.Nat.{ℕ, suc, _*_, _≤_, _<_}
 use native.Mathlib.Omega.{arith}
-use mathlib.Core.Path.{_≡_, refl, ap, _∙_}
+use mathlib.Core.Bool.{cond}
+use mathlib.Core.Path.{refl}
 use mathlib.Core.List.{List, _∷_, _++_}
-use mathlib.Core.Logic.{inl, inr}
+use mathlib.Core.Option.{Option, none, some}
+use lib.Dec.{eqb}
 use lib.ListN.{length}
 use borrow.Author.Tests.{eq-eqb, ne-eqb}
 use Rattle.terms.specs.Terms.{Term}
-use Rattle.unification.specs.Store.{Leaf, Store, look}
-use Rattle.unification.specs.Matching.{Pair, pairs, check, matchStep}
-use Rattle.unification.proofs.Look.{look-below}
+use Rattle.unification.specs.Store.{Leaf, Store, follow}
+use Rattle.unification.specs.Matching.{Pair, pairs, check, onPair, onNode, matchStep}
+use Rattle.unification.proofs.Follow.{unbound-binding}
 use Rattle.unification.proofs.Invariant.{Running}
 use Rattle.search.specs.Configurations.{Branch, Configuration, match}
 use Rattle.search.specs.Steps.{settle}
 use Rattle.search.proofs.Invariant.{Invariant}
 use Rattle.sheet_format.specs.Limits.{maxBudget, numbersPerUnit}
 use Rattle.machine.specs.declared.Registers.{Registers}
-use Rattle.machine.specs.Fields as fields
-use Rattle.machine.specs.Words.{deref}
-use Rattle.machine.specs.Matching.{pairsFrom, argumentWord, comparePair, dueWord, nodesAfter, checkNode}
-use Rattle.machine.proofs.Words.{position-record, position-argument}
-use Rattle.machine.proofs.Tables.{Table, few-arguments}
-use Rattle.machine.proofs.Terms.{WordAt}
-use Rattle.machine.proofs.Bindings.{hops-le, unbound-cell}
-use Rattle.machine.proofs.Stores.{deref-word}
-use Rattle.machine.proofs.WaitingArguments.{PairsAt, NodesAt, position-word}
-use Rattle.machine.proofs.Configurations.{storeOf, DueAt, CompareAt, ConfigurationAt}
-use Rattle.machine.proofs.ChoicePoints.{StateAt, ResultAt}
+use Rattle.machine.specs.Records.{made}
+use Rattle.machine.specs.RegisterUpdates.{withLeft, withRight, withDue}
+use Rattle.machine.specs.Words.{bindingOf}
+use Rattle.machine.specs.Matching.{compareWords, comparePair, visitWord, checkNode}
+use Rattle.machine.proofs.MemoryOrder.{grow-refl}
+use Rattle.machine.proofs.Tables.{Table}
+use Rattle.machine.proofs.Terms.{WordAt, word-up, word-nonzero}
+use Rattle.machine.proofs.Stores.{CellAt, follow-word}
+use Rattle.machine.proofs.Configurations.{storeOf, PairAt, CheckAt, CompareAt, ConfigurationAt, configuration-up}
+use Rattle.machine.proofs.ChoicePoints.{StateAt, SharedAt, shared-grow, ResultAt}
 use Rattle.machine.proofs.Comparing.{compare-result}
 use Rattle.machine.proofs.Checking.{visit-result}
-use Rattle.memory.specs.Records.{field}
-
--- The node that is due has its word, and the nodes left wait after it.
-pub due-word : (T : Table) (w : List ℕ) (r : Registers) → r .acts ≤ maxBudget → (v : ℕ) (t x : Term Leaf) (ns : List (Term Leaf))
-    → WordAt T (r .acts) v w (r .value) t → DueAt T (r .acts) v w (r .nodes) t x ns
-    → WordAt T (r .acts) v w (dueWord (T .numbers) w r) x × NodesAt T (r .acts) v ns w (nodesAfter (T .numbers) w (r .nodes))
-unfolding dueWord nodesAfter NodesAt
-due-word T w r small n t x ns v (inl d) = rw (eq-eqb (r .nodes) 0 (d .0), d .1, d .2) (v, refl)
-due-word T w r small n t x ns v (inr d) =
-    let u = r .acts in
-    let q = d .0 in
-    let j = d .1 in
-    let e = d .2 in
-    let k = few-arguments T (field w q fields.waitingNode) j (d .4 .node) (d .4 .more) in
-    let e₀ : r .nodes / 4 ≡ suc q = ap (λ (z : ℕ). z / 4) e ∙ position-record (suc q) j k in
-    let e₁ : r .nodes % 4 + 1 ≡ suc j = ap (λ (z : ℕ). z % 4 + 1) e ∙ ap (λ (z : ℕ). z + 1) (position-argument (suc q) j k)
-    ∙ (omega arith) in
-    rw (ne-eqb (r .nodes) 0 (λ z. omega arith), e₀, e₁)
-    (position-word T u n w (r .nodes) q j fields.goalSideNode x small e (d .4), d .5)
 
 module _ (T : Table) (w : List ℕ) (r : Registers) (b : Branch) (ds : List Configuration)
     (room : numbersPerUnit * suc (r .acts) ≤ length w) (small : r .acts < maxBudget) where
-  -- Comparing the pair that is due.
+  -- A word is in hand, one act later.
+  later : (s : Store) {a : ℕ} {t : Term Leaf} → WordAt T (r .acts) (s .next) w a t → WordAt T (suc (r .acts)) (s .next) w a t
+  later s v = word-up T (r .acts) (s .next) (s .next) w (omega arith) v
+
+  -- An act that writes nothing leaves store and alternatives as they are.
+  unwritten : (s : Store) → SharedAt T (r .acts) w (r .next) (r .trail) (r .choice) s ds
+      → SharedAt T (suc (r .acts)) w (r .next) (r .trail) (r .choice) s ds
+  unwritten s c = shared-grow T (r .acts) w w (r .next) (r .trail) (r .choice) s ds (grow-refl (r .acts) (s .next) w) c
+
+  -- The pair that is due: its bindings are followed, the goal's side first, one an act; then it is compared.
   pub compare-act : (s : Store) (p : Pair) (ps : List Pair) → Invariant (match (pairs s (p ∷ ps)) b)
       → StateAt T (r .acts) w r (match (pairs s (p ∷ ps)) b) ds
       → ResultAt T (suc (r .acts)) (comparePair (T .numbers) w r) (settle (matchStep (pairs s (p ∷ ps))) b ++ ds)
-  unfolding comparePair matchStep Invariant Running ConfigurationAt CompareAt PairsAt storeOf
+  unfolding comparePair matchStep onPair settle Invariant Running ConfigurationAt CompareAt CellAt ResultAt storeOf withLeft withRight
   compare-act s p ps i st =
-      let u = r .acts in
-      let f = st .front in
-      let P = f .1 in
-      let q = P .0 in
-      let j = P .1 in
-      let e = P .2 in
-      let good = i .0 .formed in
-      let below = i .1 .0 in
-      let k = few-arguments T (field w q fields.goalSideNode) j (P .4 .node) (P .4 .more) in
-      let a₁ : WordAt T u (s .next) w (argumentWord (T .numbers) w (r .pairs) fields.goalSideNode) (p .goal) =
-      position-word T u (s .next) w (r .pairs) q j fields.goalSideNode (p .goal) (omega arith) e (P .4) in
-      let a₂ : WordAt T u (s .next) w (argumentWord (T .numbers) w (r .pairs) fields.clauseSideNode) (p .clause) =
-      position-word T u (s .next) w (r .pairs) q j fields.clauseSideNode (p .clause) (omega arith) e (P .5) in
-      let bs = s .bindings in
-      let m = st .shared .bounded .bindings in
-      let x₁ = deref-word T u w s (st .shared .store) (good .bound) (good .below) u a₁ (below .0)
-      (let h = hops-le bs (p .goal) in omega arith) in
-      let x₂ = deref-word T u w s (st .shared .store) (good .bound) (good .below) u a₂ (below .1)
-      (let h = hops-le bs (p .clause) in omega arith) in
-      let e₀ : r .pairs / 4 ≡ suc q = ap (λ (z : ℕ). z / 4) e ∙ position-record (suc q) j k in
-      let e₁ : r .pairs % 4 + 1 ≡ suc j = ap (λ (z : ℕ). z % 4 + 1) e ∙ ap (λ (z : ℕ). z + 1) (position-argument (suc q) j k)
-      ∙ (omega arith) in
-      rw (e₀, e₁)
-      (compare-result T w r s b ds room small (f .2) (st .shared) (pairsFrom (T .numbers) w (suc q) (suc j))
-      (deref u w (argumentWord (T .numbers) w (r .pairs) fields.goalSideNode))
-      (deref u w (argumentWord (T .numbers) w (r .pairs) fields.clauseSideNode)) (look bs (p .goal)) (look bs (p .clause)) ps x₁ x₂ (P .6))
+      go (follow (s .bindings) (p .goal)) (follow (s .bindings) (p .clause))
+      (follow-word T (r .acts) w s (st .shared .store) (f .goal) (i .1 .0 .0)) (follow-word T (r .acts) w s (st .shared .store) (f .clause) (i .1 .0 .1))
+    where
+      f : PairAt T (r .acts) (s .next) w r p ps b
+      f = st .front
 
-  -- Looking at the node that is due.
+      up : PairAt T (suc (r .acts)) (s .next) w r p ps b
+      up = configuration-up T (r .acts) w r (match (pairs s (p ∷ ps)) b) f
+
+      go : (o q : Option (Term Leaf)) → CellAt T (r .acts) (s .next) w (bindingOf w (r .left)) o
+          → CellAt T (r .acts) (s .next) w (bindingOf w (r .right)) q
+          → ResultAt T (suc (r .acts))
+          (cond (eqb (bindingOf w (r .left)) 0)
+          (cond (eqb (bindingOf w (r .right)) 0) (compareWords (T .numbers) w r) (made w (withRight r (bindingOf w (r .right)))))
+          (made w (withLeft r (bindingOf w (r .left)))))
+          (settle (onPair s p ps o q) b ++ ds)
+      go (some t) q x y =
+          rw (ne-eqb (bindingOf w (r .left)) 0 (word-nonzero T x)) (record {
+            front = record { mode = up .mode; goal = later s x; clause = up .clause; pairs = up .pairs; branch = up .branch };
+            shared = unwritten s (st .shared);
+          })
+      go none (some t) x y =
+          rw (eq-eqb (bindingOf w (r .left)) 0 x, ne-eqb (bindingOf w (r .right)) 0 (word-nonzero T y)) (record {
+            front = record { mode = up .mode; goal = up .goal; clause = later s y; pairs = up .pairs; branch = up .branch };
+            shared = unwritten s (st .shared);
+          })
+      go none none x y =
+          rw (eq-eqb (bindingOf w (r .left)) 0 x, eq-eqb (bindingOf w (r .right)) 0 y)
+          (compare-result T w r s b ds room small (f .branch) (st .shared) (p .goal) (p .clause) ps (f .goal) (f .clause) (f .pairs))
+
+  -- The node that is due: its bindings are followed, one an act; then it is looked at.
   pub check-act : (s : Store) (y : ℕ) (t x : Term Leaf) (ns : List (Term Leaf)) (ps : List Pair) → Invariant (match (check s y t x ns ps) b)
       → StateAt T (r .acts) w r (match (check s y t x ns ps) b) ds
       → ResultAt T (suc (r .acts)) (checkNode (T .numbers) w r) (settle (matchStep (check s y t x ns ps)) b ++ ds)
-  unfolding checkNode matchStep Invariant Running ConfigurationAt storeOf
+  unfolding checkNode matchStep onNode settle Invariant Running ConfigurationAt CellAt ResultAt storeOf withDue
   check-act s y t x ns ps i st =
-      let u = r .acts in
-      let f = st .front in
-      let c = i .0 in
-      let good = c .good .formed in
-      let d = due-word T w r (omega arith) (s .next) t x ns (f .value) (f .nodes) in
-      let m = st .shared .bounded .bindings in
-      let bs = s .bindings in
-      let v = deref-word T u w s (st .shared .store) (good .bound) (good .below) u (d .0) (c .nodes .0)
-      (let h = hops-le bs x in omega arith) in
-      visit-result T w r s b ds room small (f .branch) (st .shared) (f .mode) y (nodesAfter (T .numbers) w (r .nodes)) t ns ps
-      (f .variable) (f .value) (f .pairs) (c .low)
-      (unbound-cell bs y (good .bound) (c .unbound)) (deref u w (dueWord (T .numbers) w r)) (look bs x) v
-      (look-below bs x (s .next) (good .below) (c .nodes .0)) (d .1)
+      go (follow (s .bindings) x) (follow-word T (r .acts) w s (st .shared .store) (f .node) (i .0 .nodes .0))
+    where
+      f : CheckAt T (r .acts) (s .next) w r y t x ns ps b
+      f = st .front
+
+      up : CheckAt T (suc (r .acts)) (s .next) w r y t x ns ps b
+      up = configuration-up T (r .acts) w r (match (check s y t x ns ps) b) f
+
+      go : (o : Option (Term Leaf)) → CellAt T (r .acts) (s .next) w (bindingOf w (r .due)) o
+          → ResultAt T (suc (r .acts))
+          (cond (eqb (bindingOf w (r .due)) 0) (visitWord (T .numbers) w r) (made w (withDue r (bindingOf w (r .due)))))
+          (settle (onNode s y t x ns ps o) b ++ ds)
+      go (some v) c =
+          rw (ne-eqb (bindingOf w (r .due)) 0 (word-nonzero T c)) (record {
+            front =
+                record {
+                  mode = up .mode;
+                  variable = up .variable;
+                  value = up .value;
+                  node = later s c;
+                  nodes = up .nodes;
+                  pairs = up .pairs;
+                  branch = up .branch;
+                };
+            shared = unwritten s (st .shared);
+          })
+      go none c =
+          let g = i .0 .good .formed in
+          rw (eq-eqb (bindingOf w (r .due)) 0 c)
+          (visit-result T w r s b ds room small (f .branch) (st .shared) (f .mode) y t ns ps (f .variable) (f .value) (f .pairs) (i .0 .low)
+          (unbound-binding (s .bindings) y (g .bound) (i .0 .unbound)) (f .nodes) x (f .node) (i .0 .nodes .0))

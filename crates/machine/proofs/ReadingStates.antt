@@ -21,18 +21,18 @@ use Rattle.machine.specs.declared.Registers.{Registers}
 use Rattle.machine.specs.Fields as fields
 use Rattle.machine.specs.Records.{made}
 use Rattle.machine.specs.Words.{environmentAt}
-use Rattle.machine.specs.Matching.{positionWord, pairsFrom, nodesFrom, nodesAfter}
+use Rattle.machine.specs.Matching.{positionWord, pairsFrom, nodesFrom}
 use Rattle.machine.specs.Backchaining.{clauseOf, clauseFrame}
 use Rattle.machine.specs.ReadingStates.{programFrom, sequentAt, goalsFrom, atomDue, membersDue, waitingPairs, pairsLeft}
-use Rattle.machine.specs.ReadingStates.{waitingNodes, nodesLeft, nodeDue}
+use Rattle.machine.specs.ReadingStates.{waitingNodes, nodesLeft}
 use Rattle.machine.proofs.Words.{position-small, position-record, position-argument}
 use Rattle.machine.proofs.Tables.{Table, few-arguments}
-use Rattle.machine.proofs.Terms.{WordAt, word-term}
+use Rattle.machine.proofs.Terms.{word-term}
 use Rattle.machine.proofs.WaitingArguments.{pairs-from, nodes-from, PairsAt, NodesAt, pairs-before, nodes-before, position-word}
+use Rattle.machine.proofs.WaitingArguments.{pairs-after, nodes-after}
 use Rattle.machine.proofs.Branches.{first-environment, sheetFrom, ProgramAt, program-sheet, program-more, program-le, SequentAt}
 use Rattle.machine.proofs.Branches.{GoalsAt}
-use Rattle.machine.proofs.Configurations.{AtomAt, RestAt, PositionAt, DueAt}
-use Rattle.machine.proofs.MatchActs.{due-word}
+use Rattle.machine.proofs.Configurations.{AtomAt, RestAt, PositionAt}
 use Rattle.memory.specs.Records.{field}
 
 -- Dropping fewer entries than the first clause has.
@@ -55,15 +55,6 @@ fewer-left f r i k after small l few b h = go (ltb (suc i) k) refl
         rw (position-small (suc r) (suc i) (omega arith) l, position-record (suc r) (suc i) l, position-argument (suc r) (suc i) l)
         (omega arith)
     go false q = omega arith
-
--- The record and the number of the argument after the one at a position.
-argument-after : (a r i : ℕ) → a ≡ 4 * suc r + i → i < 4 → (a / 4 ≡ suc r) × (a % 4 + 1 ≡ suc i)
-argument-after a r i e k = (omega arith, omega arith)
-
--- The node after the one at a position.
-nodes-after : (t w : List ℕ) (a r i : ℕ) → a ≡ 4 * suc r + i → i < 4 → nodesAfter t w a ≡ nodesFrom t w (suc r) (suc i)
-unfolding nodesAfter
-nodes-after t w a r i e k = let z = argument-after a r i e k in rw (ne-eqb a 0 (λ q. omega arith), z .0, z .1)
 
 module _ (T : Table) where
   -- The table.
@@ -171,14 +162,12 @@ module _ (T : Table) where
       let e = c .2 in
       let l = c .3 in
       let k = few-arguments T (field w r fields.goalSideNode) i (c .4 .node) (c .4 .more) in
-      let z = argument-after a r i e k in
       rw (
         waitingPairs,
         ne-eqb a 0 (λ z. omega arith),
         word-term T n x w (position-word T n x w a r i fields.goalSideNode (q .goal) small e (c .4)),
         word-term T n x w (position-word T n x w a r i fields.clauseSideNode (q .clause) small e (c .5)),
-        z .0,
-        z .1,
+        pairs-after t w a r i e k,
       )
       (ap₂ _∷_ refl (waiting-pairs f n x ps w (pairsFrom t w (suc r) (suc i)) small
       (rw (pairs-from t w r (suc i)) (fewer-left f r i (childCount t (field w r fields.goalSideNode)) (field w r fields.pairsAfter)
@@ -218,14 +207,10 @@ module _ (T : Table) where
       (rw (nodes-from t w r (suc i)) (fewer-left f r i (childCount t (field w r fields.waitingNode)) (field w r fields.waitingAfter)
       (omega arith) k (few-arguments T (field w r fields.waitingNode) (suc i) (c .4 .node)) (c .6) (omega arith))) (c .5)))
 
-  -- The node that is due and the nodes left are read back.
-  pub due-read : (x : ℕ) (v n : Term Leaf) (ns : List (Term Leaf)) (w : List ℕ) (r : Registers) → r .acts ≤ maxBudget
-      → WordAt T (r .acts) x w (r .value) v → DueAt T (r .acts) x w (r .nodes) v n ns
-      → (nodeDue (T .numbers) (made w r) ≡ n) × (nodesLeft (T .numbers) (made w r) ≡ ns)
-  unfolding nodeDue nodesLeft
-  due-read x v n ns w r small a d =
-      let z = due-word T w r small x v n ns a d in
-      let b = nodes-before T (r .acts) x ns w (nodesAfter t w (r .nodes)) (z .1) in (
-        word-term T (r .acts) x w (z .0),
-        waiting-nodes (4 * r .acts) (r .acts) x ns w (nodesAfter t w (r .nodes)) small (omega arith) (z .1),
-      )
+  -- The nodes left to look at are read back.
+  pub nodes-read : (x : ℕ) (ns : List (Term Leaf)) (w : List ℕ) (r : Registers) → r .acts ≤ maxBudget
+      → NodesAt T (r .acts) x ns w (r .nodes) → nodesLeft (T .numbers) (made w r) ≡ ns
+  unfolding nodesLeft
+  nodes-read x ns w r small c =
+      waiting-nodes (4 * r .acts) (r .acts) x ns w (r .nodes) small
+      (let b = nodes-before T (r .acts) x ns w (r .nodes) c in omega arith) c

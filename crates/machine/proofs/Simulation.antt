@@ -103,7 +103,7 @@ module _ (T : Table) where
   ended n w r (take s g b) ds d few st = absurd (let e = st .front .0 in omega arith)
   ended n w r (try s a m ms k b) ds d few st = absurd (let e = st .front .mode in omega arith)
   ended n w r (match (pairs s []) b) ds d few st = absurd (st .front)
-  ended n w r (match (pairs s (p ∷ ps)) b) ds d few st = absurd (let e = st .front .0 in omega arith)
+  ended n w r (match (pairs s (p ∷ ps)) b) ds d few st = absurd (let e = st .front .mode in omega arith)
   ended n w r (match (check s y v x ns ps) b) ds d few st = absurd (let e = st .front .mode in omega arith)
   ended n w r (match fail b) ds d few st = absurd (st .front)
   ended n w r (done s ls) ds d few st = record { result = st; counted = λ q. absurd (omega arith); few = omega arith }
@@ -184,7 +184,7 @@ module _ (T : Table) where
       → r .mode ≡ provedMode → ⊥
   unfolding ConfigurationAt CompareAt
   match-due (pairs s []) b h q = h .front
-  match-due (pairs s (p ∷ ps)) b h q = let d = h .front .0 in omega arith
+  match-due (pairs s (p ∷ ps)) b h q = let d = h .front .mode in omega arith
   match-due (check s y v x ns ps) b h q = let d = h .front .mode in omega arith
   match-due fail b h q = h .front
 

@@ -8,6 +8,7 @@ use lib.Dec.{eqb}
 use lib.ListN.{length}
 use borrow.Author.Tests.{eqb-true, eqb-false}
 use Rattle.sequents.specs.Derivations.{instanceOf}
+use Rattle.unification.specs.Store.{binding}
 use Rattle.search.specs.Search.{startStore, startGoal, start}
 use Rattle.sheet_format.specs.Limits.{numbersPerUnit}
 use Rattle.node_table.specs.Decoding.{clausesFrom, goalAt}
@@ -17,7 +18,6 @@ use Rattle.machine.specs.Machine.{startMemory, startRegisters}
 use Rattle.machine.proofs.Records.{There, there, cell-same, level-same, level-cell, cell-other, cell-level, level-other, length-cell}
 use Rattle.machine.proofs.Tables.{Table}
 use Rattle.machine.proofs.Terms.{FrameAt}
-use Rattle.machine.proofs.Bindings.{cell}
 use Rattle.machine.proofs.Stores.{CellAt}
 use Rattle.machine.proofs.Branches.{first-environment, PathAt, program-sheet, GoalsAt}
 use Rattle.machine.proofs.Configurations.{storeOf, ConfigurationAt}
@@ -62,7 +62,7 @@ variables-blank (suc n) w x y l b h k =
 pub start-result : (T : Table) (w : List ℕ) → numbersPerUnit ≤ length w
     → ResultAt T 0 (made (startMemory w) (startRegisters (T .goal)))
     (start (clausesFrom (T .numbers) (T .clauses) 0) (goalAt (T .numbers) (T .goal)))
-unfolding startMemory startRegisters start startGoal startStore instanceOf ResultAt ConfigurationAt storeOf GoalsAt PathAt FrameAt cell
+unfolding startMemory startRegisters start startGoal startStore instanceOf ResultAt ConfigurationAt storeOf GoalsAt PathAt FrameAt binding
     CellAt
 start-result T w l =
     let blank : (y : ℕ) → y < 8 → Blank (putVariables 8 w 0) y =

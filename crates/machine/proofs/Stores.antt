@@ -2,29 +2,28 @@
 use Prim.Native.Nat.{ℕ, suc, _+_, _-_, _*_, _≤_, _<_, min}
 use native.Mathlib.Omega.{arith}
 use mathlib.Core.Bool.{Bool, true, false, cond}
-use mathlib.Core.Path.{_≡_, refl, sym, ap, _∙_, subst}
+use mathlib.Core.Path.{_≡_, refl, sym, ap, _∙_}
 use mathlib.Core.List.{List, [], _∷_}
 use mathlib.Core.Option.{Option, none, some}
 use lib.Dec.{eqb}
 use borrow.Author.Tests.{eqb-true, eqb-false, eq-eqb, ne-eqb}
-use Rattle.terms.specs.Lists.{All, update}
+use Rattle.terms.specs.Lists.{update}
 use Rattle.terms.specs.Terms.{Term, leaf, Leaves}
-use Rattle.unification.specs.Store.{Leaf, var, Store, look, lower, bind, freshLevels, past, fresh, boundTo}
-use Rattle.unification.specs.Promises.{Below, BelowBinding, WellBound}
+use Rattle.unification.specs.Store.{binding, follow, Leaf, var, Store, lower, bind, freshLevels, past, fresh, boundTo}
+use Rattle.unification.specs.Promises.{Below}
 use Rattle.sheet_format.specs.Limits.{maxNodes}
 use Rattle.machine.specs.Fields as fields
 use Rattle.machine.specs.Records.{cellOf, levelOf, putCell, putLevel}
-use Rattle.machine.specs.Words.{tagOf, nameOf, termOf, variableTag, deref}
+use Rattle.machine.specs.Words.{termOf, variableTag, bindingOf}
 use Rattle.machine.specs.Frames.{putVariable}
 use Rattle.machine.specs.Reading.{variableOf}
 use Rattle.machine.proofs.Records.{There, cell-same, level-same, level-cell, cell-other, cell-level, level-other, length-cell}
-use Rattle.machine.proofs.Words.{zero-tag, tag-of, name-of}
+use Rattle.machine.proofs.Words.{tag-of, name-of}
 use Rattle.machine.proofs.MemoryOrder.{Extends, Grow, extends-22, extends-trans, extends-cell, extends-level}
 use Rattle.machine.proofs.Tables.{Table}
 use Rattle.machine.proofs.Terms.{WordAt, word-variable, word-constant, word-closure, word-extends, word-up, word-wider, word-term}
-use Rattle.machine.proofs.Terms.{word-nonzero, word-tag}
-use Rattle.machine.proofs.Bindings.{cell, hops, hop, stop, look-app, look-con, cell-none, cell-some, cell-below}
-use Rattle.machine.proofs.Deref.{deref-other, deref-free, Turn, stays, follows, deref-look}
+use Rattle.machine.proofs.Terms.{word-nonzero}
+use Rattle.unification.proofs.Follow.{binding-none, binding-some}
 
 module _ (T : Table) where
   -- A cell: 0 for an unbound variable, else the word of what it is bound to.
@@ -33,7 +32,7 @@ module _ (T : Table) where
   CellAt n x w a (some t) = WordAt T n x w a t
 
   pub record StoreAt (n : ℕ) (w : List ℕ) (s : Store) : Type 0 where
-    pub cells : (x : ℕ) → x < s .next → CellAt n (s .next) w (cellOf w x) (cell (s .bindings) x)
+    pub cells : (x : ℕ) → x < s .next → CellAt n (s .next) w (cellOf w x) (binding (s .bindings) x)
     pub levels : (x : ℕ) → x < s .next → levelOf w x ≡ s .level x
 
   -- It stays.
@@ -60,13 +59,13 @@ module _ (T : Table) where
   store-grow n k w w′ s g l r = record {
     cells =
         λ x h. rw (g .cells x (omega arith))
-        (cell-extends n (s .next) w w′ (cellOf w x) (cell (s .bindings) x) (extends-22 n w w′ (g .extends)) (r .cells x h));
+        (cell-extends n (s .next) w w′ (cellOf w x) (binding (s .bindings) x) (extends-22 n w w′ (g .extends)) (r .cells x h));
     levels = λ x h. g .levels x (omega arith) ∙ r .levels x h;
   }
 
   -- The store stays one act later.
   pub store-up : (n : ℕ) (w : List ℕ) (s : Store) → StoreAt n w s → StoreAt (suc n) w s
-  store-up n w s r = record { cells = λ x h. cell-up n (s .next) w (cellOf w x) (cell (s .bindings) x) (r .cells x h); levels = r .levels }
+  store-up n w s r = record { cells = λ x h. cell-up n (s .next) w (cellOf w x) (binding (s .bindings) x) (r .cells x h); levels = r .levels }
 
   -- Lowering a level in memory is level 1's `lower`.
   pub store-lower : (n : ℕ) (w : List ℕ) (s : Store) (z k : ℕ) → There z w → z < s .next → StoreAt n w s
@@ -74,7 +73,7 @@ module _ (T : Table) where
   unfolding lower update
   store-lower n w s z k b l r = record {
     cells =
-        λ x h. rw (cell-level w z j x) (cell-extends n (s .next) w (putLevel w z j) (cellOf w x) (cell (s .bindings) x)
+        λ x h. rw (cell-level w z j x) (cell-extends n (s .next) w (putLevel w z j) (cellOf w x) (binding (s .bindings) x)
         (extends-22 n w (putLevel w z j) (extends-level n w z j)) (r .cells x h));
     levels = λ x h. go x h (eqb x z) refl;
   }
@@ -89,21 +88,21 @@ module _ (T : Table) where
   -- Binding a variable in memory is level 1's `bind`.
   pub store-bind : (n : ℕ) (w : List ℕ) (s : Store) (y a : ℕ) (t : Term Leaf) → There y w → WordAt T n (s .next) w a t → StoreAt n w s
       → StoreAt n (putCell w y a) (bind s y t)
-  unfolding bind cell CellAt
+  unfolding bind binding CellAt
   store-bind n w s y a t b g r = record { cells = λ x h. go x h (eqb x y) refl; levels = λ x h. level-cell w y a x ∙ r .levels x h }
     where
       e : Extends fields.constantLevel n w (putCell w y a)
       e = extends-22 n w (putCell w y a) (extends-cell n w y a)
 
       go : (x : ℕ) → x < s .next → (c : Bool) → eqb x y ≡ c
-          → CellAt n (s .next) (putCell w y a) (cellOf (putCell w y a) x) (cond c (some t) (cell (s .bindings) x))
+          → CellAt n (s .next) (putCell w y a) (cellOf (putCell w y a) x) (cond c (some t) (binding (s .bindings) x))
       go x h true q = rw (eqb-true x y q, cell-same w y a b) (word-extends T n (s .next) w (putCell w y a) e g)
       go x h false q =
           rw (cell-other w y a x (eqb-false x y q))
-          (cell-extends n (s .next) w (putCell w y a) (cellOf w x) (cell (s .bindings) x) e (r .cells x h))
+          (cell-extends n (s .next) w (putCell w y a) (cellOf w x) (binding (s .bindings) x) e (r .cells x h))
 
   -- Making a variable in memory is level 1's `fresh`.
-  pub store-fresh : (n : ℕ) (w : List ℕ) (s : Store) (v i : ℕ) → There (s .next) w → cell (s .bindings) (s .next) ≡ none → StoreAt n w s
+  pub store-fresh : (n : ℕ) (w : List ℕ) (s : Store) (v i : ℕ) → There (s .next) w → binding (s .bindings) (s .next) ≡ none → StoreAt n w s
       → StoreAt n (putVariable w (s .next) i) (fresh (v ∷ []) i s)
   unfolding putVariable fresh freshLevels past update CellAt
   store-fresh n w s v i b u r = record { cells = λ x h. cells x h (eqb x y) refl; levels = λ x h. levels x h (eqb x y) refl }
@@ -120,61 +119,34 @@ module _ (T : Table) where
       e : Extends fields.constantLevel n w w₂
       e = extends-22 n w w₂ (extends-trans fields.entryLowered n w w₁ w₂ (extends-cell n w y 0) (extends-level n w₁ y i))
 
-      cells : (x : ℕ) → x < suc y → (c : Bool) → eqb x y ≡ c → CellAt n (suc y) w₂ (cellOf w₂ x) (cell (s .bindings) x)
+      cells : (x : ℕ) → x < suc y → (c : Bool) → eqb x y ≡ c → CellAt n (suc y) w₂ (cellOf w₂ x) (binding (s .bindings) x)
       cells x h true q = rw (eqb-true x y q, u) (cell-level w₁ y i y ∙ cell-same w y 0 b)
       cells x h false q =
           let d = eqb-false x y q in
           rw (cell-level w₁ y i x ∙ cell-other w y 0 x d)
-          (cell-wider n y (suc y) w₂ (cellOf w x) (cell (s .bindings) x) (omega arith)
-          (cell-extends n y w w₂ (cellOf w x) (cell (s .bindings) x) e (r .cells x (omega arith))))
+          (cell-wider n y (suc y) w₂ (cellOf w x) (binding (s .bindings) x) (omega arith)
+          (cell-extends n y w w₂ (cellOf w x) (binding (s .bindings) x) e (r .cells x (omega arith))))
 
       levels : (x : ℕ) → x < suc y → (c : Bool) → eqb x y ≡ c → levelOf w₂ x ≡ cond c i (s .level x)
       levels x h true q = rw (eqb-true x y q) (level-same w₁ y i (let l = length-cell w y 0 in omega arith))
       levels x h false q = let d = eqb-false x y q in level-other w₁ y i x d ∙ level-cell w y 0 x ∙ r .levels x (omega arith)
 
-  -- Following bindings: f turns suffice.
-  module _ (n : ℕ) (w : List ℕ) (s : Store) (r : StoreAt n w s) (wb : WellBound (s .bindings))
-      (bl : All (BelowBinding (s .next)) (s .bindings)) where
-    -- The words of terms whose variables have been made.
-    abbrev Reads : ℕ → Term Leaf → Type 0
-    Reads a t = WordAt T n (s .next) w a t × Leaves t (Below (s .next))
-
-    -- One turn of `deref` is one step of `look`.
-    turn : (a : ℕ) (t : Term Leaf) → Reads a t → Turn w (s .bindings) Reads a t
-    unfolding Leaves Below CellAt
-    turn a _ (word-variable {y = x} q, b) = go (cell (s .bindings) x) refl (r .cells x b)
-      where
-        name : nameOf a ≡ x
-        name = name-of a x 1 (omega arith) q
-
-        go : (c : Option (Term Leaf)) → cell (s .bindings) x ≡ c → CellAt n (s .next) w (cellOf w x) c
-            → Turn w (s .bindings) Reads a (leaf (var x))
-        go none e g =
-            stays (λ f. deref-free f w a (tagOf a) x (cellOf w x) (tagOf (cellOf w x)) refl (tag-of a x 1 (omega arith) q)
-            (sym name) refl refl (ap tagOf g ∙ zero-tag))
-            (stop (s .bindings) x e)
-        go (some u) e g =
-            let h = hop (s .bindings) x u wb e in
-            follows u (tag-of a x 1 (omega arith) q) (λ z. word-tag T g (ap (λ (y : ℕ). tagOf (cellOf w y)) (sym name) ∙ z)) (h .0) (h .1)
-            (subst (λ (y : ℕ). Reads (cellOf w y) u) (sym name) (g, cell-below (s .bindings) (s .next) x u bl e))
-    turn a _ (word-constant {c = c} {k = k} q l e, b) =
-        stays (λ f. deref-other f w a (tagOf a) refl (λ z. let y = tag-of a c 2 (omega arith) q in omega arith))
-        (look-con (s .bindings) c k .0)
-    turn a _ (word-closure {g = g} {ts = ts} m d q l k e i, b) =
-        stays (λ f. deref-other f w a (tagOf a) refl (λ z. let y = tag-of a (maxNodes * d + m) 3 (omega arith) q in omega arith))
-        (look-app (s .bindings) g ts .0)
-
-    pub deref-word : (f : ℕ) {a : ℕ} {t : Term Leaf} → WordAt T n (s .next) w a t → Leaves t (Below (s .next)) → hops (s .bindings) t ≤ f
-        → WordAt T n (s .next) w (deref f w a) (look (s .bindings) t)
-    deref-word f {a} {t} g b h = deref-look w (s .bindings) Reads turn f a t (g, b) h .0
+  -- Following one binding in memory is level 1's `follow`.
+  pub follow-word : (n : ℕ) (w : List ℕ) (s : Store) → StoreAt n w s → {a : ℕ} {t : Term Leaf} → WordAt T n (s .next) w a t
+      → Leaves t (Below (s .next)) → CellAt n (s .next) w (bindingOf w a) (follow (s .bindings) t)
+  unfolding bindingOf follow Leaves Below CellAt
+  follow-word n w s r {a} (word-variable {y = x} q) b =
+      rw (tag-of a x variableTag (omega arith) q, name-of a x 1 (omega arith) q) (r .cells x b)
+  follow-word n w s r {a} (word-constant {c = c} q l e) b = rw (tag-of a c 2 (omega arith) q) refl
+  follow-word n w s r {a} (word-closure m d q l k e i) b = rw (tag-of a (maxNodes * d + m) 3 (omega arith) q) refl
 
   -- The store is read back.
   pub store-bindings : (n : ℕ) (w : List ℕ) (s : Store) → StoreAt n w s → (x : ℕ) → x < s .next
       → variableOf (T .numbers) w x ≡ boundTo (s .bindings) x
   unfolding variableOf CellAt
-  store-bindings n w s r x h = go (cell (s .bindings) x) refl (r .cells x h)
+  store-bindings n w s r x h = go (binding (s .bindings) x) refl (r .cells x h)
     where
-      go : (c : Option (Term Leaf)) → cell (s .bindings) x ≡ c → CellAt n (s .next) w (cellOf w x) c
+      go : (c : Option (Term Leaf)) → binding (s .bindings) x ≡ c → CellAt n (s .next) w (cellOf w x) c
           → cond (eqb (cellOf w x) 0) (leaf (var x)) (termOf (T .numbers) w (cellOf w x)) ≡ boundTo (s .bindings) x
-      go none e g = rw (eq-eqb (cellOf w x) 0 g) (sym (cell-none (s .bindings) x e))
-      go (some t) e g = rw (ne-eqb (cellOf w x) 0 (word-nonzero T g)) (word-term T n (s .next) w g ∙ sym (cell-some (s .bindings) x t e))
+      go none e g = rw (eq-eqb (cellOf w x) 0 g) (sym (binding-none (s .bindings) x e))
+      go (some t) e g = rw (ne-eqb (cellOf w x) 0 (word-nonzero T g)) (word-term T n (s .next) w g ∙ sym (binding-some (s .bindings) x t e))

@@ -1,5 +1,5 @@
 -- Pairs and nodes that wait: the arguments of linked records.
-use Prim.Native.Nat.{ℕ, zero, suc, _+_, _-_, _*_, _≤_, _<_}
+use Prim.Native.Nat.{ℕ, zero, suc, _+_, _-_, _*_, _/_, _%_, _≤_, _<_}
 use native.Mathlib.Omega.{arith}
 use mathlib.Core.Bool.{cond}
 use mathlib.Core.Path.{_≡_, refl, ap, _∙_}
@@ -15,7 +15,7 @@ use Rattle.node_table.specs.Layout.{childCount, childOf}
 use Rattle.node_table.specs.Decoding.{childrenBy, termAt}
 use Rattle.machine.specs.Fields as fields
 use Rattle.machine.specs.Words.{wordOf, environmentAt}
-use Rattle.machine.specs.Matching.{positionWord, pairsFrom, nodesFrom, argumentWord}
+use Rattle.machine.specs.Matching.{positionWord, pairsFrom, nodesFrom, argumentWord, pairsAfter, nodesAfter}
 use Rattle.machine.proofs.Words.{position-small, position-record, position-argument}
 use Rattle.machine.proofs.MemoryOrder.{Extends}
 use Rattle.machine.proofs.Tables.{Table, Applied, argument-term, few-arguments}
@@ -43,6 +43,20 @@ unfolding argumentWord
 argument-word t w r i f h =
     let e : suc r - 1 ≡ r = omega arith in
     rw (position-record (suc r) i h, position-argument (suc r) i h, e)
+
+-- The record and the number of the argument after the one at a position.
+argument-after : (a r i : ℕ) → a ≡ 4 * suc r + i → i < 4 → (a / 4 ≡ suc r) × (a % 4 + 1 ≡ suc i)
+argument-after a r i e k = (omega arith, omega arith)
+
+-- The position after that of a pair.
+pub pairs-after : (t w : List ℕ) (a r i : ℕ) → a ≡ 4 * suc r + i → i < 4 → pairsAfter t w a ≡ pairsFrom t w (suc r) (suc i)
+unfolding pairsAfter
+pairs-after t w a r i e k = let z = argument-after a r i e k in rw (z .0, z .1)
+
+-- The position after that of a node.
+pub nodes-after : (t w : List ℕ) (a r i : ℕ) → a ≡ 4 * suc r + i → i < 4 → nodesAfter t w a ≡ nodesFrom t w (suc r) (suc i)
+unfolding nodesAfter
+nodes-after t w a r i e k = let z = argument-after a r i e k in rw (z .0, z .1)
 
 module _ (T : Table) where
   -- Argument i of the node a in the frame f.
@@ -289,3 +303,29 @@ module _ (T : Table) where
       let k = few-arguments T (field w r f) i (c .node) (c .more) in
       rw (e, argument-word t w r i f k, ← c .is)
       (node-word T n x w (childOf t (field w r f) i) (field w r (f + 1)) b (argument-term T (field w r f) i (c .node) (c .more)) (c .frame))
+
+  -- The first of the pairs that wait: the words of its sides, and the pairs after it.
+  pub first-pair : (n x : ℕ) (w : List ℕ) (a : ℕ) (q : Pair) (ps : List Pair) → n ≤ maxBudget → PairsAt n x (q ∷ ps) w a
+      → WordAt T n x w (argumentWord (T .numbers) w a fields.goalSideNode) (q .goal)
+      × WordAt T n x w (argumentWord (T .numbers) w a fields.clauseSideNode) (q .clause) × PairsAt n x ps w (pairsAfter (T .numbers) w a)
+  unfolding PairsAt
+  first-pair n x w a q ps small c =
+      let r = c .0 in
+      let i = c .1 in
+      let k = few-arguments T (field w r fields.goalSideNode) i (c .4 .node) (c .4 .more) in (
+        position-word n x w a r i fields.goalSideNode (q .goal) small (c .2) (c .4),
+        position-word n x w a r i fields.clauseSideNode (q .clause) small (c .2) (c .5),
+        rw (pairs-after (T .numbers) w a r i (c .2) k) (c .6),
+      )
+
+  -- The first of the nodes that wait: its word, and the nodes after it.
+  pub first-node : (n x : ℕ) (w : List ℕ) (a : ℕ) (s : Term Leaf) (ss : List (Term Leaf)) → n ≤ maxBudget → NodesAt n x (s ∷ ss) w a
+      → WordAt T n x w (argumentWord (T .numbers) w a fields.waitingNode) s × NodesAt n x ss w (nodesAfter (T .numbers) w a)
+  unfolding NodesAt
+  first-node n x w a s ss small c =
+      let r = c .0 in
+      let i = c .1 in
+      let k = few-arguments T (field w r fields.waitingNode) i (c .4 .node) (c .4 .more) in (
+        position-word n x w a r i fields.waitingNode s small (c .2) (c .4),
+        rw (nodes-after (T .numbers) w a r i (c .2) k) (c .5),
+      )

@@ -19,7 +19,7 @@ dueAct t c w r =
     cond (eqb (r .mode) takeMode) (takeGoal t c w r)
     (cond (eqb (r .mode) tryMode) (tryNext t c w r) (cond (eqb (r .mode) compareMode) (comparePair t w r) (checkNode t w r)))
 
--- "Each of these four acts takes one unit".
+-- "Each of these four acts takes one unit", and so does following a binding (request W-206).
 unfoldable pub act : List ℕ → ℕ → List ℕ → Registers → Made
 act t c w r =
     let m = dueAct t c w r in
@@ -53,9 +53,10 @@ startRegisters goal = record {
   clause = 0;
   member = 0;
   place = 0;
+  left = 0;
+  right = 0;
   pairs = 0;
-  variable = 0;
-  value = 0;
+  due = 0;
   nodes = 0;
 }
 

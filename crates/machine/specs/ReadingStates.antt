@@ -1,7 +1,7 @@
 -- This file reads the registers and the work buffer back as a configuration of the search: the open goals, and what the act that is
 -- due works on (Reading has the store and the path). t is the table, c the number of the sheet's clauses. Where a chain of records is
 -- followed, the first number bounds its length: an act makes at most one record.
-use Prim.Native.Nat.{ℕ, zero, suc, _+_, _-_, _*_, _/_, _%_}
+use Prim.Native.Nat.{ℕ, zero, suc, _-_, _*_}
 use mathlib.Core.Bool.{true, false}
 use mathlib.Core.List.{List, [], _∷_}
 use lib.Dec.{eqb}
@@ -19,7 +19,7 @@ use Rattle.node_table.specs.Decoding.{argumentsAt, goalAt, clauseAtNode, clause
 use Rattle.machine.specs.Fields as fields
 use Rattle.machine.specs.Records.{Made}
 use Rattle.machine.specs.Words.{environmentAt, termOf}
-use Rattle.machine.specs.Matching.{argumentWord, pairsFrom, dueWord, nodesAfter}
+use Rattle.machine.specs.Matching.{argumentWord, pairsAfter, nodesAfter}
 use Rattle.memory.specs.Records.{field}
 
 -- The program from assumption h on, at most n assumptions, then the sheet's clauses from the i-th on.
@@ -83,10 +83,14 @@ waitingPairs (suc n) t w a =
             goal = termOf t w (argumentWord t w a fields.goalSideNode);
             clause = termOf t w (argumentWord t w a fields.clauseSideNode);
           }
-          ∷ waitingPairs n t w (pairsFrom t w (a / maxArity) (a % maxArity + 1))
+          ∷ waitingPairs n t w (pairsAfter t w a)
     ]
 
--- The pairs left to compare. A record has at most four.
+-- The pair that is due, as far as it is looked through.
+unfoldable pub pairDue : List ℕ → Made → Pair
+pairDue t m = record { goal = termOf t (m .memory) (m .registers .left); clause = termOf t (m .memory) (m .registers .right) }
+
+-- The pairs left to compare after it. A record has at most four.
 unfoldable pub pairsLeft : List ℕ → Made → List Pair
 pairsLeft t m = waitingPairs (maxArity * m .registers .acts) t (m .memory) (m .registers .pairs)
 
@@ -99,10 +103,10 @@ waitingNodes (suc n) t w a =
       | false ↦ termOf t w (argumentWord t w a fields.waitingNode) ∷ waitingNodes n t w (nodesAfter t w a)
     ]
 
--- The nodes left to look at after the one that is due.
-unfoldable pub nodesLeft : List ℕ → Made → List (Term Leaf)
-nodesLeft t m = waitingNodes (maxArity * m .registers .acts) t (m .memory) (nodesAfter t (m .memory) (m .registers .nodes))
-
--- The node that is due in a range check.
+-- The node that is due in a range check, as far as it is looked through.
 unfoldable pub nodeDue : List ℕ → Made → Term Leaf
-nodeDue t m = termOf t (m .memory) (dueWord t (m .memory) (m .registers))
+nodeDue t m = termOf t (m .memory) (m .registers .due)
+
+-- The nodes left to look at after it.
+unfoldable pub nodesLeft : List ℕ → Made → List (Term Leaf)
+nodesLeft t m = waitingNodes (maxArity * m .registers .acts) t (m .memory) (m .registers .nodes)

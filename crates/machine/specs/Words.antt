@@ -1,7 +1,7 @@
 -- Packed words: a variable, a made constant (by the act that made it), or a closure: the node of an
 -- application with the frame that its names are read in. Every word and pointer of a search within 50,000 acts is below 2 ^ 32.
-use Prim.Native.Nat.{ℕ, zero, suc, _+_, _-_, _*_, _/_, _%_}
-use mathlib.Core.Bool.{true, false, cond}
+use Prim.Native.Nat.{ℕ, _+_, _-_, _*_, _/_, _%_}
+use mathlib.Core.Bool.{cond}
 use mathlib.Core.List.{List}
 use lib.Dec.{eqb, ltb}
 use Rattle.terms.specs.Terms.{sheetSymbol, Term, leaf, app, nil, substitute}
@@ -63,14 +63,9 @@ slotOf w f v = cond (eqb f 0) (variableWord v) (field w (f - 1) (fields.frame + 
 unfoldable pub wordOf : List ℕ → List ℕ → ℕ → ℕ → ℕ
 wordOf t w n f = cond (eqb (kindOf t n) variableKind) (slotOf w f (labelOf t n)) (closureWord n f)
 
--- Following bindings, at most n of them. A word of tag 0 binds nothing: an unbound variable's 0, and the numbers that the printer
--- gives to the variables left over.
-unfoldable pub deref : ℕ → List ℕ → ℕ → ℕ
-deref zero w a = a
-deref (suc n) w a = elim (eqb (tagOf a) variableTag) [
-  | true ↦ elim (eqb (tagOf (cellOf w (nameOf a))) 0) [ true ↦ a | false ↦ deref n w (cellOf w (nameOf a)) ]
-  | false ↦ a
-]
+-- What a word is bound to; 0 where it is no variable, or an unbound one.
+unfoldable pub bindingOf : List ℕ → ℕ → ℕ
+bindingOf w a = cond (eqb (tagOf a) variableTag) (cellOf w (nameOf a)) 0
 
 -- How words are read back: a leaf, an environment, a term.
 unfoldable pub leafOf : List ℕ → ℕ → Leaf

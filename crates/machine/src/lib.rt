@@ -29,10 +29,13 @@ pub struct Registers {
     pub clause: u32,
     pub member: u32,
     pub place: u32,
-    // The pairs that wait, the first of them due in a comparison.
+    // The words in hand of the pair that is due: the goal's side, the clause's side. In a range check: the variable to be bound, its
+    // value.
+    pub left: u32,
+    pub right: u32,
+    // The pairs that wait, after the one in hand.
     pub pairs: u32,
-    // A range check: the variable and what it is to be bound to, as words; the nodes that wait, 0 for the whole value.
-    pub variable: u32,
-    pub value: u32,
+    // A range check: the word in hand of the node that is due; the nodes that wait after it.
+    pub due: u32,
     pub nodes: u32,
 }

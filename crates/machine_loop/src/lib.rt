@@ -63,7 +63,7 @@ pub fn run_acts(n: u32, t: &[u32], c: u32, w: &mut [u32], from: Registers) -> Re
                 return r;
             }
             r = act(t, c, w, r);
-            left -= 1; // a pair compared or a node looked at
+            left -= 1; // a pair compared, a node looked at or a binding followed
             // A mismatch: a member is due.
             if r.mode == modes::TRY {
                 continue 'members;
@@ -100,9 +100,10 @@ pub fn start_registers(goal: u32) -> Registers
         clause: 0,
         member: 0,
         place: 0,
+        left: 0,
+        right: 0,
         pairs: 0,
-        variable: 0,
-        value: 0,
+        due: 0,
         nodes: 0,
     }
 }

@@ -1,4 +1,4 @@
-// The words of the engine's machine, which stand for terms: a variable, a constant, or a node in a frame; following bindings.
+// The words of the engine's machine, which stand for terms: a variable, a constant, or a node in a frame; what they are bound to.
 // Each function is a definition of the crate machine, and its contract says so.
 use super::cells::cell_of;
 use super::cells::slot;
@@ -11,7 +11,7 @@ use sheet_format::limits;
 ghost use mathlib.Core.Path.{_≡_};
 ghost use Prim.Native.Nat.{_+_, _-_};
 ghost use Rattle.machine.specs.Words.{truncate, increment, variableWord, constantWord, closureWord, tagOf, nameOf, nodeOf, frameOf, slotOf};
-ghost use Rattle.machine.specs.Words.{wordOf, deref};
+ghost use Rattle.machine.specs.Words.{wordOf, bindingOf};
 
 // The tags, their number and the number of nodes as addends and factors of words.
 pub const TAGS: usize = tags::COUNT as usize;
@@ -101,22 +101,12 @@ pub fn word_of(t: &[u32], w: &[u32], n: u32, f: u32) -> u32
     closure_word(n, f)
 }
 
-// Follows at most n bindings. A word of tag 0 binds nothing.
-pub fn deref(n: u32, w: &[u32], a: u32) -> u32
-    ensures { λ r. ⌜ r ≡ deref n (now (w .entry)) a ⌝ }
+// What a word is bound to; 0 where it is no variable, or an unbound one. The walk follows one binding an act (request W-206).
+pub fn binding_of(w: &[u32], a: u32) -> u32
+    ensures { λ r. ⌜ r ≡ bindingOf (now (w .entry)) a ⌝ }
 {
-    let mut bindings = n;
-    let mut at = a;
-    while 0 < bindings {
-        if tag_of(at) != tags::VARIABLE {
-            return at;
-        }
-        let b = cell_of(w, name_of(at));
-        if tag_of(b) == 0 {
-            return at;
-        }
-        at = b;
-        bindings -= 1;
+    if tag_of(a) != tags::VARIABLE {
+        return 0;
     }
-    at
+    cell_of(w, name_of(a))
 }

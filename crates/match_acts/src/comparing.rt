@@ -1,82 +1,86 @@
-// Comparing a pair of arguments: the goal's side first. Each function is a definition of the crate machine, and its contract says
-// so.
-use super::pairs::argument_word;
+// Comparing a pair of arguments, and following a binding of one of its sides: the goal's side first. Each function is a definition of
+// the crate machine, and its contract says so.
 use super::pairs::due_pairs;
 use super::pairs::pairs_from;
 use machine::Registers;
-use machine::fields;
 use machine::tags;
 use machine_memory::choice_points::failed;
 use machine_memory::records::put_pairs;
 use machine_memory::registers::with_check;
-use machine_memory::words::deref;
+use machine_memory::registers::with_left;
+use machine_memory::registers::with_right;
+use machine_memory::words::binding_of;
 use machine_memory::words::frame_of;
 use machine_memory::words::increment;
 use machine_memory::words::node_of;
 use machine_memory::words::tag_of;
 use node_table::label;
-use sheet_format::limits;
 ghost use mathlib.Core.Path.{_≡_};
-ghost use Prim.Native.Nat.{_+_};
 ghost use Rattle.machine.specs.Records.{made};
 ghost use Rattle.machine.specs.Matching.{compareClosures, compareLeaves, compareWords, comparePair};
 
-// Two applications: the same symbol or number, then their arguments, then the pairs at e.
-pub fn compare_closures(t: &[u32], w: &mut [u32], r: Registers, e: u32, x: u32, y: u32) -> Registers
-    ensures { λ s. ⌜ made (now (w .exit)) s ≡ compareClosures (now (t .entry)) (now (w .entry)) r e x y ⌝ }
+// Two applications: the same symbol or number, then their arguments, then the pairs that wait.
+pub fn compare_closures(t: &[u32], w: &mut [u32], r: Registers) -> Registers
+    ensures { λ s. ⌜ made (now (w .exit)) s ≡ compareClosures (now (t .entry)) (now (w .entry)) r ⌝ }
 {
-    let m = node_of(x);
-    let n = node_of(y);
+    let m = node_of(r.left);
+    let n = node_of(r.right);
     if label(t, m) != label(t, n) {
         return failed(w, r);
     }
     let u = r.acts;
-    put_pairs(w, u, m, frame_of(x), n, frame_of(y), e);
-    due_pairs(w, r, pairs_from(t, w, increment(u), 0))
+    put_pairs(w, u, m, frame_of(r.left), n, frame_of(r.right), r.pairs);
+    due_pairs(t, w, r, pairs_from(t, w, increment(u), 0))
 }
 
-// Goal side a made constant: the same one twice, then the pairs at e.
-pub fn compare_leaves(w: &mut [u32], r: Registers, e: u32, x: u32, y: u32) -> Registers
-    ensures { λ s. ⌜ made (now (w .exit)) s ≡ compareLeaves (now (w .entry)) r e x y ⌝ }
+// Goal side a made constant: the same one twice, then the pairs that wait.
+pub fn compare_leaves(t: &[u32], w: &mut [u32], r: Registers) -> Registers
+    ensures { λ s. ⌜ made (now (w .exit)) s ≡ compareLeaves (now (t .entry)) (now (w .entry)) r ⌝ }
 {
-    if x == y {
-        return due_pairs(w, r, e);
+    if r.left == r.right {
+        return due_pairs(t, w, r, r.pairs);
     }
     failed(w, r)
 }
 
-// Compares the goal's side x with the clause's side y, both looked through; then the pairs at e are due.
-pub fn compare_words(t: &[u32], w: &mut [u32], r: Registers, e: u32, x: u32, y: u32) -> Registers
-    ensures { λ s. ⌜ made (now (w .exit)) s ≡ compareWords (now (t .entry)) (now (w .entry)) r e x y ⌝ }
+// Compares the goal's side with the clause's side, both looked through; then the pairs that wait.
+pub fn compare_words(t: &[u32], w: &mut [u32], r: Registers) -> Registers
+    ensures { λ s. ⌜ made (now (w .exit)) s ≡ compareWords (now (t .entry)) (now (w .entry)) r ⌝ }
 {
+    let x = r.left;
+    let y = r.right;
     let a = tag_of(x);
     if a == tags::VARIABLE {
         if x == y {
-            return due_pairs(w, r, e);
+            return due_pairs(t, w, r, r.pairs);
         }
-        return with_check(r, e, x, y);
+        return with_check(r, x, y);
     }
     let b = tag_of(y);
     if b == tags::VARIABLE {
-        return with_check(r, e, y, x);
+        return with_check(r, y, x);
     }
     if a == tags::CONSTANT {
-        return compare_leaves(w, r, e, x, y);
+        return compare_leaves(t, w, r);
     }
     if b == tags::CONSTANT {
         return failed(w, r);
     }
-    compare_closures(t, w, r, e, x, y)
+    compare_closures(t, w, r)
 }
 
-// One act: the pair that is due.
+// One act on the pair that is due: it follows one binding (request W-206), of the goal's side if there is one, else of the clause's
+// side; where neither side is bound, it compares them.
 pub fn compare_pair(t: &[u32], w: &mut [u32], r: Registers) -> Registers
     ensures { λ s. ⌜ made (now (w .exit)) s ≡ comparePair (now (t .entry)) (now (w .entry)) r ⌝ }
 {
-    let a = r.pairs;
-    let u = r.acts;
-    let e = pairs_from(t, w, a / limits::MAX_ARITY, a % limits::MAX_ARITY + 1);
-    let x = deref(u, w, argument_word(t, w, a, fields::GOAL_SIDE_NODE));
-    let y = deref(u, w, argument_word(t, w, a, fields::CLAUSE_SIDE_NODE));
-    compare_words(t, w, r, e, x, y)
+    let x = binding_of(w, r.left);
+    if x != 0 {
+        return with_left(r, x);
+    }
+    let y = binding_of(w, r.right);
+    if y != 0 {
+        return with_right(r, y);
+    }
+    compare_words(t, w, r)
 }

@@ -11,11 +11,11 @@ use Rattle.terms.proofs.Terms.{leaves-substitute}
 use Rattle.unification.specs.Store.{Leaf, var, con, Binding, boundTo, solved, apply, at, onlyAt}
 use Rattle.unification.specs.Promises.{Unbound, WellBound}
 use Rattle.unification.proofs.Solution.{final, newest, final-bind}
-use Rattle.machine.proofs.Bindings.{cell-none, unbound-cell}
+use Rattle.unification.proofs.Follow.{binding-none, unbound-binding}
 
 -- An unbound variable is bound to nothing.
 pub unbound-alone : (bs : List Binding) (x : ℕ) → WellBound bs → Unbound bs x → boundTo bs x ≡ leaf (var x)
-unbound-alone bs x w u = cell-none bs x (unbound-cell bs x w u)
+unbound-alone bs x w u = binding-none bs x (unbound-binding bs x w u)
 
 -- What holds of the leaves of all values holds of those of the final values.
 pub final-leaves : (P : Leaf → Type 0) → ((x : ℕ) → P (var x)) → (bs : List Binding) → WellBound bs → ((x : ℕ) → Leaves (boundTo bs x) P)

@@ -11,7 +11,8 @@ use Rattle.sheet_format.specs.Limits.{numbersPerUnit, variableNames}
 use Rattle.node_table.specs.Layout.{kindOf, labelOf, variableKind}
 use Rattle.machine.specs.Fields as fields
 use Rattle.machine.specs.Records.{cellOf, levelOf, putCell}
-use Rattle.machine.specs.Words.{closureWord, tagOf, nameOf, slotOf, wordOf, variableTag, deref}
+use Rattle.machine.specs.Words.{closureWord, tagOf, nameOf, slotOf, wordOf, variableTag}
+use Rattle.printing.specs.Bindings.{deref}
 use Rattle.machine.proofs.Records.{There, cell-same, cell-put, level-put, field-cell, level-cell, cell-other}
 use Rattle.memory.proofs.Records.{length-put, field-other}
 use Rattle.memory.specs.Records.{field, putField}

@@ -2,6 +2,7 @@
 pub mod Bytes
 pub mod PrinterStates
 pub mod Tokens
+pub mod Bindings
 pub mod LeftAlone
 pub mod Steps
 pub mod Reaching

@@ -8,7 +8,7 @@ use mathlib.Core.Option.{Option, none, some}
 use lib.ListN.{length}
 use Rattle.terms.specs.Terms.{Term}
 use Rattle.sequents.specs.Sequents.{Line}
-use Rattle.unification.specs.Store.{Leaf, Store}
+use Rattle.unification.specs.Store.{binding, Leaf, Store}
 use Rattle.unification.specs.Promises.{Formed}
 use Rattle.search.specs.Configurations.{Configuration, done}
 use Rattle.search.specs.Search.{proved, ends, search}
@@ -23,7 +23,7 @@ use Rattle.machine.specs.Simulation.{StandsAt, Reports}
 use Rattle.machine.proofs.Words.{tag-is, name-is, node-is, frame-is}
 use Rattle.machine.proofs.Tables.{Table, node-small}
 use Rattle.machine.proofs.Terms.{LeafAt, variable-at, constant-at, frame-le, slot-leaf, WordAt, word-variable, word-constant, word-closure}
-use Rattle.machine.proofs.Bindings.{cell, unbound-cell}
+use Rattle.unification.proofs.Follow.{unbound-binding}
 use Rattle.machine.proofs.Stores.{CellAt}
 use Rattle.machine.proofs.Branches.{PathAt}
 use Rattle.machine.proofs.Configurations.{storeOf, ConfigurationAt}
@@ -102,9 +102,9 @@ module _ (T : Table) where
     formed = formed;
     bindings = bounded .bindings;
     unbound =
-        λ x l u. subst (CellAt T acts (s .next) w (cellOf w x)) (unbound-cell (s .bindings) x (formed .bound) u)
+        λ x l u. subst (CellAt T acts (s .next) w (cellOf w x)) (unbound-binding (s .bindings) x (formed .bound) u)
         (st .shared .store .cells x l);
-    words = λ x l. word x (cell (s .bindings) x) (st .shared .store .cells x l);
+    words = λ x l. word x (binding (s .bindings) x) (st .shared .store .cells x l);
     pointer = path-pointer acts (s .next) ls w (m .registers .path) (m .registers .line) (st .front .1);
     path = path-made acts acts (s .next) ls w (m .registers .path) (m .registers .line) (omega arith) (st .front .1);
   }

@@ -24,7 +24,8 @@ use Rattle.node_table.specs.WellMade.{Declared, Named}
 use Rattle.node_table.proofs.Decoding.{Nodes}
 use Rattle.answer_texts.specs.Spelling.{nameIn, nameOf, spellFunctor}
 use Rattle.machine.specs.Records.{cellOf, levelOf}
-use Rattle.machine.specs.Words.{nodeOf, frameOf, wordOf, environmentAt, termOf, deref}
+use Rattle.machine.specs.Words.{nodeOf, frameOf, wordOf, environmentAt, termOf}
+use Rattle.printing.specs.Bindings.{deref}
 use Rattle.machine.specs.Reading.{variableOf}
 use Rattle.printing.specs.Output.{emit, writeNumber}
 use Rattle.printing.specs.Numbering.{withPosition, Printer, wrote}

@@ -15,7 +15,7 @@ use Rattle.terms.specs.Terms.{sheetSymbol, Term, leaf, app, Terms, nil, cons, s
 use Rattle.terms.proofs.Lists.{all-append}
 use Rattle.terms.proofs.Terms.{leaves-substitute, leaves-any, leaves-appear, appears-leaves}
 use Rattle.sequents.specs.Symbols.{Symbol, made, leftover, Ground}
-use Rattle.unification.specs.Store.{Leaf, var, con, Binding, Store, look, boundTo, solution, at}
+use Rattle.unification.specs.Store.{binding, Leaf, var, con, Binding, Store, look, boundTo, solution, at}
 use Rattle.unification.specs.Promises.{Below, BelowBinding, Unbound, Formed}
 use Rattle.unification.proofs.Look.{unbound-beyond}
 use Rattle.unification.proofs.Solution.{look-twice, boundTo-unbound, appears-unbound}
@@ -33,16 +33,18 @@ use Rattle.answer_texts.specs.Numbering.{symbolsIn, symbolsInAll}
 use Rattle.machine.specs.Fields as fields
 use Rattle.machine.specs.Records.{cellOf, levelOf}
 use Rattle.machine.specs.Words.{closureWord, tagOf, nameOf, nodeOf, frameOf, slotOf, wordOf, leafOf, environmentAt, termOf, constantTag}
-use Rattle.machine.specs.Words.{variableTag, deref}
+use Rattle.machine.specs.Words.{variableTag}
+use Rattle.printing.specs.Bindings.{deref}
 use Rattle.machine.specs.Reading.{variableOf}
-use Rattle.machine.proofs.Bindings.{cell, cell-some, hops, hops-le, look-app, look-con, hop, stop}
+use Rattle.unification.proofs.Follow.{binding-some, stop}
+use Rattle.unification.proofs.Looking.{hops, hops-le, look-app, look-con, hop}
 use Rattle.printing.specs.Written.{LeafWord, variable, constant, Closure, TermWord, ofLeaf, ofClosure}
 use Rattle.printing.proofs.Words.{closure-tag, closure-node, closure-frame}
 use Rattle.printing.proofs.Finals.{unbound-alone, final-leaves}
 use Rattle.printing.proofs.Steps.{Right}
 use Rattle.memory.specs.Records.{field}
 use Rattle.machine.proofs.Words.{zero-tag}
-use Rattle.machine.proofs.Deref.{deref-other, deref-free, Turn, stays, follows, deref-look}
+use Rattle.printing.proofs.Bindings.{deref-other, deref-free, Turn, stays, follows, deref-look}
 
 -- What holds of all leaves holds of all symbols that show.
 mutual
@@ -253,26 +255,26 @@ module _ (t : List ℕ) (nodes : ℕ) (table : Nodes t nodes) (size : nodes ≤ 
 
     -- A variable with no word is looked through already.
     free-look : (x : ℕ) → x < s .next → cellOf w x ≡ 0 → look (s .bindings) (leaf (var x)) ≡ leaf (var x)
-    free-look x l z = go (cell (s .bindings) x) refl
+    free-look x l z = go (binding (s .bindings) x) refl
       where
-        go : (o : Option (Term Leaf)) → cell (s .bindings) x ≡ o → look (s .bindings) (leaf (var x)) ≡ leaf (var x)
+        go : (o : Option (Term Leaf)) → binding (s .bindings) x ≡ o → look (s .bindings) (leaf (var x)) ≡ leaf (var x)
         go none e = stop (s .bindings) x e
         go (some u) e =
-            let q : u ≡ leaf (var x) = sym (cell-some (s .bindings) x u e) ∙ sym (holds x l) ∙ free-word x z in
+            let q : u ≡ leaf (var x) = sym (binding-some (s .bindings) x u e) ∙ sym (holds x l) ∙ free-word x z in
             absurd (let h = hop (s .bindings) x u (formed .bound) e .1 in let k = ap (hops (s .bindings)) q in omega arith)
 
     -- A variable with a word is looked through as that word's term, with one turn more.
     bound-look : (x : ℕ) → x < s .next → Word (cellOf w x)
         → (look (s .bindings) (leaf (var x)) ≡ look (s .bindings) (termOf t w (cellOf w x)))
         × (hops (s .bindings) (leaf (var x)) ≡ suc (hops (s .bindings) (termOf t w (cellOf w x))))
-    bound-look x l h = go (cell (s .bindings) x) refl
+    bound-look x l h = go (binding (s .bindings) x) refl
       where
-        go : (o : Option (Term Leaf)) → cell (s .bindings) x ≡ o
+        go : (o : Option (Term Leaf)) → binding (s .bindings) x ≡ o
             → (look (s .bindings) (leaf (var x)) ≡ look (s .bindings) (termOf t w (cellOf w x)))
             × (hops (s .bindings) (leaf (var x)) ≡ suc (hops (s .bindings) (termOf t w (cellOf w x))))
         go none e = absurd (word-tag (cellOf w x) h (ap tagOf (free x l (stop (s .bindings) x e)) ∙ zero-tag))
         go (some u) e =
-            let q : u ≡ termOf t w (cellOf w x) = sym (cell-some (s .bindings) x u e) ∙ sym (holds x l) ∙ bound-word x h in
+            let q : u ≡ termOf t w (cellOf w x) = sym (binding-some (s .bindings) x u e) ∙ sym (holds x l) ∙ bound-word x h in
             subst (λ (v : Term Leaf). (look (s .bindings) (leaf (var x)) ≡ look (s .bindings) v)
             × (hops (s .bindings) (leaf (var x)) ≡ suc (hops (s .bindings) v))) q (hop (s .bindings) x u (formed .bound) e)
 

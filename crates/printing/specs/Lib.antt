@@ -2,6 +2,7 @@
 -- the code is.
 pub mod Output
 pub mod Numbering
+pub mod Bindings
 pub mod WriteTerms
 pub mod WriteLines
 pub mod PathLinks

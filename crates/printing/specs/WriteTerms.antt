@@ -9,8 +9,9 @@ use mathlib.Core.List.{List}
 use lib.Dec.{eqb, ltb}
 use Rattle.sheet_format.specs.Limits.{maxSymbols}
 use Rattle.node_table.specs.Layout.{childCount, labelOf, childOf, nameStart, nameLength}
-use Rattle.machine.specs.Words.{increment, tagOf, nameOf, nodeOf, frameOf, wordOf, constantTag, variableTag, deref}
+use Rattle.machine.specs.Words.{increment, tagOf, nameOf, nodeOf, frameOf, wordOf, constantTag, variableTag}
 use Rattle.printing.specs.Output.{emit, copyBytes, writeNumber}
+use Rattle.printing.specs.Bindings.{deref}
 use Rattle.printing.specs.Numbering.{Printer, wrote, writeVariable, writeConstant}
 
 -- A byte on the printer.

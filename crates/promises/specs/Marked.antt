@@ -1,4 +1,5 @@
--- Document 01, "Rehearsed sheets": the marked cases as one table, sheets and texts as bytes. The last bullet counts as marked.
+-- Document 01, "Rehearsed sheets": the marked cases as one table, sheets and texts as bytes. The last bullet counts as marked. The occurs
+-- case has 9 units by request W-206.
 use Prim.Native.Nat.{ℕ, _*_}
 use Prim.Native.String.{String}
 use mathlib.Core.Path.{_≡_}
@@ -75,7 +76,7 @@ marked =
     case strobe 256 21 (refuses 12 0) ∷
     case someEvery 256 16384 (saysNo 8 "R\tno\t8\n") ∷
     case everySome 256 16384 (proves 8 "R\tproved\t8\nD\tall\t!0@1\nD\tsome\t!0@1\nD\tclause\t1\t!0@1\n") ∷
-    case occurs 256 16384 (saysNo 8 "R\tno\t8\n") ∷
+    case occurs 256 16384 (saysNo 9 "R\tno\t9\n") ∷
     case drinker 256 16384 (saysNo 12 "R\tno\t12\n") ∷
     case someTrue 256 16384 (proves 2 "R\tproved\t2\nD\tsome\t_0@0\nD\ttrue\n") ∷
     case freeGoal 256 16384 (proves 4 "R\tproved\t4\nB\t0\t_0@0\nD\tclause\t1\t_0@0\n") ∷

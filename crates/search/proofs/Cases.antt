@@ -36,7 +36,9 @@ every-some : outcome 256 (diagonal ∷ []) (forall 1 (exists 0 (atom 0 (pair (le
 unfolding outcome
 every-some = refl
 
-occurs : outcome 256 (diagonal ∷ []) (exists 0 (atom 0 (pair (leaf 0) (app (sheetSymbol 1) (one (leaf 0)))))) ≡ (2, 8)
+-- Request W-206: the last is 9 units. They are two goals and the try; the pair a, z and the node z, after which a is bound to z; the pair
+-- f(a), z and the node f(a), the binding of a, and the node z.
+occurs : outcome 256 (diagonal ∷ []) (exists 0 (atom 0 (pair (leaf 0) (app (sheetSymbol 1) (one (leaf 0)))))) ≡ (2, 9)
 unfolding outcome
 occurs = refl
 
@@ -73,8 +75,10 @@ second : outcome 256 (fact 1 nil ∷ fact 0 nil ∷ []) (atom 0 nil) ≡ (1, 3)
 unfolding outcome
 second = refl
 
--- For q(x) and r(x) with q(a), q(b), r(b), the binding of the first try is taken back.
-again : outcome 256 (fact 0 (one (app (sheetSymbol 5) nil)) ∷ fact 0 (one (app (sheetSymbol 6) nil)) ∷ fact 1 (one (app (sheetSymbol 6) nil)) ∷ [])
-    (exists 0 (and (atom 0 (one (leaf 0))) (atom 1 (one (leaf 0))))) ≡ (1, 19)
+-- For q(x) and r(x) with q(a), q(b), r(b), the binding of the first try is taken back. The units are 21: three goals (some, and, q(x));
+-- then for each of a and b nine: try, pair and node, the goal r(x), three tries, the binding of x and a pair.
+again : outcome 256
+    (fact 0 (one (app (sheetSymbol 5) nil)) ∷ fact 0 (one (app (sheetSymbol 6) nil)) ∷ fact 1 (one (app (sheetSymbol 6) nil)) ∷ [])
+    (exists 0 (and (atom 0 (one (leaf 0))) (atom 1 (one (leaf 0))))) ≡ (1, 21)
 unfolding outcome
 again = refl

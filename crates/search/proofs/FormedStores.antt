@@ -1,5 +1,6 @@
 -- Stores whose terms are well-formed and whose levels are at most n: matching keeps them so, and so are their final values.
 use Prim.Native.Nat.{ℕ, suc, _≤_}
+use mathlib.Core.Path.{_≡_, refl}
 use mathlib.Core.Bool.{Bool, true, false, _&&_, cond}
 use mathlib.Core.List.{List, [], _∷_, map}
 use mathlib.Core.Option.{Option, none, some, Option·map}
@@ -9,10 +10,11 @@ use Rattle.terms.specs.Lists.{All, update}
 use Rattle.terms.specs.Terms.{sameFunctor, Term, leaf, app, Terms, nil, cons, substitute}
 use Rattle.terms.proofs.Lists.{all-append, all-map, update-all}
 use Rattle.sequents.specs.Symbols.{Symbol, symbolLevel}
-use Rattle.unification.specs.Store.{Leaf, var, con, Binding, Store, look1, look, lower, bind, freshLevels, fresh, freshVariables, boundTo}
+use Rattle.unification.specs.Store.{Leaf, var, con, Binding, Store, follow, lower, bind, freshLevels, fresh, freshVariables, boundTo}
 use Rattle.unification.specs.Store.{at, onlyAt, solve1, solved, solution}
 use Rattle.unification.specs.Matching.{Pair, Matching, pairs, check, fail, pushTerms, pushPairs, comparing, afterNode, visit, compareTerms}
-use Rattle.unification.specs.Matching.{matchStep}
+use Rattle.unification.specs.Matching.{onPair, onNode, matchStep}
+use Rattle.unification.proofs.Follow.{follow-holds}
 use Rattle.unification.proofs.Stores.{lower-le}
 use Rattle.search.specs.Answers.{symbolUnder, final}
 use Rattle.search.proofs.Formed.{Arities, FormedTerm, FormedTerms, formed-substitute}
@@ -46,20 +48,9 @@ module _ (ok : Arities) (n : ℕ) where
   MatchingUpTo (check s y t u us ps) = StoreUpTo s × TermUpTo t × All TermUpTo (u ∷ us) × All PairUpTo ps
   MatchingUpTo fail = Unit {0}
 
-  -- Looking through well-formed bindings gives a well-formed term.
-  look-formed : (bs : List Binding) (t : Term Leaf) → All (λ b. TermUpTo (b .value)) bs → TermUpTo t → TermUpTo (look bs t)
-  unfolding look look1
-  look-formed [] t h k = k
-  look-formed (b ∷ bs) t h k = once (look bs t) (look-formed bs t (h .1) k)
-    where
-      once : (u : Term Leaf) → TermUpTo u → TermUpTo (look1 u b)
-      once (leaf (var x)) i = go (eqb x (b .name))
-        where
-          go : (c : Bool) → TermUpTo (cond c (b .value) (leaf (var x)))
-          go true = h .0
-          go false = i
-      once (leaf (con c k)) i = i
-      once (app f ts) i = i
+  -- A well-formed binding followed gives a well-formed term.
+  follow-formed : (bs : List Binding) (t u : Term Leaf) → All (λ b. TermUpTo (b .value)) bs → follow bs t ≡ some u → TermUpTo u
+  follow-formed bs t u h e = follow-holds (λ v w. TermUpTo w) bs t u h e
 
   -- Lowering a level keeps a store well-formed.
   lower-formed : (s : Store) (z k : ℕ) → StoreUpTo s → StoreUpTo (lower s z k)
@@ -84,12 +75,12 @@ module _ (ok : Arities) (n : ℕ) where
   -- matching
 
   -- What follows a node in a range check is a well-formed matching.
-  onNode-formed : (s : Store) (y : ℕ) (t : Term Leaf) (us : List (Term Leaf)) (ps : List Pair) → StoreUpTo s → TermUpTo t
+  afterNode-formed : (s : Store) (y : ℕ) (t : Term Leaf) (us : List (Term Leaf)) (ps : List Pair) → StoreUpTo s → TermUpTo t
       → All TermUpTo us → All PairUpTo ps
       → MatchingUpTo (afterNode s y t us ps)
   unfolding afterNode MatchingUpTo bind
-  onNode-formed s y t [] ps h k i j = (record { levels = h .levels; values = (k, h .values) }, j)
-  onNode-formed s y t (u ∷ us) ps h k i j = (h, k, i, j)
+  afterNode-formed s y t [] ps h k i j = (record { levels = h .levels; values = (k, h .values) }, j)
+  afterNode-formed s y t (u ∷ us) ps h k i j = (h, k, i, j)
 
   -- Well-formed arguments in front of well-formed nodes are well-formed nodes.
   pushTerms-formed : (ts : Terms Leaf) (us : List (Term Leaf)) → FormedTerms ts ok (UpTo n) → All TermUpTo us
@@ -113,10 +104,10 @@ module _ (ok : Arities) (n : ℕ) where
     where
       go : (b : Bool) → MatchingUpTo (cond b fail (afterNode (lower s z (s .level y)) y t us ps))
       go true = tt
-      go false = onNode-formed (lower s z (s .level y)) y t us ps (lower-formed s z (s .level y) h) k j p
+      go false = afterNode-formed (lower s z (s .level y)) y t us ps (lower-formed s z (s .level y) h) k j p
   visit-formed s y t (leaf (con c l)) us ps h k i j p =
-      if-formed (leb l (s .level y)) (afterNode s y t us ps) (onNode-formed s y t us ps h k j p)
-  visit-formed s y t (app f ts) us ps h k i j p = onNode-formed s y t (pushTerms ts us) ps h k (pushTerms-formed ts us (i .1) j) p
+      if-formed (leb l (s .level y)) (afterNode s y t us ps) (afterNode-formed s y t us ps h k j p)
+  visit-formed s y t (app f ts) us ps h k i j p = afterNode-formed s y t (pushTerms ts us) ps h k (pushTerms-formed ts us (i .1) j) p
 
   -- The argument pairs of two lists of well-formed terms make a well-formed matching.
   pub comparing-formed : (s : Store) (ts us : Terms Leaf) (ps : List Pair) → StoreUpTo s → FormedTerms ts ok (UpTo n)
@@ -152,17 +143,33 @@ module _ (ok : Arities) (n : ℕ) where
   compareTerms-formed s (app f ts) (app g us) ps h k i p =
       if-formed (sameFunctor f g) (comparing s (pushPairs ts us ps)) (comparing-formed s ts us ps h (k .1) (i .1) p)
 
+  -- A binding followed in a pair, or its sides compared, keeps the matching well-formed.
+  onPair-formed : (s : Store) (p : Pair) (ps : List Pair) (o q : Option (Term Leaf)) → follow (s .bindings) (p .goal) ≡ o
+      → follow (s .bindings) (p .clause) ≡ q → MatchingUpTo (pairs s (p ∷ ps)) → MatchingUpTo (onPair s p ps o q)
+  unfolding onPair MatchingUpTo
+  onPair-formed s p ps (some t) q e f h =
+      (h .0, ((follow-formed (s .bindings) (p .goal) t (h .0 .values) e, h .1 .0 .1), h .1 .1))
+  onPair-formed s p ps none (some u) e f h =
+      (h .0, ((h .1 .0 .0, follow-formed (s .bindings) (p .clause) u (h .0 .values) f), h .1 .1))
+  onPair-formed s p ps none none e f h =
+      compareTerms-formed s (p .goal) (p .clause) ps (h .0) (h .1 .0 .0) (h .1 .0 .1) (h .1 .1)
+
+  -- A binding followed at a node, or the node looked at, keeps it well-formed.
+  onNode-formed : (s : Store) (y : ℕ) (t u : Term Leaf) (us : List (Term Leaf)) (ps : List Pair) (o : Option (Term Leaf))
+      → follow (s .bindings) u ≡ o → MatchingUpTo (check s y t u us ps) → MatchingUpTo (onNode s y t u us ps o)
+  unfolding onNode MatchingUpTo
+  onNode-formed s y t u us ps (some v) e h =
+      (h .0, h .1, (follow-formed (s .bindings) u v (h .0 .values) e, h .2 .1), h .3)
+  onNode-formed s y t u us ps none e h = visit-formed s y t u us ps (h .0) (h .1) (h .2 .0) (h .2 .1) (h .3)
+
   -- One act keeps a matching well-formed.
   pub matchStep-formed : (m : Matching) → MatchingUpTo m → MatchingUpTo (matchStep m)
-  unfolding matchStep MatchingUpTo
+  unfolding matchStep
   matchStep-formed (pairs s []) h = h
   matchStep-formed (pairs s (p ∷ ps)) h =
-      let bs = s .bindings in
-      compareTerms-formed s (look bs (p .goal)) (look bs (p .clause)) ps (h .0) (look-formed bs (p .goal) (h .0 .values) (h .1 .0 .0))
-      (look-formed bs (p .clause) (h .0 .values) (h .1 .0 .1)) (h .1 .1)
-  matchStep-formed (check s y t u us ps) h =
-      visit-formed s y t (look (s .bindings) u) us ps (h .0) (h .1) (look-formed (s .bindings) u (h .0 .values) (h .2 .0)) (h .2 .1) (h .3)
-  matchStep-formed fail h = tt
+      onPair-formed s p ps (follow (s .bindings) (p .goal)) (follow (s .bindings) (p .clause)) refl refl h
+  matchStep-formed (check s y t u us ps) h = onNode-formed s y t u us ps (follow (s .bindings) u) refl h
+  matchStep-formed fail h = h
 
   -- final values
 

@@ -1,15 +1,15 @@
 -- A member of a program that is tried with an atom: its match is one of T3's, and where the search stands meanwhile.
 use Prim.Native.Nat.{ℕ, suc}
-use mathlib.Core.Path.{_≡_, refl, sym, _∙_, ap}
+use mathlib.Core.Path.{_≡_, refl}
 use mathlib.Core.Bool.{Bool, true, false, cond}
 use mathlib.Core.List.{List, [], _∷_, _++_, map}
 use lib.Dec.{eqb}
 use Rattle.terms.specs.Lists.{All}
-use Rattle.terms.specs.Terms.{sameFunctor, Functor, sheetSymbol, Term, app, Terms, substitutes, Leaves}
+use Rattle.terms.specs.Terms.{sameFunctor, substitutes, Leaves}
 use Rattle.formulas.specs.Formulas.{Goal, Clause}
 use Rattle.sequents.specs.Sequents.{Entry, entries, Sequent}
-use Rattle.unification.specs.Store.{Leaf, Binding, Store, look1, look, past, fresh, freshVariables}
-use Rattle.unification.specs.Matching.{Pair, Matching, pairs, fail, pushPairs, comparing, compareTerms, matchStep, matchSteps}
+use Rattle.unification.specs.Store.{Leaf, Store, follow, past, fresh, freshVariables}
+use Rattle.unification.specs.Matching.{Pair, Matching, pairs, fail, pushPairs, comparing, compareTerms, onPair, matchStep, matchSteps}
 use Rattle.unification.specs.Labelled.{Labelling}
 use Rattle.unification.specs.Promises.{BelowPair, Labels, Matches}
 use Rattle.unification.proofs.Promises.{unification}
@@ -50,25 +50,12 @@ trying s a m ms k gs o p = record {
       (atoms-below s a m ms gs o) labels;
 }
 
--- An application is looked through to itself.
-look-app : (bs : List Binding) (f : Functor) (ts : Terms Leaf) → look bs (app f ts) ≡ app f ts
-unfolding look look1
-look-app [] f ts = refl
-look-app (b ∷ bs) f ts = ap (λ (t : Term Leaf). look1 t b) (look-app bs f ts)
-
 -- The first step of matching the two atoms: the predicates, then the arguments.
 atoms-step : (s : Store) (a : Atom) (m : Entry Leaf) → matchSteps 1 (pairs (triedStore s a m) (triedAtoms s a m))
     ≡ cond (eqb (a .predicate) (m .member .predicate))
     (comparing (triedStore s a m) (pushPairs (a .arguments) (substitutes (m .member .arguments) (triedEnvironment s m)) [])) fail
-unfolding matchSteps matchStep compareTerms sameFunctor
-atoms-step s a m =
-    let st = triedStore s a m in
-    rw (
-      matchSteps,
-      matchStep,
-      look-app (st .bindings) (sheetSymbol (a .predicate)) (a .arguments),
-      look-app (st .bindings) (sheetSymbol (m .member .predicate)) (substitutes (m .member .arguments) (triedEnvironment s m)),
-    )
+unfolding matchSteps matchStep onPair follow compareTerms sameFunctor
+atoms-step s a m = refl
 
 -- A try does that step, with the members left as the alternative.
 pub try-step : (u : ℕ) (s : Store) (a : Atom) (m : Entry Leaf) (ms : List (Entry Leaf)) (k : ℕ) (b : Branch)

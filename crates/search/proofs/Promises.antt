@@ -1,5 +1,8 @@
 -- The promises of `specs/Promises.antt`, kept.
-use Rattle.search.specs.Promises.{AllUnits, AllTries, AllSteps, Soundness, Completeness}
+use mathlib.Core.Path.{ap}
+use Rattle.unification.proofs.Bindings.{followings}
+use Rattle.search.specs.Steps.{settle, step}
+use Rattle.search.specs.Promises.{AllUnits, AllTries, AllSteps, Soundness, Completeness, SearchFollows}
 use Rattle.search.proofs.Units.{allUnits}
 use Rattle.search.proofs.ProcedureSearch.{allSteps}
 use Rattle.search.proofs.Tries.{allTries}
@@ -25,3 +28,12 @@ soundness = sound
 -- Promise T7, completeness, holds.
 pub completeness : Completeness
 completeness = complete
+
+-- An act that follows a binding does only this.
+pub searchFollows : SearchFollows
+unfolding step settle
+searchFollows u s ps b = record {
+  goal = λ p t e. ap (λ m. settle m b) (followings s ps .goal p t e);
+  clause = λ p t e f. ap (λ m. settle m b) (followings s ps .clause p t e f);
+  node = λ y t n v ns e. ap (λ m. settle m b) (followings s ps .node y t n v ns e);
+}

@@ -1,24 +1,25 @@
--- Promises T2, T4, T5 and T7 about the search (demands 2 and 3), and that every match in it is one of T3's.
+-- Promises T2, T4, T5 and T7 about the search (demands 2 and 3), that every match in it is one of T3's, and what an act that follows a
+-- binding does (request W-206).
 use Prim.Native.Nat.{ℕ, suc, _+_, _≤_, _<_}
 use mathlib.Core.Path.{_≡_}
 use mathlib.Core.Bool.{true}
 use mathlib.Core.List.{List, [], _∷_, _++_, map}
-use mathlib.Core.Option.{none}
+use mathlib.Core.Option.{none, some}
 use mathlib.Core.Logic.{_⊎_, _↔_}
 use Rattle.terms.specs.Lists.{All, Mem, place}
-use Rattle.terms.specs.Terms.{sheetSymbol, app, substitutes}
+use Rattle.terms.specs.Terms.{sheetSymbol, Term, app, substitutes}
 use Rattle.formulas.specs.Formulas.{Goal, Clause, freeG, variableNames}
 use Rattle.sequents.specs.Symbols.{Symbol, level}
 use Rattle.sequents.specs.Sequents.{Environment, Entry, entries, Line}
 use Rattle.sequents.specs.Derivations.{instanceOf, InstanceDerivation}
 use Rattle.sequents.specs.Lines.{Derives}
 use Rattle.sequents.specs.Promises.{Closed}
-use Rattle.unification.specs.Store.{Leaf, Store, solution}
-use Rattle.unification.specs.Matching.{Pair, Matching, pairs, matchSteps}
+use Rattle.unification.specs.Store.{Leaf, Store, follow, solution}
+use Rattle.unification.specs.Matching.{Pair, Matching, pairs, check, matchSteps}
 use Rattle.unification.specs.Labelled.{Labelling, Substitution, Unifier}
 use Rattle.unification.specs.Promises.{Formed, readPairs, Labels, Solved, Matches}
 use Rattle.search.specs.Configurations.{Branch, Atom, Configuration, take, try, match, done}
-use Rattle.search.specs.Steps.{proceed, tryFrom, triedStore, triedEnvironment, triedBranch}
+use Rattle.search.specs.Steps.{proceed, tryFrom, triedStore, triedEnvironment, triedBranch, step}
 use Rattle.search.specs.Search.{after, Verdict, proved, noProof, verdictOf, ComesTo, ends, spent, search}
 use Rattle.search.specs.Answers.{final, finalEnvironment, finalLines}
 use Rattle.search.specs.Paper.{g-atom, embed}
@@ -134,6 +135,19 @@ SheetNames g = (v : ℕ) → freeG g v ≡ true → v < variableNames
 abbrev pub Completeness : Type 0
 Completeness = (cs : List Clause) (g : Goal) (e : Environment Symbol) → All Closed cs → SheetNames g → InstanceDerivation cs g e
     → (budget n : ℕ) → search budget cs g ≡ ends noProof n → ⊥
+
+-- Request W-206: "each binding looked through takes one unit, wherever it happens in the walk". The act that follows a binding, u acts
+-- having been done, does only this: store, goals and path are as they were, and so is what is left to compare or to look at.
+pub record FollowingSteps (u : ℕ) (s : Store) (ps : List Pair) (b : Branch) : Type 0 where
+  pub goal : (p : Pair) (t : Term Leaf) → follow (s .bindings) (p .goal) ≡ some t
+      → step u (match (pairs s (p ∷ ps)) b) ≡ match (pairs s (record { goal = t; clause = p .clause } ∷ ps)) b ∷ []
+  pub clause : (p : Pair) (t : Term Leaf) → follow (s .bindings) (p .goal) ≡ none → follow (s .bindings) (p .clause) ≡ some t
+      → step u (match (pairs s (p ∷ ps)) b) ≡ match (pairs s (record { goal = p .goal; clause = t } ∷ ps)) b ∷ []
+  pub node : (y : ℕ) (t n v : Term Leaf) (ns : List (Term Leaf)) → follow (s .bindings) n ≡ some v
+      → step u (match (check s y t n ns ps) b) ≡ match (check s y t v ns ps) b ∷ []
+
+abbrev pub SearchFollows : Type 0
+SearchFollows = (u : ℕ) (s : Store) (ps : List Pair) (b : Branch) → FollowingSteps u s ps b
 
 -- Promise T2 is for all clauses and every goal.
 abbrev pub AllUnits : Type 0

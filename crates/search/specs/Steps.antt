@@ -1,5 +1,6 @@
 -- Document 01, "The walk", first two paragraphs: what one act puts in the place of a configuration, the one to go on with
--- first. "Each of these four acts takes one unit": one step is one unit, and nothing else is.
+-- first. "Each of these four acts takes one unit", and by request W-206 following a binding does: one step is one unit, and nothing
+-- else is.
 use Prim.Native.Nat.{ℕ, zero, suc}
 use mathlib.Core.Bool.{Bool, true, false, cond}
 use mathlib.Core.List.{List, [], _∷_, _++_}

@@ -6,7 +6,8 @@ use mathlib.Core.Path.{_≡_, refl}
 use mathlib.Core.List.{List}
 use borrow.Author.Tests.{lt-ltb, le-ltb, eq-eqb, ne-eqb}
 use Rattle.node_table.specs.Layout.{childCount, labelOf, childOf}
-use Rattle.machine.specs.Words.{increment, tagOf, nameOf, nodeOf, frameOf, wordOf, deref}
+use Rattle.machine.specs.Words.{increment, tagOf, nameOf, nodeOf, frameOf, wordOf}
+use Rattle.printing.specs.Bindings.{deref}
 use Rattle.printing.specs.declared.Cursor.{Cursor}
 use Rattle.printing.specs.Numbering.{Printer, printer, writeVariable, writeConstant}
 use Rattle.printing.specs.WriteTerms.{emitTo, writeFunctor, separator, argumentsBy, bracketedBy, applicationBy, wordBy, writeTerm}

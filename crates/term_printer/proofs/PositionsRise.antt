@@ -10,7 +10,8 @@ use Rattle.sheet_format.specs.Limits.{maxSymbols}
 use Rattle.node_table.specs.Layout.{childCount, labelOf, childOf}
 use Rattle.machine.specs.Fields as fields
 use Rattle.machine.specs.Records.{cellOf, levelOf}
-use Rattle.machine.specs.Words.{tagOf, nameOf, nodeOf, frameOf, wordOf, constantTag, variableTag, deref}
+use Rattle.machine.specs.Words.{tagOf, nameOf, nodeOf, frameOf, wordOf, constantTag, variableTag}
+use Rattle.printing.specs.Bindings.{deref}
 use Rattle.printing.specs.Output.{writeSymbol}
 use Rattle.printing.specs.Numbering.{withPosition, Printer, wrote, numberVariable, numberConstant, writeVariable, writeConstant}
 use Rattle.printing.specs.Numbering.{constantNumberField}

@@ -1,11 +1,13 @@
 // The printer of terms: names from the lent sheet, arguments in brackets. Each function is a definition of the crate printing,
 // and its contract says so.
+mod bindings;
 pub mod cursor;
 pub mod numbering;
 pub mod output;
 pub mod path_links;
 mod symbols;
 
+use bindings::deref;
 use cursor::AT;
 use cursor::LIMIT;
 use cursor::NUMBERS;
@@ -19,7 +21,6 @@ use cursor::write_constant_in;
 use cursor::write_functor_in;
 use cursor::write_variable_in;
 use machine::tags;
-use machine_memory::words::deref;
 use machine_memory::words::frame_of;
 use machine_memory::words::increment;
 use machine_memory::words::name_of;

@@ -11,12 +11,12 @@ use borrow.Author.Tests.{eqb-true, eq-eqb, leb-false}
 use Rattle.terms.specs.Lists.{All, update}
 use Rattle.terms.specs.Terms.{Term, leaf, app, Terms, nil, cons, substitute, substitutes, size, sizes, levelBy, levelsBy, Leaves}
 use Rattle.terms.proofs.Terms.{same-functor, leaf-not-app, nil-not-cons}
-use Rattle.unification.specs.Store.{Leaf, var, con, Store, look, lower, bind}
+use Rattle.unification.specs.Store.{Leaf, var, con, Store, follow, lower, bind}
 use Rattle.unification.specs.Matching.{Pair, Matching, pairs, check, fail, pushTerms, pushPairs, comparing, afterNode, visit}
-use Rattle.unification.specs.Matching.{compareTerms, matchStep, matchSteps}
+use Rattle.unification.specs.Matching.{compareTerms, onPair, onNode, matchStep, matchSteps}
 use Rattle.unification.specs.Promises.{Below}
-use Rattle.unification.proofs.Look.{look-below}
-use Rattle.unification.proofs.Valuation.{Domain, value, Solves, Equal, look-value}
+use Rattle.unification.proofs.Valuation.{Domain, value, Solves, Equal}
+use Rattle.unification.proofs.Follow.{not-none, follow-value, looked-follow}
 use Rattle.unification.proofs.Sound.{SolvesMatching}
 use Rattle.unification.proofs.Invariant.{Checking, Running, matchSteps-running}
 
@@ -51,11 +51,11 @@ module _ {B : Type 0} (D : Domain B) (σ : ℕ → Term B) where
       go x false e b = v .levels x b
 
   -- After a node: the next one, or the binding.
-  onNode-complete : (s : Store) (y : ℕ) (t : Term Leaf) (ns : List (Term Leaf)) (ps : List Pair)
+  afterNode-complete : (s : Store) (y : ℕ) (t : Term Leaf) (ns : List (Term Leaf)) (ps : List Pair)
       → Solves D σ s → σ y ≡ substitute t (value D σ) → All (Equal D σ) ps → All (Part y t) ns → Keeps (afterNode s y t ns ps)
   unfolding afterNode SolvesMatching Parts bind
-  onNode-complete s y t [] ps v e h p = ((record { equations = (e, v .equations); levels = v .levels }, h), tt)
-  onNode-complete s y t (n ∷ ns) ps v e h p = ((v, e, h), p)
+  afterNode-complete s y t [] ps v e h p = ((record { equations = (e, v .equations); levels = v .levels }, h), tt)
+  afterNode-complete s y t (n ∷ ns) ps v e h p = ((v, e, h), p)
 
   -- The arguments of a part that is no larger than the value of y are smaller parts.
   pushTerms-parts : (ts : Terms Leaf) (ns : List (Term Leaf)) (y : ℕ) (t : Term Leaf)
@@ -78,15 +78,15 @@ module _ {B : Type 0} (D : Domain B) (σ : ℕ → Term B) where
       go : (c : Bool) → eqb z y ≡ c → Keeps (cond c fail (afterNode (lower s z (s .level y)) y t ns ps))
       go true q = absurd (d (ap (λ x. leaf (var x)) (eqb-true z y q)))
       go false q =
-          onNode-complete (lower s z (s .level y)) y t ns ps
+          afterNode-complete (lower s z (s .level y)) y t ns ps
           (lower-complete s z (s .level y) v (let r = v .levels y ly in omega arith) bu) e h p
   visit-complete s y t (leaf (con c j)) ns ps v e h ly bu d hl hs p = go (leb j (s .level y)) refl
     where
       go : (b : Bool) → leb j (s .level y) ≡ b → Keeps (cond b (afterNode s y t ns ps) fail)
-      go true q = onNode-complete s y t ns ps v e h p
+      go true q = afterNode-complete s y t ns ps v e h p
       go false q = absurd (let r = v .levels y ly in let w = leb-false j (s .level y) q in let k = D .level-constant c j in omega arith)
   visit-complete s y t (app f ts) ns ps v e h ly bu d hl hs p =
-      onNode-complete s y t (pushTerms ts ns) ps v e h (pushTerms-parts ts ns y t hl hs p)
+      afterNode-complete s y t (pushTerms ts ns) ps v e h (pushTerms-parts ts ns y t hl hs p)
 
   -- The argument pairs of two lists of terms.
   pub comparing-complete : (s : Store) (ts us : Terms Leaf) (ps : List Pair) → Solves D σ s
@@ -133,17 +133,15 @@ module _ {B : Type 0} (D : Domain B) (σ : ℕ → Term B) where
   compareTerms-complete s (app f ts) (app g us) ps v e h = rw (same-functor f g (cc)) (comparing-complete s ts us ps v (cc) h)
 
   -- A node is not y: it is t, which is not, or it is too small.
-  not-itself : (R : ℕ → Type 0) (s : Store) (y : ℕ) (t n : Term Leaf) (ns : List (Term Leaf)) → Solves D σ s → Checking R s y t ns
-      → Part y t n → look (s .bindings) n ≡ leaf (var y) → ⊥
+  not-itself : (R : ℕ → Type 0) (s : Store) (y : ℕ) (t n : Term Leaf) (ns : List (Term Leaf)) → Checking R s y t ns → Part y t n
+      → n ≡ leaf (var y) → ⊥
   unfolding substitute value
-  not-itself R s y t n ns v c p q = go (p .small)
+  not-itself R s y t n ns c p q = go (p .small)
     where
-      same : substitute n (value D σ) ≡ σ y
-      same = sym (look-value D σ (s .bindings) n (v .equations)) ∙ ap (λ (u : Term Leaf). substitute u (value D σ)) q
-
       go : (n ≡ t) ⊎ (size (substitute n (value D σ)) < size (σ y)) → ⊥
-      go (inl e) = c .other (sym (c .looked) ∙ ap (look (s .bindings)) (sym e) ∙ q)
-      go (inr l) = let w : size (substitute n (value D σ)) ≡ size (σ y) = ap size same in omega arith
+      go (inl e) = c .other (sym e ∙ q)
+      go (inr l) =
+          let w : size (substitute n (value D σ)) ≡ size (σ y) = ap (λ (u : Term Leaf). size (substitute u (value D σ))) q in omega arith
 
   -- A part is no larger than the value of y.
   part-size : (y : ℕ) (t n : Term Leaf) → σ y ≡ substitute t (value D σ) → (n ≡ t) ⊎ (size (substitute n (value D σ)) < size (σ y))
@@ -151,22 +149,47 @@ module _ {B : Type 0} (D : Domain B) (σ : ℕ → Term B) where
   part-size y t n e (inl p) = rw (e, p) (omega arith)
   part-size y t n e (inr l) = omega arith
 
+  -- A pair: a binding followed on one side, or both sides compared.
+  onPair-complete : (s : Store) (p : Pair) (ps : List Pair) (o q : Option (Term Leaf)) → follow (s .bindings) (p .goal) ≡ o
+      → follow (s .bindings) (p .clause) ≡ q → Keeps (pairs s (p ∷ ps)) → Keeps (onPair s p ps o q)
+  unfolding onPair SolvesMatching Parts
+  onPair-complete s p ps (some t) q e f k =
+      ((k .0 .0, (follow-value D σ (s .bindings) (p .goal) t (k .0 .0 .equations) e ∙ k .0 .1 .0, k .0 .1 .1)), tt)
+  onPair-complete s p ps none (some u) e f k =
+      ((k .0 .0, (k .0 .1 .0 ∙ sym (follow-value D σ (s .bindings) (p .clause) u (k .0 .0 .equations) f), k .0 .1 .1)), tt)
+  onPair-complete s p ps none none e f k = compareTerms-complete s (p .goal) (p .clause) ps (k .0 .0) (k .0 .1 .0) (k .0 .1 .1)
+
+  -- A binding followed gives a part: t itself is looked through, so it is not followed.
+  follow-part : (R : ℕ → Type 0) (s : Store) (y : ℕ) (t n u : Term Leaf) (ns : List (Term Leaf)) → Solves D σ s → Checking R s y t ns
+      → follow (s .bindings) n ≡ some u → Part y t n → Part y t u
+  follow-part R s y t n u ns v c e p = record { level = rw same (p .level); small = go (p .small) }
+    where
+      same : substitute u (value D σ) ≡ substitute n (value D σ)
+      same = follow-value D σ (s .bindings) n u (v .equations) e
+
+      go : (n ≡ t) ⊎ (size (substitute n (value D σ)) < size (σ y)) → (u ≡ t) ⊎ (size (substitute u (value D σ)) < size (σ y))
+      go (inl q) =
+          absurd (not-none u (sym e ∙ ap (follow (s .bindings)) q ∙ looked-follow (s .bindings) t (c .good .formed .bound) (c .looked)))
+      go (inr l) = inr (rw same l)
+
+  -- A node: its binding followed, or the node looked at.
+  onNode-complete : (R : ℕ → Type 0) (s : Store) (y : ℕ) (t n : Term Leaf) (ns : List (Term Leaf)) (ps : List Pair)
+      (o : Option (Term Leaf)) → follow (s .bindings) n ≡ o
+      → Running R (check s y t n ns ps) → Keeps (check s y t n ns ps) → Keeps (onNode s y t n ns ps o)
+  unfolding onNode SolvesMatching Parts Running
+  onNode-complete R s y t n ns ps (some u) e r k =
+      (k .0, (follow-part R s y t n u (n ∷ ns) (k .0 .0) (r .0) e (k .1 .0), k .1 .1))
+  onNode-complete R s y t n ns ps none e r k =
+      visit-complete s y t n ns ps (k .0 .0) (k .0 .1) (k .0 .2) (r .0 .low) (r .0 .nodes .0)
+      (not-itself R s y t n (n ∷ ns) (r .0) (k .1 .0)) (k .1 .0 .level) (part-size y t n (k .0 .1) (k .1 .0 .small)) (k .1 .1)
+
   -- One act.
   pub matchStep-complete : (R : ℕ → Type 0) (m : Matching) → Running R m → Keeps m → Keeps (matchStep m)
-  unfolding matchStep SolvesMatching Parts Running
+  unfolding matchStep SolvesMatching
   matchStep-complete R (pairs s []) r k = k
   matchStep-complete R (pairs s (p ∷ ps)) r k =
-      let v = k .0 .0 in
-      compareTerms-complete s (look (s .bindings) (p .goal)) (look (s .bindings) (p .clause)) ps v
-      (look-value D σ (s .bindings) (p .goal) (v .equations) ∙ k .0 .1 .0 ∙ sym (look-value D σ (s .bindings) (p .clause) (v .equations)))
-      (k .0 .1 .1)
-  matchStep-complete R (check s y t n ns ps) r k =
-      let v = k .0 .0 in
-      let c = r .0 in
-      let e : substitute (look (s .bindings) n) (value D σ) ≡ substitute n (value D σ) = look-value D σ (s .bindings) n (v .equations) in
-      visit-complete s y t (look (s .bindings) n) ns ps v (k .0 .1) (k .0 .2) (c .low)
-      (look-below (s .bindings) n (s .next) (c .good .formed .below) (c .nodes .0))
-      (not-itself R s y t n (n ∷ ns) v c (k .1 .0)) (rw e (k .1 .0 .level)) (rw e (part-size y t n (k .0 .1) (k .1 .0 .small))) (k .1 .1)
+      onPair-complete s p ps (follow (s .bindings) (p .goal)) (follow (s .bindings) (p .clause)) refl refl k
+  matchStep-complete R (check s y t n ns ps) r k = onNode-complete R s y t n ns ps (follow (s .bindings) n) refl r k
   matchStep-complete R fail r k = absurd (k .0)
 
   -- Any number of acts.

@@ -10,20 +10,16 @@ use Rattle.terms.specs.Lists.{All, update}
 use Rattle.terms.specs.Terms.{Term, leaf, substitute, levelBy, Appears}
 use Rattle.terms.proofs.Lists.{all-weaken}
 use Rattle.terms.proofs.Terms.{level-substitute}
-use Rattle.unification.specs.Store.{Leaf, var, con, Binding, Store, look, apply, onlyAt, boundTo, solved, solution}
+use Rattle.unification.specs.Store.{Leaf, var, con, Binding, Store, apply, onlyAt, boundTo, solved, solution}
 use Rattle.unification.specs.Promises.{Unbound, WellBound, Formed}
 use Rattle.unification.proofs.Solution.{final, newest, final-bind, boundTo-unbound, appears-unbound, final-bound}
-use Rattle.unification.proofs.Valuation.{Domain, value, searchTerms, value-at, value-apply, Equation, Solves, look-value}
+use Rattle.unification.proofs.Valuation.{Domain, value, searchTerms, value-at, value-apply, Equation, Solves}
 
 -- The final values are a solution.
 pub final-equations : (bs : List Binding) → WellBound bs → All (Equation searchTerms (final bs)) bs
 final-equations bs w =
     subst (λ (v : Leaf → Term Leaf). All (λ b. final bs (b .name) ≡ substitute (b .value) v) bs) (sym (value-at (final bs)))
     (final-bound bs w)
-
--- Looking through changes no final value.
-pub apply-look : (bs : List Binding) (t : Term Leaf) → WellBound bs → apply (look bs t) (final bs) ≡ apply t (final bs)
-apply-look bs t w = rw (← value-at (final bs)) (look-value searchTerms (final bs) bs t (final-equations bs w))
 
 module _ {B : Type 0} (D : Domain B) where
   -- The general solution, τ being the values of the unbound variables.

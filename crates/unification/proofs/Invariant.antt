@@ -9,16 +9,15 @@ use native.Mathlib.Omega.{arith}
 use lib.Dec.{eqb, leb}
 use borrow.Author.Tests.{eqb-false, leb-true}
 use Rattle.terms.specs.Lists.{All}
-use Rattle.terms.specs.Terms.{sameFunctor, Term, leaf, app, Terms, nil, cons, substitute, substitutes, Leaves, LeavesAll, Appears, AppearsIn}
+use Rattle.terms.specs.Terms.{sameFunctor, Term, leaf, app, Terms, nil, cons, substitute, substitutes, Leaves, LeavesAll, Appears}
+use Rattle.terms.specs.Terms.{AppearsIn}
 use Rattle.terms.proofs.Terms.{leaf-not-app}
-use Rattle.unification.specs.Store.{Leaf, var, con, Store, look, lower, bind, at, apply, solution}
+use Rattle.unification.specs.Store.{Leaf, var, con, Store, follow, look, lower, bind, at, apply, solution}
 use Rattle.unification.specs.Matching.{Pair, Matching, pairs, check, fail, pushTerms, pushPairs, comparing, afterNode, visit}
-use Rattle.unification.specs.Matching.{compareTerms, matchStep, matchSteps}
+use Rattle.unification.specs.Matching.{compareTerms, onPair, onNode, matchStep, matchSteps}
 use Rattle.unification.specs.Promises.{Below, BelowPair, Unbound, Formed, reading}
 use Rattle.unification.proofs.Substitution.{con-not-var}
-use Rattle.unification.proofs.Look.{look-below}
-use Rattle.unification.proofs.Solution.{look-twice}
-use Rattle.unification.proofs.General.{apply-look}
+use Rattle.unification.proofs.Follow.{follow-below, apply-follow, follow-none}
 use Rattle.unification.proofs.Stores.{Allowed, solution-unbound, lower-same, lower-other, lower-le, lower-formed, bind-formed}
 
 -- The leaf appears in one of the terms, θ put to use.
@@ -69,10 +68,10 @@ module _ (R : ℕ → Type 0) where
   Running fail = Unit {0}
 
   -- After a node; where none is left, everything has passed.
-  onNode-running : (s : Store) (y : ℕ) (t : Term Leaf) (ns : List (Term Leaf)) (ps : List Pair) → Checking s y t ns
+  afterNode-running : (s : Store) (y : ℕ) (t : Term Leaf) (ns : List (Term Leaf)) (ps : List Pair) → Checking s y t ns
       → All (BelowPair (s .next)) ps → Running (afterNode s y t ns ps)
   unfolding afterNode Running bind
-  onNode-running s y t [] ps c b = (
+  afterNode-running s y t [] ps c b = (
     record {
       formed = bind-formed s y t (c .unbound) (c .looked) (c .low) (c .below) (λ a h. all a (c .passed a h)) (c .good .formed);
       extra = c .good .extra;
@@ -83,7 +82,7 @@ module _ (R : ℕ → Type 0) where
       all : (a : Leaf) → Allowed s y a ⊎ ⊥ → Allowed s y a
       all a (inl h) = h
       all a (inr h) = absurd h
-  onNode-running s y t (n ∷ ns) ps c b = (c, b)
+  afterNode-running s y t (n ∷ ns) ps c b = (c, b)
 
   -- The node n has been looked at, and other nodes are left.
   go-on : (s : Store) (y : ℕ) (t n : Term Leaf) (ns ms : List (Term Leaf)) → Checking s y t (n ∷ ns)
@@ -149,11 +148,11 @@ module _ (R : ℕ → Type 0) where
     where
       go : (q : Bool) → eqb z y ≡ q → Running (cond q fail (afterNode (lower s z (s .level y)) y t ns ps))
       go true q = tt
-      go false q = onNode-running (lower s z (s .level y)) y t ns ps (lower-checking s y t z ns (eqb-false z y q) e c) b
+      go false q = afterNode-running (lower s z (s .level y)) y t ns ps (lower-checking s y t z ns (eqb-false z y q) e c) b
   visit-running s y t (leaf (con d j)) ns ps e c b = go (leb j (s .level y)) refl
     where
       go : (q : Bool) → leb j (s .level y) ≡ q → Running (cond q (afterNode s y t ns ps) fail)
-      go true q = onNode-running s y t ns ps (go-on s y t (leaf (con d j)) ns ns c (c .nodes .1) passed) b
+      go true q = afterNode-running s y t ns ps (go-on s y t (leaf (con d j)) ns ns c (c .nodes .1) passed) b
         where
           passed : (a : Leaf) → Appears (reading s (leaf (con d j))) a ⊎ AppearsOne (solution s) a ns → Allowed s y a
               ⊎ AppearsOne (solution s) a ns
@@ -161,7 +160,7 @@ module _ (R : ℕ → Type 0) where
           passed a (inr h) = inr h
       go false q = tt
   visit-running s y t (app f ts) ns ps e c b =
-      onNode-running s y t (pushTerms ts ns) ps
+      afterNode-running s y t (pushTerms ts ns) ps
       (go-on s y t (app f ts) ns (pushTerms ts ns) c (pushTerms-below ts ns (s .next) (c .nodes .0) (c .nodes .1))
       (λ a h. inr (pushTerms-appears (solution s) a ts ns h))) b
 
@@ -217,34 +216,44 @@ module _ (R : ℕ → Type 0) where
   compareTerms-running s (app f ts) (app h us) ps g et eu bt bu b =
       if-running (sameFunctor f h) (comparing s (pushPairs ts us ps)) (comparing-running s ts us ps g bt bu b)
 
-  -- The node that is due, looked through.
-  look-checking : (s : Store) (y : ℕ) (t n : Term Leaf) (ns : List (Term Leaf)) → Checking s y t (n ∷ ns)
-      → Checking s y t (look (s .bindings) n ∷ ns)
+  -- The binding of the node that is due, followed.
+  follow-checking : (s : Store) (y : ℕ) (t n u : Term Leaf) (ns : List (Term Leaf)) → follow (s .bindings) n ≡ some u
+      → Checking s y t (n ∷ ns) → Checking s y t (u ∷ ns)
   unfolding solution
-  look-checking s y t n ns c =
-      go-on s y t n ns (look (s .bindings) n ∷ ns) c (
-        look-below (s .bindings) n (s .next) (c .good .formed .below) (c .nodes .0),
-        c .nodes .1,
-      ) passed
+  follow-checking s y t n u ns e c =
+      go-on s y t n ns (u ∷ ns) c (follow-below (s .bindings) n u (s .next) (c .good .formed .below) e, c .nodes .1) passed
     where
       passed : (a : Leaf) → Appears (reading s n) a ⊎ AppearsOne (solution s) a ns → Allowed s y a
-          ⊎ Appears (reading s (look (s .bindings) n)) a ⊎ AppearsOne (solution s) a ns
-      passed a (inl h) = inr (inl (subst (λ u. Appears u a) (sym (apply-look (s .bindings) n (c .good .formed .bound))) h))
+          ⊎ Appears (reading s u) a ⊎ AppearsOne (solution s) a ns
+      passed a (inl h) = inr (inl (subst (λ v. Appears v a) (sym (apply-follow (s .bindings) n u (c .good .formed .bound) e)) h))
       passed a (inr h) = inr (inr h)
+
+  -- A pair: a binding followed on one side, or both sides compared.
+  onPair-running : (s : Store) (p : Pair) (ps : List Pair) (o q : Option (Term Leaf)) → follow (s .bindings) (p .goal) ≡ o
+      → follow (s .bindings) (p .clause) ≡ q → Running (pairs s (p ∷ ps)) → Running (onPair s p ps o q)
+  unfolding onPair Running
+  onPair-running s p ps (some t) q e f r =
+      (r .0, ((follow-below (s .bindings) (p .goal) t (s .next) (r .0 .formed .below) e, r .1 .0 .1), r .1 .1))
+  onPair-running s p ps none (some u) e f r =
+      (r .0, ((r .1 .0 .0, follow-below (s .bindings) (p .clause) u (s .next) (r .0 .formed .below) f), r .1 .1))
+  onPair-running s p ps none none e f r =
+      compareTerms-running s (p .goal) (p .clause) ps (r .0) (follow-none (s .bindings) (p .goal) e)
+      (follow-none (s .bindings) (p .clause) f) (r .1 .0 .0) (r .1 .0 .1) (r .1 .1)
+
+  -- A node: its binding followed, or the node looked at.
+  onNode-running : (s : Store) (y : ℕ) (t n : Term Leaf) (ns : List (Term Leaf)) (ps : List Pair) (o : Option (Term Leaf))
+      → follow (s .bindings) n ≡ o → Running (check s y t n ns ps) → Running (onNode s y t n ns ps o)
+  unfolding onNode Running
+  onNode-running s y t n ns ps (some u) e r = (follow-checking s y t n u ns e (r .0), r .1)
+  onNode-running s y t n ns ps none e r = visit-running s y t n ns ps (follow-none (s .bindings) n e) (r .0) (r .1)
 
   -- One act.
   pub matchStep-running : (m : Matching) → Running m → Running (matchStep m)
   unfolding matchStep Running
   matchStep-running (pairs s []) r = r
   matchStep-running (pairs s (p ∷ ps)) r =
-      let bs = s .bindings in
-      let f = r .0 .formed in
-      compareTerms-running s (look bs (p .goal)) (look bs (p .clause)) ps (r .0) (look-twice bs (p .goal) (f .bound))
-      (look-twice bs (p .clause) (f .bound))
-      (look-below bs (p .goal) (s .next) (f .below) (r .1 .0 .0)) (look-below bs (p .clause) (s .next) (f .below) (r .1 .0 .1)) (r .1 .1)
-  matchStep-running (check s y t n ns ps) r =
-      visit-running s y t (look (s .bindings) n) ns ps (look-twice (s .bindings) n (r .0 .good .formed .bound))
-      (look-checking s y t n ns (r .0)) (r .1)
+      onPair-running s p ps (follow (s .bindings) (p .goal)) (follow (s .bindings) (p .clause)) refl refl r
+  matchStep-running (check s y t n ns ps) r = onNode-running s y t n ns ps (follow (s .bindings) n) refl r
   matchStep-running fail r = tt
 
   -- Any number of acts.

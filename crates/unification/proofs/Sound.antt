@@ -10,10 +10,11 @@ use borrow.Author.Tests.{eqb-true}
 use Rattle.terms.specs.Lists.{All, update}
 use Rattle.terms.specs.Terms.{sameFunctor, Term, leaf, app, Terms, nil, cons, substitute, substitutes, levelBy}
 use Rattle.terms.proofs.Terms.{functor-same}
-use Rattle.unification.specs.Store.{Leaf, var, con, Store, look, lower, bind}
+use Rattle.unification.specs.Store.{Leaf, var, con, Store, follow, lower, bind}
 use Rattle.unification.specs.Matching.{Pair, Matching, pairs, check, fail, pushTerms, pushPairs, comparing, afterNode, visit}
-use Rattle.unification.specs.Matching.{compareTerms, matchStep, matchSteps}
-use Rattle.unification.proofs.Valuation.{Domain, value, Solves, Equal, look-value}
+use Rattle.unification.specs.Matching.{compareTerms, onPair, onNode, matchStep, matchSteps}
+use Rattle.unification.proofs.Valuation.{Domain, value, Solves, Equal}
+use Rattle.unification.proofs.Follow.{follow-value}
 
 -- Both tests are true.
 and-true : (a b : Bool) → a && b ≡ true → (a ≡ true) × (b ≡ true)
@@ -42,11 +43,11 @@ module _ {B : Type 0} (D : Domain B) (σ : ℕ → Term B) where
       go x false e l = l
 
   -- After a node: the next one, or the binding.
-  onNode-sound : (s : Store) (y : ℕ) (t : Term Leaf) (ns : List (Term Leaf)) (ps : List Pair) → SolvesMatching (afterNode s y t ns ps)
+  afterNode-sound : (s : Store) (y : ℕ) (t : Term Leaf) (ns : List (Term Leaf)) (ps : List Pair) → SolvesMatching (afterNode s y t ns ps)
       → SolvesWith s (σ y ≡ substitute t (value D σ)) ps
   unfolding afterNode SolvesMatching bind
-  onNode-sound s y t [] ps h = (record { equations = h .0 .equations .1; levels = h .0 .levels }, h .0 .equations .0, h .1)
-  onNode-sound s y t (n ∷ ns) ps h = h
+  afterNode-sound s y t [] ps h = (record { equations = h .0 .equations .1; levels = h .0 .levels }, h .0 .equations .0, h .1)
+  afterNode-sound s y t (n ∷ ns) ps h = h
 
   -- One node, u being it as looked through.
   visit-sound : (s : Store) (y : ℕ) (t u : Term Leaf) (ns : List (Term Leaf)) (ps : List Pair) → SolvesMatching (visit s y t u ns ps)
@@ -57,13 +58,13 @@ module _ {B : Type 0} (D : Domain B) (σ : ℕ → Term B) where
       go : (c : Bool) → SolvesMatching (cond c fail (afterNode (lower s z (s .level y)) y t ns ps))
           → SolvesWith s (σ y ≡ substitute t (value D σ)) ps
       go true h = absurd h
-      go false h = let r = onNode-sound (lower s z (s .level y)) y t ns ps h in (lower-sound s z (s .level y) (r .0), r .1, r .2)
+      go false h = let r = afterNode-sound (lower s z (s .level y)) y t ns ps h in (lower-sound s z (s .level y) (r .0), r .1, r .2)
   visit-sound s y t (leaf (con c j)) ns ps h = go (leb j (s .level y)) h
     where
       go : (c : Bool) → SolvesMatching (cond c (afterNode s y t ns ps) fail) → SolvesWith s (σ y ≡ substitute t (value D σ)) ps
-      go true h = onNode-sound s y t ns ps h
+      go true h = afterNode-sound s y t ns ps h
       go false h = absurd h
-  visit-sound s y t (app f ts) ns ps h = onNode-sound s y t (pushTerms ts ns) ps h
+  visit-sound s y t (app f ts) ns ps h = afterNode-sound s y t (pushTerms ts ns) ps h
 
   -- The argument pairs of two lists of terms.
   pub comparing-sound : (s : Store) (ts us : Terms Leaf) (ps : List Pair) → SolvesMatching (comparing s (pushPairs ts us ps))
@@ -110,15 +111,30 @@ module _ {B : Type 0} (D : Domain B) (σ : ℕ → Term B) where
       go true e h = let r = comparing-sound s ts us ps h in (r .0, ap₂ app (functor-same f g e) (r .1), r .2)
       go false e h = absurd h
 
+  -- A pair: a binding followed on one side, or both sides compared.
+  onPair-sound : (s : Store) (p : Pair) (ps : List Pair) (o q : Option (Term Leaf)) → follow (s .bindings) (p .goal) ≡ o
+      → follow (s .bindings) (p .clause) ≡ q → SolvesMatching (onPair s p ps o q) → SolvesMatching (pairs s (p ∷ ps))
+  unfolding onPair SolvesMatching
+  onPair-sound s p ps (some t) q e f h =
+      (h .0, (sym (follow-value D σ (s .bindings) (p .goal) t (h .0 .equations) e) ∙ h .1 .0, h .1 .1))
+  onPair-sound s p ps none (some u) e f h =
+      (h .0, (h .1 .0 ∙ follow-value D σ (s .bindings) (p .clause) u (h .0 .equations) f, h .1 .1))
+  onPair-sound s p ps none none e f h = let r = compareTerms-sound s (p .goal) (p .clause) ps h in (r .0, (r .1, r .2))
+
+  -- A node: its binding followed, or the node looked at.
+  onNode-sound : (s : Store) (y : ℕ) (t n : Term Leaf) (ns : List (Term Leaf)) (ps : List Pair) (o : Option (Term Leaf))
+      → SolvesMatching (onNode s y t n ns ps o) → SolvesMatching (check s y t n ns ps)
+  unfolding onNode SolvesMatching
+  onNode-sound s y t n ns ps (some u) h = h
+  onNode-sound s y t n ns ps none h = visit-sound s y t n ns ps h
+
   -- One act.
   pub matchStep-sound : (m : Matching) → SolvesMatching (matchStep m) → SolvesMatching m
-  unfolding matchStep SolvesMatching
+  unfolding matchStep
   matchStep-sound (pairs s []) h = h
   matchStep-sound (pairs s (p ∷ ps)) h =
-      let r = compareTerms-sound s (look (s .bindings) (p .goal)) (look (s .bindings) (p .clause)) ps h in
-      let e = r .0 .equations in
-      (r .0, (sym (look-value D σ (s .bindings) (p .goal) e) ∙ r .1 ∙ look-value D σ (s .bindings) (p .clause) e, r .2))
-  matchStep-sound (check s y t n ns ps) h = visit-sound s y t (look (s .bindings) n) ns ps h
+      onPair-sound s p ps (follow (s .bindings) (p .goal)) (follow (s .bindings) (p .clause)) refl refl h
+  matchStep-sound (check s y t n ns ps) h = onNode-sound s y t n ns ps (follow (s .bindings) n) h
   matchStep-sound fail h = h
 
   -- Any number of acts.

@@ -1,24 +1,24 @@
--- Matching ends: each binding leaves fewer variables unbound, and between two bindings the final values of what is left to look
--- at get smaller.
+-- Matching ends: each binding made leaves fewer variables unbound; between two of these acts the final values of what is left to look
+-- at get smaller; and between two of those fewer bindings are left to follow.
 use Prim.Native.Nat.{ℕ, zero, suc, _+_, _≤_, _<_}
 use mathlib.Core.Path.{_≡_, refl, sym, _∙_, ap, subst}
 use mathlib.Core.Bool.{Bool, true, false, cond, _&&_, false≢true}
 use mathlib.Core.List.{List, [], _∷_}
 use mathlib.Core.Option.{Option, none, some, Option·map}
-use mathlib.Core.Logic.{_⊎_, inl, inr}
 use native.Mathlib.Omega.{arith}
 use lib.Dec.{eqb, leb}
 use borrow.Author.Tests.{eqb-true, eqb-false, leb-true, leb-false}
 use Rattle.terms.specs.Terms.{Functor, sameFunctor, Term, leaf, app, Terms, nil, cons, substitute, substitutes, size, sizes}
 use Rattle.terms.proofs.Terms.{size-pos}
 use Rattle.terms.proofs.Tests.{refuted}
-use Rattle.unification.specs.Store.{Leaf, var, con, Binding, Store, look, lower, bind, at, apply}
+use Rattle.unification.specs.Store.{Leaf, var, con, Binding, Store, follow, lower, bind, at, apply}
 use Rattle.unification.specs.Matching.{Pair, Matching, pairs, check, fail, pushTerms, pushPairs, comparing, afterNode, visit}
-use Rattle.unification.specs.Matching.{compareTerms, matchStep, matchSteps, Ended}
+use Rattle.unification.specs.Matching.{compareTerms, onPair, onNode, matchStep, matchSteps, Ended}
 use Rattle.unification.specs.Promises.{WellBound, Formed}
 use Rattle.unification.proofs.Look.{isUnbound, isUnbound-true, unbound-isUnbound}
 use Rattle.unification.proofs.Solution.{final, unbound-before}
-use Rattle.unification.proofs.General.{apply-look}
+use Rattle.unification.proofs.Follow.{apply-follow}
+use Rattle.unification.proofs.Looking.{hops, follow-hop}
 use Rattle.unification.proofs.Invariant.{Running, matchStep-running}
 
 -- How many numbers below n have the property
@@ -59,7 +59,6 @@ howMany-lt p q h y (suc n) l a b = go (eqb y n) refl (λ k. howMany-lt p q h y n
     go true e ih le = rw (sym (ap p (eqb-true y n e)) ∙ a, sym (ap q (eqb-true y n e)) ∙ b) (omega arith)
     go false e ih le = more (q n) (p n) (h n) (ih (let d = eqb-false y n e in omega arith))
 
--- A test that is not true is false.
 -- The first measure: the unbound variables
 
 unbounds : Store → ℕ
@@ -98,10 +97,10 @@ weight-pos : (bs : List Binding) (t : Term Leaf) → 1 ≤ weight bs t
 unfolding weight
 weight-pos bs t = size-pos (apply t (final bs))
 
--- Looking through changes no weight.
-weight-look : (bs : List Binding) (t : Term Leaf) → WellBound bs → weight bs (look bs t) ≡ weight bs t
+-- A binding followed changes no weight.
+weight-follow : (bs : List Binding) (t u : Term Leaf) → WellBound bs → follow bs t ≡ some u → weight bs u ≡ weight bs t
 unfolding weight
-weight-look bs t w = ap size (apply-look bs t w)
+weight-follow bs t u w e = ap size (apply-follow bs t u w e)
 
 -- The measures of a matching
 
@@ -115,11 +114,24 @@ second (pairs s ps) = pairWeights (s .bindings) ps
 second (check s y t n ns ps) = weights (s .bindings) (n ∷ ns) + pairWeights (s .bindings) ps
 second fail = 0
 
+-- The third: the bindings left to follow in what is due.
+third : Matching → ℕ
+third (pairs s []) = 0
+third (pairs s (p ∷ ps)) = hops (s .bindings) (p .goal) + hops (s .bindings) (p .clause)
+third (check s y t n ns ps) = hops (s .bindings) n
+third fail = 0
+
 -- Less than (u, k), the first measure first; or at the end.
 data Less (u k : ℕ) (m : Matching) : Type 0 where
   at-end : Ended m → Less u k m
   by-first : first m < u → Less u k m
   by-second : first m ≤ u → second m < k → Less u k m
+
+-- What an act does to a matching: it ends it, or makes it less, by the first two measures or by the third alone.
+data Falls (m n : Matching) : Type 0 where
+  ended : Ended m → Falls m n
+  less : Less (first m) (second m) n → Falls m n
+  follows : first n ≤ first m → second n ≤ second m → third n < third m → Falls m n
 
 -- The arguments weigh as much as their nodes.
 pushTerms-weights : (bs : List Binding) (ts : Terms Leaf) (ns : List (Term Leaf))
@@ -203,11 +215,11 @@ compareTerms-less s (app f ts) (app g us) ps k p q l =
 
 module _ (R : ℕ → Type 0) where
   -- After a node: the next one, or the binding.
-  onNode-less : (s : Store) (y : ℕ) (t : Term Leaf) (ns : List (Term Leaf)) (ps : List Pair) (k : ℕ) → Running R (afterNode s y t ns ps)
+  afterNode-less : (s : Store) (y : ℕ) (t : Term Leaf) (ns : List (Term Leaf)) (ps : List Pair) (k : ℕ) → Running R (afterNode s y t ns ps)
       → weights (s .bindings) ns + pairWeights (s .bindings) ps < k → Less (unbounds s) k (afterNode s y t ns ps)
   unfolding afterNode first second weights Running
-  onNode-less s y t [] ps k r l = by-first (bind-unbounds s y t (r .0 .formed))
-  onNode-less s y t (n ∷ ns) ps k r l = by-second (omega arith) l
+  afterNode-less s y t [] ps k r l = by-first (bind-unbounds s y t (r .0 .formed))
+  afterNode-less s y t (n ∷ ns) ps k r l = by-second (omega arith) l
 
   -- Looking at a node u, given as looked through, makes the measure smaller, or ends the matching.
   visit-less : (s : Store) (y : ℕ) (t u : Term Leaf) (ns : List (Term Leaf)) (ps : List Pair) (k : ℕ) → Running R (visit s y t u ns ps)
@@ -218,30 +230,51 @@ module _ (R : ℕ → Type 0) where
       go : (b : Bool) → Running R (cond b fail (afterNode (lower s z (s .level y)) y t ns ps))
           → Less (unbounds s) k (cond b fail (afterNode (lower s z (s .level y)) y t ns ps))
       go true r = at-end tt
-      go false r = onNode-less (lower s z (s .level y)) y t ns ps k r (let p = size-pos (final (s .bindings) z) in omega arith)
+      go false r = afterNode-less (lower s z (s .level y)) y t ns ps k r (let p = size-pos (final (s .bindings) z) in omega arith)
   visit-less s y t (leaf (con d j)) ns ps k r l = go (leb j (s .level y)) r
     where
       go : (b : Bool) → Running R (cond b (afterNode s y t ns ps) fail) → Less (unbounds s) k (cond b (afterNode s y t ns ps) fail)
-      go true r = onNode-less s y t ns ps k r (omega arith)
+      go true r = afterNode-less s y t ns ps k r (omega arith)
       go false r = at-end tt
   visit-less s y t (app f ts) ns ps k r l =
-      onNode-less s y t (pushTerms ts ns) ps k r (let p = pushTerms-weights (s .bindings) ts ns in omega arith)
+      afterNode-less s y t (pushTerms ts ns) ps k r (let p = pushTerms-weights (s .bindings) ts ns in omega arith)
+
+  -- A pair: a binding followed on one side, or both sides compared.
+  onPair-less : (s : Store) (p : Pair) (ps : List Pair) (o q : Option (Term Leaf)) → follow (s .bindings) (p .goal) ≡ o
+      → follow (s .bindings) (p .clause) ≡ q → Formed s → Falls (pairs s (p ∷ ps)) (onPair s p ps o q)
+  unfolding onPair first second third pairWeights
+  onPair-less s p ps (some t) q e g f =
+      let a = weight-follow (s .bindings) (p .goal) t (f .bound) e in
+      let b = follow-hop (s .bindings) (p .goal) t (f .bound) e .1 in
+      follows (omega arith) (omega arith) (omega arith)
+  onPair-less s p ps none (some u) e g f =
+      let a = weight-follow (s .bindings) (p .clause) u (f .bound) g in
+      let b = follow-hop (s .bindings) (p .clause) u (f .bound) g .1 in
+      follows (omega arith) (omega arith) (omega arith)
+  onPair-less s p ps none none e g f =
+      less (compareTerms-less s (p .goal) (p .clause) ps _ (weight-pos (s .bindings) (p .goal)) (weight-pos (s .bindings) (p .clause))
+      (omega arith))
+
+  -- A node: its binding followed, or the node looked at.
+  onNode-less : (s : Store) (y : ℕ) (t n : Term Leaf) (ns : List (Term Leaf)) (ps : List Pair) (o : Option (Term Leaf))
+      → follow (s .bindings) n ≡ o → Formed s
+      → Running R (onNode s y t n ns ps o) → Falls (check s y t n ns ps) (onNode s y t n ns ps o)
+  unfolding onNode first second third weights
+  onNode-less s y t n ns ps (some u) e f r =
+      let a = weight-follow (s .bindings) n u (f .bound) e in
+      let b = follow-hop (s .bindings) n u (f .bound) e .1 in
+      follows (omega arith) (omega arith) (omega arith)
+  onNode-less s y t n ns ps none e f r = less (visit-less s y t n ns ps _ r (omega arith))
 
   -- One act.
-  matchStep-less : (m : Matching) → Running R m → Ended m ⊎ Less (first m) (second m) (matchStep m)
-  unfolding matchStep Running first second pairWeights weights Ended
-  matchStep-less (pairs s []) r = inl tt
+  matchStep-less : (m : Matching) → Running R m → Falls m (matchStep m)
+  unfolding matchStep Running Ended
+  matchStep-less (pairs s []) r = ended tt
   matchStep-less (pairs s (p ∷ ps)) r =
-      let bs = s .bindings in
-      let w = r .0 .formed .bound in
-      let a = weight-look bs (p .goal) w in
-      let b = weight-look bs (p .clause) w in
-      inr (compareTerms-less s (look bs (p .goal)) (look bs (p .clause)) ps _ (weight-pos bs (look bs (p .goal)))
-      (weight-pos bs (look bs (p .clause))) (omega arith))
+      onPair-less s p ps (follow (s .bindings) (p .goal)) (follow (s .bindings) (p .clause)) refl refl (r .0 .formed)
   matchStep-less (check s y t n ns ps) r =
-      let a = weight-look (s .bindings) n (r .0 .good .formed .bound) in
-      inr (visit-less s y t (look (s .bindings) n) ns ps _ (matchStep-running R (check s y t n ns ps) r) (omega arith))
-  matchStep-less fail r = inl tt
+      onNode-less s y t n ns ps (follow (s .bindings) n) refl (r .0 .good .formed) (matchStep-running R (check s y t n ns ps) r)
+  matchStep-less fail r = ended tt
 
 -- All acts
 
@@ -249,7 +282,7 @@ abbrev Ends : Matching → Type 0
 Ends m = (n : ℕ) × Ended (matchSteps n m)
 
 -- An act first, or an act last.
-steps-after : (n : ℕ) (m : Matching) → matchSteps n (matchStep m) ≡ matchSteps (suc n) m
+pub steps-after : (n : ℕ) (m : Matching) → matchSteps n (matchStep m) ≡ matchSteps (suc n) m
 unfolding matchSteps
 steps-after zero m = refl
 steps-after (suc n) m = ap matchStep (steps-after n m)
@@ -277,19 +310,28 @@ ended-stays n m e (suc k) l = go (leb n k) refl (λ h. ended-stays n m e k h)
     go false q ih = ap (λ (j : ℕ). matchSteps j m) (let z : suc k ≡ n = (let p = leb-false n k q in omega arith) in z)
 
 module _ (R : ℕ → Type 0) where
-  -- By the second measure, for one value of the first; ih says that all with a smaller one end.
+  -- By the third measure, for one value of the other two; ih and jh say that all with a smaller first or second one end.
+  ends-third : (u k : ℕ) → ((m : Matching) → Running R m → first m < u → Ends m)
+      → ((m : Matching) → Running R m → first m ≤ u → second m < k → Ends m)
+      → (h : ℕ) (m : Matching) → Running R m → first m ≤ u → second m ≤ k → third m < h → Ends m
+  unfolding matchSteps
+  ends-third u k ih jh zero m r a b c = absurd (omega arith)
+  ends-third u k ih jh (suc h) m r a b c =
+      go (matchStep-less R m r) (ends-third u k ih jh h (matchStep m) (matchStep-running R m r))
+    where
+      go : Falls m (matchStep m)
+          → (first (matchStep m) ≤ u → second (matchStep m) ≤ k → third (matchStep m) < h → Ends (matchStep m)) → Ends m
+      go (ended e) rec = (0, e)
+      go (less (at-end e)) rec = (1, e)
+      go (less (by-first d)) rec = one-more m (ih (matchStep m) (matchStep-running R m r) (omega arith))
+      go (less (by-second d e)) rec = one-more m (jh (matchStep m) (matchStep-running R m r) (omega arith) (omega arith))
+      go (follows d e l) rec = one-more m (rec (omega arith) (omega arith) (omega arith))
+
+  -- By the second measure, for one value of the first.
   ends-second : (u : ℕ) → ((m : Matching) → Running R m → first m < u → Ends m) → (k : ℕ) (m : Matching) → Running R m → first m ≤ u
       → second m < k → Ends m
-  unfolding matchSteps
   ends-second u ih zero m r a b = absurd (omega arith)
-  ends-second u ih (suc k) m r a b = go (matchStep-less R m r) (λ c d. ends-second u ih k (matchStep m) (matchStep-running R m r) c d)
-    where
-      go : Ended m ⊎ Less (first m) (second m) (matchStep m) → (first (matchStep m) ≤ u → second (matchStep m) < k → Ends (matchStep m))
-          → Ends m
-      go (inl e) rec = (0, e)
-      go (inr (at-end e)) rec = (1, e)
-      go (inr (by-first c)) rec = one-more m (ih (matchStep m) (matchStep-running R m r) (omega arith))
-      go (inr (by-second c d)) rec = one-more m (rec (omega arith) (omega arith))
+  ends-second u ih (suc k) m r a b = ends-third u k ih (ends-second u ih k) (suc (third m)) m r a (omega arith) (omega arith)
 
   -- By the first measure.
   ends-first : (u : ℕ) (m : Matching) → Running R m → first m < u → Ends m

@@ -10,12 +10,12 @@ use lib.Dec.{eqb, leb}
 use borrow.Author.Tests.{eqb-true, eqb-false, leb-true, leb-false}
 use Rattle.terms.specs.Lists.{All}
 use Rattle.terms.specs.Terms.{sameFunctor, Term, leaf, app, Terms, nil, cons, substitute, substitutes, Appears, AppearsIn}
-use Rattle.unification.specs.Store.{Leaf, var, con, Binding, Store, look, lower, bind, at, solution}
+use Rattle.unification.specs.Store.{Leaf, var, con, Binding, Store, follow, look, lower, bind, at, solution}
 use Rattle.unification.specs.Matching.{Pair, Matching, pairs, check, fail, pushTerms, pushPairs, comparing, afterNode, visit}
-use Rattle.unification.specs.Matching.{compareTerms, matchStep, matchSteps}
+use Rattle.unification.specs.Matching.{compareTerms, onPair, onNode, matchStep, matchSteps}
 use Rattle.unification.specs.Promises.{Unbound, WellBound, Formed, reading}
-use Rattle.unification.proofs.Solution.{final, boundTo-unbound, unbound-before, stays-appears, enters-appears, look-twice}
-use Rattle.unification.proofs.General.{apply-look}
+use Rattle.unification.proofs.Solution.{final, boundTo-unbound, unbound-before, stays-appears, enters-appears}
+use Rattle.unification.proofs.Follow.{apply-follow, follow-none}
 use Rattle.unification.proofs.Stores.{lower-same, lower-other, lower-le, lower-formed}
 use Rattle.unification.proofs.Invariant.{Running, matchStep-running, matchSteps-running}
 
@@ -141,11 +141,11 @@ bind-tracked s₀ s y t ps f g c = (
 
 module _ (R : ℕ → Type 0) (s₀ : Store) where
   -- After a node: the next one, or the binding.
-  onNode-tracked : (s : Store) (y : ℕ) (t : Term Leaf) (ns : List (Term Leaf)) (ps : List Pair) → Formed s
+  afterNode-tracked : (s : Store) (y : ℕ) (t : Term Leaf) (ns : List (Term Leaf)) (ps : List Pair) → Formed s
       → Running R (afterNode s y t ns ps) → Tracing s₀ s y t ns → Tracked s₀ (afterNode s y t ns ps)
   unfolding afterNode Running Tracked
-  onNode-tracked s y t [] ps f r c = bind-tracked s₀ s y t ps f (r .0 .formed) c
-  onNode-tracked s y t (n ∷ ns) ps f r c = c
+  afterNode-tracked s y t [] ps f r c = bind-tracked s₀ s y t ps f (r .0 .formed) c
+  afterNode-tracked s y t (n ∷ ns) ps f r c = c
 
   -- The arguments of a node within t are within t.
   pushTerms-within : (s : Store) (t : Term Leaf) (ts : Terms Leaf) (ns : List (Term Leaf))
@@ -168,14 +168,15 @@ module _ (R : ℕ → Type 0) (s₀ : Store) where
       go : (b : Bool) → eqb z y ≡ b → Running R (cond b fail (afterNode (lower s z k) y t ns ps))
           → Tracked s₀ (cond b fail (afterNode (lower s z k) y t ns ps))
       go true q r = tt
-      go false q r = onNode-tracked (lower s z k) y t ns ps (lower-formed s z k e f) r (lower-tracing s₀ s y t z ns (eqb-false z y q) e f c)
+      go false q r =
+          afterNode-tracked (lower s z k) y t ns ps (lower-formed s z k e f) r (lower-tracing s₀ s y t z ns (eqb-false z y q) e f c)
   visit-tracked s y t (leaf (con d j)) ns ps f e r c = go (leb j (s .level y)) r
     where
       go : (b : Bool) → Running R (cond b (afterNode s y t ns ps) fail) → Tracked s₀ (cond b (afterNode s y t ns ps) fail)
-      go true r = onNode-tracked s y t ns ps f r (record { later = c .later; own = c .own; seen = c .seen; within = c .within .1 })
+      go true r = afterNode-tracked s y t ns ps f r (record { later = c .later; own = c .own; seen = c .seen; within = c .within .1 })
       go false r = tt
   visit-tracked s y t (app h ts) ns ps f e r c =
-      onNode-tracked s y t (pushTerms ts ns) ps f r
+      afterNode-tracked s y t (pushTerms ts ns) ps f r
       (record { later = c .later; own = c .own; seen = c .seen; within = pushTerms-within s t ts ns (c .within .0) (c .within .1) })
 
   -- A range check begins with the whole term.
@@ -215,30 +216,45 @@ module _ (R : ℕ → Type 0) (s₀ : Store) where
   compareTerms-tracked s (app f ts) (app g us) ps et eu h =
       if-tracked (sameFunctor f g) (comparing s (pushPairs ts us ps)) (comparing-tracked s (pushPairs ts us ps) ps h)
 
-  -- The node that is due, looked through.
-  look-tracing : (s : Store) (y : ℕ) (t n : Term Leaf) (ns : List (Term Leaf)) → Formed s → Tracing s₀ s y t (n ∷ ns)
-      → Tracing s₀ s y t (look (s .bindings) n ∷ ns)
+  -- The binding of the node that is due, followed.
+  follow-tracing : (s : Store) (y : ℕ) (t n u : Term Leaf) (ns : List (Term Leaf)) → Formed s → follow (s .bindings) n ≡ some u
+      → Tracing s₀ s y t (n ∷ ns) → Tracing s₀ s y t (u ∷ ns)
   unfolding solution
-  look-tracing s y t n ns f c = record {
+  follow-tracing s y t n u ns f e c = record {
     later = c .later;
     own = c .own;
     seen = c .seen;
-    within =
-        ((λ z v. c .within .0 z (subst (λ (u : Term Leaf). Appears u (var z)) (apply-look (s .bindings) n (f .bound)) v)), c .within .1);
+    within = (
+      λ z v. c .within .0 z (subst (λ (w : Term Leaf). Appears w (var z)) (apply-follow (s .bindings) n u (f .bound) e) v),
+      c .within .1,
+    );
   }
+
+  -- A pair: a binding followed on one side, or both sides compared.
+  onPair-tracked : (s : Store) (p : Pair) (ps : List Pair) (o q : Option (Term Leaf)) → follow (s .bindings) (p .goal) ≡ o
+      → follow (s .bindings) (p .clause) ≡ q → Tracked s₀ (pairs s (p ∷ ps)) → Tracked s₀ (onPair s p ps o q)
+  unfolding onPair Tracked
+  onPair-tracked s p ps (some t) q e f h = h
+  onPair-tracked s p ps none (some u) e f h = h
+  onPair-tracked s p ps none none e f h =
+      compareTerms-tracked s (p .goal) (p .clause) ps (follow-none (s .bindings) (p .goal) e) (follow-none (s .bindings) (p .clause) f) h
+
+  -- A node: its binding followed, or the node looked at.
+  onNode-tracked : (s : Store) (y : ℕ) (t n : Term Leaf) (ns : List (Term Leaf)) (ps : List Pair) (o : Option (Term Leaf))
+      → follow (s .bindings) n ≡ o → Formed s
+      → Running R (onNode s y t n ns ps o) → Tracked s₀ (check s y t n ns ps) → Tracked s₀ (onNode s y t n ns ps o)
+  unfolding onNode Tracked
+  onNode-tracked s y t n ns ps (some u) e f r h = follow-tracing s y t n u ns f e h
+  onNode-tracked s y t n ns ps none e f r h = visit-tracked s y t n ns ps f (follow-none (s .bindings) n e) r h
 
   -- One act.
   pub matchStep-tracked : (m : Matching) → Running R m → Tracked s₀ m → Tracked s₀ (matchStep m)
   unfolding matchStep Tracked Running
   matchStep-tracked (pairs s []) r h = h
   matchStep-tracked (pairs s (p ∷ ps)) r h =
-      let bs = s .bindings in
-      let w = r .0 .formed .bound in
-      compareTerms-tracked s (look bs (p .goal)) (look bs (p .clause)) ps (look-twice bs (p .goal) w) (look-twice bs (p .clause) w) h
+      onPair-tracked s p ps (follow (s .bindings) (p .goal)) (follow (s .bindings) (p .clause)) refl refl h
   matchStep-tracked (check s y t n ns ps) r h =
-      let f = r .0 .good .formed in
-      visit-tracked s y t (look (s .bindings) n) ns ps f (look-twice (s .bindings) n (f .bound))
-      (matchStep-running R (check s y t n ns ps) r) (look-tracing s y t n ns f h)
+      onNode-tracked s y t n ns ps (follow (s .bindings) n) refl (r .0 .good .formed) (matchStep-running R (check s y t n ns ps) r) h
   matchStep-tracked fail r h = tt
 
   -- Any number of acts.

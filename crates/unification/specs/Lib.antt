@@ -3,4 +3,6 @@ pub mod Store
 pub mod Matching
 pub mod Labelled
 pub mod Promises
+pub mod Bindings
+pub mod FormerUnits
 pub mod Numbers

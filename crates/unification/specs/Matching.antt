@@ -1,12 +1,13 @@
 -- Document 01, "The walk", third paragraph: matching, one act at a time. Two acts: "comparing a pair, looking at one node in a
--- range check". A "range check" is the occurs check with the level check.
+-- range check". Request W-206 adds a third: "each binding looked through takes one unit, wherever it happens in the walk". A
+-- "range check" is the occurs check with the level check.
 use Prim.Native.Nat.{ℕ, zero, suc}
 use mathlib.Core.Bool.{Bool, true, false, _&&_, cond}
 use mathlib.Core.List.{List, [], _∷_}
 use mathlib.Core.Option.{Option, none, some, Option·map}
 use lib.Dec.{eqb, leb}
 use Rattle.terms.specs.Terms.{sameFunctor, Term, leaf, app, Terms, nil, cons}
-use Rattle.unification.specs.Store.{Leaf, var, con, Store, look, lower, bind}
+use Rattle.unification.specs.Store.{Leaf, var, con, Store, follow, lower, bind}
 
 -- A term of the goal's side and one of the clause's.
 pub record Pair : Type 0 where
@@ -62,11 +63,24 @@ compareTerms s (app f ts) (leaf (var y)) ps = check s y (app f ts) (app f ts) []
 compareTerms s (app f ts) (leaf (con d j)) ps = fail
 compareTerms s (app f ts) (app g us) ps = cond (sameFunctor f g) (comparing s (pushPairs ts us ps)) fail
 
--- One act: "argument pairs are compared, left to right, depth first, goal side first, both looked through their bindings".
+-- The front pair, with what its sides are bound to: "goal side first, both looked through their bindings", one binding an act.
+unfoldable pub onPair : Store → Pair → List Pair → Option (Term Leaf) → Option (Term Leaf) → Matching
+onPair s p ps (some t) o = pairs s (record { goal = t; clause = p .clause } ∷ ps)
+onPair s p ps none (some u) = pairs s (record { goal = p .goal; clause = u } ∷ ps)
+onPair s p ps none none = compareTerms s (p .goal) (p .clause) ps
+
+-- The node that is due, with what it is bound to. The first node of a range check is a side of a pair as looked through, so no
+-- binding is followed there again.
+unfoldable pub onNode : Store → ℕ → Term Leaf → Term Leaf → List (Term Leaf) → List Pair → Option (Term Leaf) → Matching
+onNode s y t n ns ps (some u) = check s y t u ns ps
+onNode s y t n ns ps none = visit s y t n ns ps
+
+-- One act: "argument pairs are compared, left to right, depth first"; where a binding is to be looked through, following it is
+-- the act.
 unfoldable pub matchStep : Matching → Matching
 matchStep (pairs s []) = pairs s []
-matchStep (pairs s (p ∷ ps)) = compareTerms s (look (s .bindings) (p .goal)) (look (s .bindings) (p .clause)) ps
-matchStep (check s y t n ns ps) = visit s y t (look (s .bindings) n) ns ps
+matchStep (pairs s (p ∷ ps)) = onPair s p ps (follow (s .bindings) (p .goal)) (follow (s .bindings) (p .clause))
+matchStep (check s y t n ns ps) = onNode s y t n ns ps (follow (s .bindings) n)
 matchStep fail = fail
 
 -- Does n acts of matching.

@@ -2,6 +2,7 @@
 use Prim.Native.Nat.{ℕ, suc, min, _<_}
 use mathlib.Core.Bool.{Bool, true, false, cond}
 use mathlib.Core.List.{List, [], _∷_, _++_, map}
+use mathlib.Core.Option.{Option, none, some}
 use lib.Dec.{eqb}
 use Rattle.terms.specs.Lists.{update}
 use Rattle.terms.specs.Terms.{Term, leaf, app, substitute}
@@ -21,8 +22,19 @@ pub record Store : Type 0 where
   pub level : ℕ → ℕ
   pub next : ℕ
 
--- "looked through their bindings": a variable that is bound gives what it is bound to. A variable is bound to the other side
--- as looked through, so one pass, oldest binding first, comes to the end of every chain.
+-- What a variable is bound to, if it is bound.
+unfoldable pub binding : List Binding → ℕ → Option (Term Leaf)
+binding [] x = none
+binding (b ∷ bs) x = cond (eqb x (b .name)) (some (b .value)) (binding bs x)
+
+-- One binding followed: what the term is bound to, if it is a variable that is bound. Request W-206 counts each of these.
+unfoldable pub follow : List Binding → Term Leaf → Option (Term Leaf)
+follow bs (leaf (var x)) = binding bs x
+follow bs (leaf (con c k)) = none
+follow bs (app f ts) = none
+
+-- "looked through their bindings": the term to which following bindings comes. A variable is bound to the other side as looked
+-- through, so one pass, oldest binding first, comes to the end of every chain.
 unfoldable pub look1 : Term Leaf → Binding → Term Leaf
 look1 (leaf (var x)) b = cond (eqb x (b .name)) (b .value) (leaf (var x))
 look1 (leaf (con c k)) b = leaf (con c k)

@@ -34,9 +34,14 @@ pub fn by_checks(check: &impl Check, seeds: u64) -> Option<u64> {
     })
 }
 
-/// The first stored case that tells the engine apart.
+/// The first stored case that tells the engine apart: with units enough, with those it needs, or with one fewer.
 pub fn by_cases(run: &impl Run) -> Option<String> {
-    let differs = |sheet: Vec<u8>| tried(run, &sheet) != tried(&interface::run, &sheet);
+    let differs = |sheet: Vec<u8>| {
+        let needed = answer(&sheet, BUDGET, TEXT_BYTES).1;
+        let budgets = [BUDGET, needed, needed.saturating_sub(1)];
+        let mut budgets = budgets.into_iter().filter(|&budget| budget > 0);
+        budgets.any(|budget| tried(run, &sheet, budget) != tried(&interface::run, &sheet, budget))
+    };
     let mut cases = cases().into_iter();
     cases.find_map(|(name, sheet)| differs(sheet).then_some(name))
 }
@@ -64,7 +69,7 @@ pub fn false_proofs(run: &impl Run) -> usize {
     let sheets = stored.chain((0..SHEETS).map(|seed| sheet(seed).1));
     let mut count = 0;
     for sheet in sheets.filter(|sheet| answer(sheet, BUDGET, TEXT_BYTES).0 == Outcome::No) {
-        let after = tried(run, &sheet);
+        let after = tried(run, &sheet, BUDGET);
         if after.code == PROVED {
             count += 1;
             let text = &after.answer[..after.result[2] as usize];
@@ -77,12 +82,12 @@ pub fn false_proofs(run: &impl Run) -> usize {
 /// The code of include/rules.h.
 const PROVED: u32 = 0;
 
-fn tried(run: &impl Run, sheet: &[u8]) -> After {
+fn tried(run: &impl Run, sheet: &[u8], budget: u32) -> After {
     let call = RunCall {
         sheet: sheet.to_vec(),
-        budget: BUDGET,
+        budget,
         table: TABLE_NUMBERS,
-        work: WORK_NUMBERS * BUDGET as usize,
+        work: WORK_NUMBERS * budget as usize,
         answer: TEXT_BYTES,
         result: 5,
         dirt: 0,

@@ -25,18 +25,26 @@ fn lines(short: &str) -> Vec<u8> {
     lines.concat().into_bytes()
 }
 
-/// The searches of 50,000 units that take the longest of those that are known.
+/// The searches of 50,000 units that take the longest of those that are known, and two that did before W-206, when looking through
+/// bindings took no unit.
 pub fn worst() -> Vec<Named> {
     vec![
-        ("a chain of 8,192 variables", variable_chain()),
+        (
+            "a chain of variables, 8,192 where bindings took no unit",
+            variable_chain(2_048),
+        ),
+        (
+            "a chain of variables, 17,200 where bindings took no unit",
+            variable_chain(4_300),
+        ),
         ("128 clauses of 950 quantifiers, one name", idle_quantifiers(1)),
         ("128 clauses of 950 quantifiers, eight names", idle_quantifiers(8)),
     ]
 }
 
-/// q(a, b, c, d) for all terms, and the goal q(x, x, x, x) two thousand times: each pair of arguments goes from x to the end of its
+/// q(a, b, c, d) for all terms, and the goal q(x, x, x, x) so many times: each pair of arguments goes from x to the end of its
 /// chain, and makes it longer by one. Then the goal again, q(x, x, x, x) being assumed: each pair goes there on both sides.
-fn variable_chain() -> Vec<u8> {
+fn variable_chain(times: u32) -> Vec<u8> {
     let mut b = Builder::new(true);
     let q = b.predicate("q", 4);
     let variables = [1, 2, 3, 4].map(|variable| b.variable(variable));
@@ -48,8 +56,10 @@ fn variable_chain() -> Vec<u8> {
     for doubling in 0..12 {
         often.push(b.and(often[doubling], often[doubling]));
     }
+    let bits = (0..often.len()).filter(|bit| times >> bit & 1 == 1);
+    let first = bits.map(|bit| often[bit]).reduce(|goal, more| b.and(goal, more));
     let again = b.implies(atom, often[12]);
-    let goal = b.and(often[11], again);
+    let goal = b.and(first.expect("at least once"), again);
     let goal = b.some(0, goal);
     b.goal(goal)
 }

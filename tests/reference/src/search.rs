@@ -88,6 +88,9 @@ pub enum End {
 pub struct Ended {
     pub end: End,
     pub units: u32,
+    /// How many bindings were looked through, and the most in a row: for tests.
+    pub bindings: u32,
+    pub longest_chain: u32,
 }
 
 pub fn search(sheet: &Sheet, budget: u32) -> Ended {
@@ -98,15 +101,15 @@ pub fn search(sheet: &Sheet, budget: u32) -> Ended {
         constants: 0,
         alternatives: Vec::new(),
     };
-    match walk.run() {
-        Ok(proof) => Ended {
-            end: proof.map_or(End::No, End::Proved),
-            units: walk.units.taken,
-        },
-        Err(OutOfUnits) => Ended {
-            end: End::Spent,
-            units: budget,
-        },
+    let (end, units) = match walk.run() {
+        Ok(proof) => (proof.map_or(End::No, End::Proved), walk.units.taken),
+        Err(OutOfUnits) => (End::Spent, budget),
+    };
+    Ended {
+        end,
+        units,
+        bindings: walk.units.bindings,
+        longest_chain: walk.units.longest_chain,
     }
 }
 

@@ -7,6 +7,7 @@ use crate::formula::Node;
 use crate::search::{End, Ended, Proof, Step};
 use crate::sheet::Sheet;
 use crate::term::{Constant, Environment, Fresh, Term, Variable};
+use crate::unification::Store;
 
 /// The text would be longer than the limit (refusal 12).
 #[derive(Debug)]
@@ -68,9 +69,10 @@ impl Writer<'_> {
     }
 
     fn proof(&mut self, proof: &Proof) -> Result<(), TooLong> {
+        let mut store = proof.store.clone();
         for &(v, variable) in &proof.answers {
             self.put(format!("B\t{v}").as_bytes())?;
-            self.field(Fresh::Variable(variable), proof)?;
+            self.field(Fresh::Variable(variable), &mut store)?;
             self.put(b"\n")?;
         }
         for step in &proof.steps {
@@ -82,16 +84,16 @@ impl Writer<'_> {
                 Step::Assume => self.put(b"D\tassume")?,
                 Step::Some(variable) => {
                     self.put(b"D\tsome")?;
-                    self.field(Fresh::Variable(*variable), proof)?;
+                    self.field(Fresh::Variable(*variable), &mut store)?;
                 }
                 Step::All(constant) => {
                     self.put(b"D\tall")?;
-                    self.field(Fresh::Constant(*constant), proof)?;
+                    self.field(Fresh::Constant(*constant), &mut store)?;
                 }
                 Step::Clause { place, prefix } => {
                     self.put(format!("D\tclause\t{place}").as_bytes())?;
                     for &term in prefix {
-                        self.field(term, proof)?;
+                        self.field(term, &mut store)?;
                     }
                 }
             }
@@ -101,14 +103,13 @@ impl Writer<'_> {
     }
 
     /// A tab and a term.
-    fn field(&mut self, term: Fresh, proof: &Proof) -> Result<(), TooLong> {
+    fn field(&mut self, term: Fresh, store: &mut Store) -> Result<(), TooLong> {
         self.put(b"\t")?;
-        let mut store = proof.store.clone();
         let mut rest = vec![Rest::Term(Term::Fresh(term))];
         while let Some(next) = rest.pop() {
             match next {
                 Rest::Bytes(bytes) => self.put(bytes.as_bytes())?,
-                Rest::Term(term) => match store.look(term) {
+                Rest::Term(term) => match store.resolve(term) {
                     Term::Fresh(Fresh::Variable(variable)) => self.variable(variable, store.level(variable))?,
                     Term::Fresh(Fresh::Constant(constant)) => self.constant(constant)?,
                     // W-204: "The text writes it in base ten."

@@ -10,6 +10,9 @@ use crate::term::{Environment, Fresh, Term, Variable};
 pub struct Units {
     left: u32,
     pub taken: u32,
+    /// How many of them were taken for bindings, and the most for one term: tests ask whether long chains occur.
+    pub bindings: u32,
+    pub longest_chain: u32,
 }
 
 /// No unit was left when an act was due.
@@ -18,7 +21,12 @@ pub struct OutOfUnits;
 
 impl Units {
     pub fn new(budget: u32) -> Units {
-        Units { left: budget, taken: 0 }
+        Units {
+            left: budget,
+            taken: 0,
+            bindings: 0,
+            longest_chain: 0,
+        }
     }
 
     /// One act.
@@ -30,10 +38,14 @@ impl Units {
         self.taken += 1;
         Ok(())
     }
-}
 
-/// Chains of more variables than this are shortened when they are looked through.
-const LONG_CHAIN: u32 = 16;
+    /// A binding looked through, which is an act too. W-206: "each binding looked through takes one unit".
+    fn follow(&mut self) -> Result<(), OutOfUnits> {
+        self.act()?;
+        self.bindings += 1;
+        Ok(())
+    }
+}
 
 /// Bindings and levels of the logic variables. Persistent: a clone is a choice point's copy.
 #[derive(Clone)]
@@ -55,26 +67,40 @@ impl Store {
         self.lowered.get(variable.id).copied().unwrap_or(variable.born)
     }
 
-    /// The term looked through its bindings. A long chain of variables is shortened on the way: the first one is bound
-    /// to the end of the chain, which it stands for in any case.
-    pub fn look(&mut self, term: Term) -> Term {
-        let Term::Fresh(Fresh::Variable(first)) = term else {
-            return term;
-        };
-        let mut last = first;
+    /// The term looked through its bindings.
+    pub fn look_through(&self, mut term: Term, units: &mut Units) -> Result<Term, OutOfUnits> {
         let mut passed = 0;
-        let end = loop {
-            match self.bindings.get(last.id) {
-                None => break Term::Fresh(Fresh::Variable(last)),
-                Some(Term::Fresh(Fresh::Variable(next))) => last = *next,
-                Some(term) => break term.clone(),
-            }
+        while let Some((_, bound)) = self.binding(&term) {
+            units.follow()?;
             passed += 1;
-        };
-        if passed > LONG_CHAIN {
-            self.bind(first, end.clone());
+            term = bound;
         }
-        end
+        units.longest_chain = units.longest_chain.max(passed);
+        Ok(term)
+    }
+
+    /// The same for writing, when the walk has ended: no act, so no unit. The variables passed are bound to the end of
+    /// their chain, which they stand for in any case, so that no long chain is passed often.
+    pub fn resolve(&mut self, mut term: Term) -> Term {
+        let mut passed = Vec::new();
+        while let Some((variable, bound)) = self.binding(&term) {
+            passed.push(variable);
+            term = bound;
+        }
+        passed.pop();
+        for variable in passed {
+            self.bind(variable, term.clone());
+        }
+        term
+    }
+
+    /// If the term is a bound variable, this variable and what it is bound to.
+    fn binding(&self, term: &Term) -> Option<(Variable, Term)> {
+        let Term::Fresh(Fresh::Variable(variable)) = *term else {
+            return None;
+        };
+        let bound = self.bindings.get(variable.id)?;
+        Some((variable, bound.clone()))
     }
 
     fn bind(&mut self, variable: Variable, term: Term) {
@@ -125,7 +151,9 @@ fn compare(
     units: &mut Units,
 ) -> Result<bool, OutOfUnits> {
     units.act()?;
-    match (store.look(goal), store.look(clause)) {
+    let goal = store.look_through(goal, units)?;
+    let clause = store.look_through(clause, units)?;
+    match (goal, clause) {
         (Term::Fresh(goal), Term::Fresh(clause)) if goal == clause => Ok(true),
         (Term::Fresh(Fresh::Variable(variable)), other) | (other, Term::Fresh(Fresh::Variable(variable))) => {
             let in_range = range_check(variable, other.clone(), store, units)?;
@@ -156,13 +184,14 @@ fn push_arguments(pairs: &mut Pairs, goal: Applied, clause: Applied) {
     }
 }
 
-/// The range check: occurs check and level check in one, lowering the variables of the term on the way.
+/// The range check: occurs check and level check in one, lowering the variables of the term on the way. The term itself
+/// is already looked through.
 fn range_check(variable: Variable, term: Term, store: &mut Store, units: &mut Units) -> Result<bool, OutOfUnits> {
     let level = store.level(variable);
     let mut left = vec![term];
     while let Some(term) = left.pop() {
         units.act()?;
-        match store.look(term) {
+        match store.look_through(term, units)? {
             Term::Fresh(Fresh::Variable(met)) => {
                 if met == variable {
                     return Ok(false);

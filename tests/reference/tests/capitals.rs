@@ -113,7 +113,8 @@ fn names_of_texts() {
         }
     }
     let sheet = lines("F Dimmer 2; F curve_1 0; P Suits 2; V 0; A 2 0 0; U 0 1; C 2; A 1; A 0 3 3; V 1; A 2 4 5; Q 6");
-    let text = |answer: &str, term: &str| lines(&format!("R proved 10; B 1 {answer}; D clause 1 {term}"));
+    // take, try; pair, looks Dimmer, curve_1, curve_1; pair, the binding of z, and the same looks.
+    let text = |answer: &str, term: &str| lines(&format!("R proved 11; B 1 {answer}; D clause 1 {term}"));
     let declared = "Dimmer(curve_1,curve_1)";
     // Each standing has its own mix of cases, and two spellings are the same term.
     for (answer, term, line) in [

@@ -1,5 +1,5 @@
-//! The stored cases: the runner's output and the text with 50,000 units, byte for byte; the checker on these texts and
-//! on the stored ones.
+//! The stored cases: the runner's output and the text with 50,000 units, byte for byte; the units that are needed; the
+//! checker on these texts and on the stored ones.
 
 use calls::stored::{cases, stored, stored_checks};
 use reference::{answer, check, runner, Outcome, Verdict};
@@ -33,6 +33,27 @@ fn largest_budget() {
             }
         }
     }
+}
+
+/// The units that are told suffice, and one fewer do not.
+#[test]
+fn needed_units() {
+    let mut ended = 0;
+    for (name, sheet) in cases() {
+        let told = answer(&sheet, 50_000, 65_535);
+        if !matches!(told.0, Outcome::Proved | Outcome::No) {
+            continue;
+        }
+        ended += 1;
+        let needed = told.1;
+        assert_eq!(answer(&sheet, needed, 65_535), told, "{name}");
+        if needed > 1 {
+            let text = format!("R\tspent\t{}\n", needed - 1).into_bytes();
+            let spent = (Outcome::Spent, needed - 1, text);
+            assert_eq!(answer(&sheet, needed - 1, 65_535), spent, "{name}");
+        }
+    }
+    assert!(ended > 100);
 }
 
 #[test]

@@ -7,6 +7,8 @@ use std::collections::{BTreeMap, BTreeSet};
 use calls::generate::{changed_case, checks, damaged, respelled_text, sheet, FAMILIES};
 use calls::random::Random;
 use common::naive::Judge;
+use reference::search::{search, End};
+use reference::sheet::read;
 use reference::{answer, check, check_text, engine_run, Outcome, Refusal, Verdict};
 
 const SHEETS: u64 = 6_000;
@@ -228,6 +230,30 @@ fn numbers_occur() {
             "{wanted} is rare"
         );
     }
+}
+
+/// W-206: bindings are looked through, many in a run and several in a row, also by walks that end.
+#[test]
+fn bindings_occur() {
+    const MANY: [u32; 4] = [1, 2, 5, 20];
+    let (mut walks, mut followed, mut in_a_row, mut ended) = (0, [0; 4], [0; 4], [0; 4]);
+    for seed in 0..SHEETS {
+        let Ok(sheet) = read(&sheet(seed).1) else {
+            continue;
+        };
+        let walk = search(&sheet, budget(seed));
+        walks += 1;
+        for (place, many) in MANY.into_iter().enumerate() {
+            followed[place] += u64::from(walk.bindings >= many);
+            in_a_row[place] += u64::from(walk.longest_chain >= many);
+            ended[place] += u64::from(walk.longest_chain >= many && !matches!(walk.end, End::Spent));
+        }
+    }
+    println!(
+        "{walks} walks; at least {MANY:?} bindings: {followed:?}, in a row {in_a_row:?}, of walks that end {ended:?}"
+    );
+    assert!(followed[0] > SHEETS / 3 && followed[1] > SHEETS / 5 && followed[2] > SHEETS / 10);
+    assert!(ended[0] > SHEETS / 4 && ended[1] > SHEETS / 20 && ended[2] > SHEETS / 50);
 }
 
 /// W-201: a proof with its names in any mix of cases is valid, and a letter or word in another case breaks its line.

@@ -170,7 +170,7 @@ fn numbers_and_symbols() {
     tells("P p 1; F f 1; N 1; A 1 0; A 0 1; A 0 0; C 3; Q 2", "R no 3");
 }
 
-/// A unit for each pair and for each node of a range check.
+/// A unit for each pair, for each node of a range check and for each binding.
 #[test]
 fn units() {
     for (sheet, text) in [
@@ -193,20 +193,20 @@ fn units() {
             "P p 1; F g 2; N 3; N 4; A 1 0 1; A 0 2; C 3; V 0; V 1; A 1 4 5; A 0 6; Q 7",
             "R proved 7; B 0 3; B 1 4; D clause 1",
         ),
-        // g(3,4) and g(v0,v0): take, try, pair g, pair, look, pair.
+        // g(3,4) and g(v0,v0): take, try, pair g, pair, look, pair, the binding of v0.
         (
             "P p 1; F g 2; N 3; N 4; A 1 0 1; A 0 2; C 3; V 0; A 1 4 4; A 0 5; Q 6",
-            "R no 6",
+            "R no 7",
         ),
         // v0 and g(1,g(2,3)) under every z eq(z,z): take, try, pair, look, pair, looks g, 1, g, 2, 3.
         (
             "P eq 2; V 0; A 0 0 0; U 0 1; C 2; F g 2; N 1; N 2; N 3; A 1 4 5; A 1 3 6; A 0 0 7; Q 8",
             "R proved 10; B 0 g(1,g(2,3)); D clause 1 g(1,g(2,3))",
         ),
-        // The occurs check passes a number: take, take, try, pair, look, pair, looks g, 5, and v0 as z.
+        // The occurs check passes a number: take, take, try, pair, look, pair, looks g, 5, the binding of v0, and z.
         (
             "P p 2; F g 2; V 0; A 0 0 0; U 0 1; C 2; N 5; A 1 3 0; A 0 0 4; E 0 5; Q 6",
-            "R no 9",
+            "R no 10",
         ),
         // In a supposition: take, take, take, try, pair, look.
         (

@@ -1,4 +1,4 @@
-//! Document 01, "Rehearsed sheets": every case, byte for byte.
+//! Document 01, "Rehearsed sheets": every case, byte for byte, with the count of W-206.
 
 mod common;
 
@@ -44,11 +44,12 @@ fn every_then_some() {
     );
 }
 
+/// W-206: "The occurs case of document 01 becomes 9 units; the other marked counts stay the same."
 #[test]
 fn occurs() {
     prints(
         "P p 2; F f 1; V 0; A 0 0 0; U 0 1; C 2; A 1 0; A 0 0 3; E 0 4; Q 5",
-        "R no 8",
+        "R no 9",
     );
 }
 

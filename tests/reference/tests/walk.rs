@@ -1,4 +1,4 @@
-//! Document 01, "The walk": units and texts of small sheets, counted by hand.
+//! Document 01, "The walk": units and texts of small sheets, counted by hand. W-206: each binding looked through is one.
 
 mod common;
 
@@ -45,10 +45,11 @@ fn an_alternative_is_not_taken_twice() {
         "P p 1; F a 0; F b 0; A 1; A 2; A 0 0; A 0 1; C 2; C 3; Q 3",
         "R proved 5; D clause 2",
     );
-    // p is taken up at its second member after q fails.
+    // p is taken up at its second member after q fails. take some, and; take p, try, pair, look; take q, three tries,
+    // pair, binding; then p again: try, pair, look; take q, three tries, pair, binding
     tells(
         "P p 1; P q 1; F a 0; F b 0; A 2; A 3; A 0 0; A 0 1; A 1 1; C 2; C 3; C 4; V 0; A 0 5; A 1 5; & 6 7; E 0 8; Q 9",
-        "R proved 19; D some b; D and; D clause 2; D clause 3",
+        "R proved 21; D some b; D and; D clause 2; D clause 3",
     );
 }
 
@@ -64,10 +65,10 @@ fn members_of_other_predicates_are_tried() {
 
 #[test]
 fn the_same_variable_twice() {
-    // take some, take p, try, pair and look, pair
+    // take some, take p, try, pair and look, pair and binding
     tells(
         "P p 2; V 0; A 0 0 0; U 0 1; C 2; E 0 1; Q 3",
-        "R proved 6; D some _0@0; D clause 1 _0@0",
+        "R proved 7; D some _0@0; D clause 1 _0@0",
     );
 }
 
@@ -117,10 +118,10 @@ fn assumptions() {
         "R proved 6; D some a; D assume; D clause 1",
     );
     // p(x) > (p(a) & p(b)): the assumed variable is shared, so b fails.
-    // take some, >, and; take p, try, pair, look; take p, try, pair
+    // take some, >, and; take p, try, pair, look; take p, try, pair, binding
     tells(
         "P p 1; F a 0; F b 0; V 0; A 0 0; A 1; A 0 2; A 2; A 0 4; & 3 5; > 1 6; E 0 7; Q 8",
-        "R no 10",
+        "R no 11",
     );
     // (every x p(x)) > (p(a) & p(b)): fresh at each try. take >, and; twice take, try, pair, look
     tells(

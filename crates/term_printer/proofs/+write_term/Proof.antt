@@ -44,7 +44,7 @@ use Rattle.machine_memory.proofs.words.name_of.Reads as name-of-reads
 use Rattle.machine_memory.proofs.words.node_of.Reads as node-of-reads
 use Rattle.machine_memory.proofs.words.tag_of.Reads as tag-of-reads
 use Rattle.machine_memory.proofs.words.word_of.Reads as word-of-reads
-use Rattle.machine_memory.proofs.words.deref.Reads as deref-reads
+use Rattle.term_printer.proofs.bindings.deref.Reads as deref-reads
 use Rattle.term_printer.proofs.cursor.write_constant_in.Reads as write-constant-in-reads
 use Rattle.term_printer.proofs.cursor.emit_in.Reads as emit-in-reads
 use Rattle.term_printer.proofs.cursor.write_functor_in.Reads as write-functor-in-reads

@@ -4,7 +4,8 @@ use native.Mathlib.Omega.{arith}
 use mathlib.Core.Path.{_≡_, _∙_, sym, ap, subst}
 use mathlib.Core.List.{List, [], _∷_}
 use lib.ListN.{getD}
-use Rattle.machine.specs.Words.{increment, deref}
+use Rattle.machine.specs.Words.{increment}
+use Rattle.printing.specs.Bindings.{deref}
 use Rattle.machine.proofs.Words.{increment-small}
 use Rattle.printing.specs.declared.Cursor.{Cursor}
 use Rattle.printing.specs.Numbering.{Printer, printer}

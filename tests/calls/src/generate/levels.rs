@@ -4,7 +4,7 @@ use super::builder::Builder;
 use crate::random::Random;
 
 /// A term over some variables, for equations.
-fn equation_term(
+pub(super) fn equation_term(
     builder: &mut Builder,
     random: &mut Random,
     symbols: [usize; 3],
@@ -28,7 +28,7 @@ fn equation_term(
 }
 
 /// Variables 0 to n under random quantifiers, around a goal.
-fn quantified(builder: &mut Builder, random: &mut Random, variables: usize, mut goal: usize) -> usize {
+pub(super) fn quantified(builder: &mut Builder, random: &mut Random, variables: usize, mut goal: usize) -> usize {
     for variable in (0..variables as u8).rev() {
         goal = if random.below(5) < 2 {
             builder.every(variable, goal)

@@ -1,6 +1,7 @@
 //! Seeded generators: sheets, each family aimed at a way in which a program can go wrong; answer texts; damaged bytes;
 //! and the calls of engine and checker that are tried with them.
 
+mod bindings;
 pub mod builder;
 mod calls;
 mod capitals;
@@ -48,6 +49,8 @@ pub enum Family {
     Restoring,
     /// Variables bound to variables.
     Chains,
+    /// Chains of bindings, looked through on either side and in range checks.
+    Bindings,
     /// Terms that unfold to a power of two.
     Unfolding,
     /// Deep and wide terms.
@@ -64,7 +67,7 @@ pub enum Family {
     Damaged,
 }
 
-pub const FAMILIES: [Family; 17] = [
+pub const FAMILIES: [Family; 18] = [
     Family::Formulas,
     Family::Shadowing,
     Family::Sharing,
@@ -75,6 +78,7 @@ pub const FAMILIES: [Family; 17] = [
     Family::Equations,
     Family::Restoring,
     Family::Chains,
+    Family::Bindings,
     Family::Unfolding,
     Family::Terms,
     Family::Recursion,
@@ -113,6 +117,7 @@ pub fn of_family(family: Family, random: &mut Random) -> Vec<u8> {
         Family::Equations => levels::equations(random),
         Family::Restoring => levels::restoring(random),
         Family::Chains => levels::chains(random),
+        Family::Bindings => bindings::bindings(random),
         Family::Unfolding => terms::unfolding(random),
         Family::Terms => terms::terms(random),
         Family::Recursion => terms::recursion(random),

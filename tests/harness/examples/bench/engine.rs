@@ -95,7 +95,7 @@ pub fn worst() {
     let lent = &mut Lent::new();
     for (name, sheet) in sheets::worst() {
         let [time] = in_turn(|_| _ = lent.run(&sheet, 50_000));
-        println!("  {name}, {} bytes: {:.2} s", sheet.len(), time);
+        println!("  {name}, {} bytes: {:.1} ms", sheet.len(), time * 1e3);
     }
 }
 

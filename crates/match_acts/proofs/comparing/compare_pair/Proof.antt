@@ -1,3 +1,4 @@
+use borrow.Author.Tests.{eq-eqb, ne-eqb}
 use borrow.Author.Needs.{needs}
 use Rattle.machine.specs.Matching.{comparePair}
 use Rattle.match_acts.proofs.comparing.compare_pair.Statement.{statement}
@@ -6,23 +7,45 @@ use Rattle.match_acts.proofs.comparing.compare_pair.Tie as tie
 returns : tie.Need-returns
 unfolding comparePair
 returns c =
-    let at-deref2 = c .before .before .before .before in
-    let at-argument-word2 = at-deref2 .before in
-    let at-deref = at-argument-word2 .before .before in
-    let at-argument-word = at-deref .before in
-    let at-pairs-from = at-argument-word .before .before in
+    simp (
+      comparePair,
+      ← c .with-left .ensures,
+      ne-eqb _ _ (c .before .if1 .taken),
+      ← c .before .before .binding-of .ensures,
+    )
+
+returns-2 : tie.Need-returns-2
+unfolding comparePair
+returns-2 c =
+    let at-if1 = c .before .before .before .before in
+    let at-binding-of = at-if1 .before in
+    simp (
+      comparePair,
+      ← c .with-right .ensures,
+      ne-eqb _ _ (c .before .if2 .taken),
+      ← c .before .before .binding-of2 .ensures,
+      eq-eqb _ _ (at-if1 .if1 .left),
+      ← at-binding-of .binding-of .ensures,
+    )
+
+returns-3 : tie.Need-returns-3
+unfolding comparePair
+returns-3 c =
+    let at-if2 = c .before .before .before .before in
+    let at-binding-of2 = at-if2 .before in
+    let at-if1 = at-binding-of2 .before .before in
+    let at-binding-of = at-if1 .before in
     simp (
       comparePair,
       ← c .before .before .compare-words .ensures,
-      ← at-deref2 .deref2 .ensures,
-      ← at-argument-word2 .argument-word2 .ensures,
-      ← at-deref .deref .ensures,
-      ← at-argument-word .argument-word .ensures,
-      ← at-pairs-from .pairs-from .ensures,
+      eq-eqb _ _ (at-if2 .if2 .left),
+      ← at-binding-of2 .binding-of2 .ensures,
+      eq-eqb _ _ (at-if1 .if1 .left),
+      ← at-binding-of .binding-of .ensures,
     )
 
 pub compare-pair-spec : {M : Type 1} → statement M
 compare-pair-spec =
     tie.close
-    (tie.spec (λ c. search needs) (λ c κs. search needs) (λ c κs. search needs) (λ c κs. search needs) (λ c κs. search needs)
-    (λ c κs. search needs) (λ c κs. search needs) (λ c. search needs) returns)
+    (tie.spec (λ c κs. search needs) (λ c κs. search needs) (λ c. search needs) returns (λ c κs. search needs) (λ c κs. search needs)
+    (λ c. search needs) returns-2 (λ c κs. search needs) (λ c. search needs) returns-3)
