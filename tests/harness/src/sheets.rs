@@ -10,8 +10,8 @@ pub fn searches() -> Vec<Named> {
     vec![
         ("list reversal, 24 elements", list_reversal(24)),
         ("Peano arithmetic, 10 times 10", multiplication(10)),
-        ("graph search, 8 layers, no path", graph_search(8)),
-        ("nested suppositions, 60 deep", nested_suppositions(60)),
+        ("graph search, 7 layers, no path", graph_search(7)),
+        ("nested suppositions, 58 deep", nested_suppositions(58)),
         ("a house of 60 rules, 12 cues", house()),
     ]
 }
