@@ -1,5 +1,5 @@
--- The writer follows the bindings of a word to their end: no unit is paid in the text (request W-206 counts "wherever it happens in the
--- walk").
+-- Writing a term follows the bindings of its word to their end. That takes no unit: request W-206 counts bindings that are looked
+-- through "in the walk".
 use Prim.Native.Nat.{ℕ, zero, suc}
 use mathlib.Core.Bool.{true, false}
 use mathlib.Core.List.{List}

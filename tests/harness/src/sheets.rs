@@ -39,6 +39,7 @@ pub fn worst() -> Vec<Named> {
         ),
         ("128 clauses of 950 quantifiers, one name", idle_quantifiers(1)),
         ("128 clauses of 950 quantifiers, eight names", idle_quantifiers(8)),
+        ("a text of terms at the ends of chains", linked_chain(11)),
     ]
 }
 
@@ -61,6 +62,26 @@ fn variable_chain(times: u32) -> Vec<u8> {
     let again = b.implies(atom, often[12]);
     let goal = b.and(first.expect("at least once"), again);
     let goal = b.some(0, goal);
+    b.goal(goal)
+}
+
+/// d0(w, w) for every term; d1(x, y) if d0(x, z) and d0(z, y); d2 by d1 likewise, and so on; the goal is the last. The variables
+/// become one chain of 2^levels, each bound to the next by an act that follows at most one binding; writing follows it from each of them.
+fn linked_chain(levels: usize) -> Vec<u8> {
+    let mut b = Builder::new(true);
+    let [x, y, z, w] = [0, 1, 2, 3].map(|variable| b.variable(variable));
+    let mut link = b.predicate("d0", 2);
+    let fact = b.apply(link, &[w, w]);
+    add_clause(&mut b, &[3], fact);
+    for level in 1..=levels {
+        let (first, second) = (b.apply(link, &[x, z]), b.apply(link, &[z, y]));
+        let both = b.and(first, second);
+        link = b.predicate(&format!("d{level}"), 2);
+        let head = b.apply(link, &[x, y]);
+        let rule = b.implies(both, head);
+        add_clause(&mut b, &[0, 1, 2], rule);
+    }
+    let goal = b.apply(link, &[x, y]);
     b.goal(goal)
 }
 
