@@ -30,7 +30,7 @@ pub fn try_member(t: &[u32], c: u32, w: &mut [u32], r: Registers, m: Found) -> R
     put_try(t, c, w, r, m, s);
     let p = increment(u);
     put_pairs(w, u, r.node, r.frame, head_of(t, m.leaf), p, 0);
-    due_pairs(t, w, tried(t, c, r, m, s), pairs_from(t, w, p, 0))
+    due_pairs(w, tried(t, c, r, m, s), pairs_from(t, w, p, 0))
 }
 
 // First the predicates are compared; if they differ the try fails, and the next member is due.

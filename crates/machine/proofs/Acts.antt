@@ -46,17 +46,9 @@ module _ (T : Table) where
       }
   configuration-counted n w r x (match (pairs s []) b) h = h
   configuration-counted n w r x (match (pairs s (p ∷ ps)) b) h =
-      record { mode = h .mode; goal = h .goal; clause = h .clause; pairs = h .pairs; branch = h .branch }
+      record { mode = h .mode; stood = h .stood; waits = h .waits; sides = h .sides; branch = h .branch }
   configuration-counted n w r x (match (check s y t z ns ps) b) h =
-      record {
-        mode = h .mode;
-        variable = h .variable;
-        value = h .value;
-        node = h .node;
-        nodes = h .nodes;
-        pairs = h .pairs;
-        branch = h .branch;
-      }
+      record { mode = h .mode; variable = h .variable; value = h .value; nodes = h .nodes; pairs = h .pairs; branch = h .branch }
   configuration-counted n w r x (match fail b) h = h
   configuration-counted n w r x (done s ls) h = h
 

@@ -1,10 +1,11 @@
 -- Going on after an act: with the next goal, with the next pair, or with the verdict.
-use Prim.Native.Nat.{ℕ, zero, suc, _+_, _-_, _≤_}
+use Prim.Native.Nat.{ℕ, zero, suc, _+_, _-_}
 use native.Mathlib.Omega.{arith}
 use mathlib.Core.Bool.{cond}
 use mathlib.Core.Path.{_≡_, refl}
 use mathlib.Core.List.{List, [], _∷_, _++_}
 use mathlib.Core.Option.{Option}
+use mathlib.Core.Logic.{inl}
 use lib.Dec.{eqb}
 use borrow.Author.Tests.{eq-eqb, ne-eqb}
 use Rattle.sequents.specs.Sequents.{Sequent}
@@ -13,14 +14,13 @@ use Rattle.unification.specs.Matching.{Pair, pairs, comparing}
 use Rattle.search.specs.Configurations.{Branch, Configuration}
 use Rattle.search.specs.Steps.{settle}
 use Rattle.search.specs.Steps as level1
-use Rattle.sheet_format.specs.Limits.{maxBudget}
 use Rattle.machine.specs.declared.Registers.{Registers}
 use Rattle.machine.specs.Records.{made, provedMode}
-use Rattle.machine.specs.RegisterUpdates.{withMode, withGoals, withGoal, withPair}
+use Rattle.machine.specs.RegisterUpdates.{withMode, withGoals, withGoal, withPairs}
 use Rattle.machine.specs.Goals.{dueGoal, proceed}
 use Rattle.machine.specs.Matching.{duePairs}
 use Rattle.machine.proofs.Tables.{Table}
-use Rattle.machine.proofs.WaitingArguments.{PairsAt, Pushed, first-pair}
+use Rattle.machine.proofs.WaitingArguments.{PairsAt, Pushed}
 use Rattle.machine.proofs.Branches.{GoalsAt, BranchAt}
 use Rattle.machine.proofs.Configurations.{storeOf, CompareAt, ConfigurationAt}
 use Rattle.machine.proofs.ChoicePoints.{SharedAt, ResultAt}
@@ -47,20 +47,19 @@ module _ (T : Table) where
 
   -- The next pair, or the next goal: level 1's `settle`.
   pub pairs-result : (n : ℕ) (w : List ℕ) (r : Registers) (s : Store) (b : Branch) (ds : List Configuration) (ps : List Pair) (a : ℕ)
-      → n ≤ maxBudget → PairsAt T n (s .next) ps w a
+      → PairsAt T n (s .next) ps w a
       → BranchAt T n (s .next) w (r .goals) (r .path) (r .line) b → SharedAt T n w (r .next) (r .trail) (r .choice) s ds
-      → ResultAt T n (made w (duePairs (T .numbers) w r a)) (settle (pairs s ps) b ++ ds)
-  unfolding duePairs withPair settle PairsAt ResultAt ConfigurationAt CompareAt storeOf
-  pairs-result n w r s b ds [] a small p h c = rw (eq-eqb a 0 p) (proceed-result n w r s b ds h c)
-  pairs-result n w r s b ds (q ∷ ps) a small p h c =
-      let f = first-pair T n (s .next) w a q ps small p in
+      → ResultAt T n (made w (duePairs w r a)) (settle (pairs s ps) b ++ ds)
+  unfolding duePairs withPairs settle PairsAt ResultAt ConfigurationAt CompareAt storeOf
+  pairs-result n w r s b ds [] a p h c = rw (eq-eqb a 0 p) (proceed-result n w r s b ds h c)
+  pairs-result n w r s b ds (q ∷ ps) a p h c =
       rw (ne-eqb a 0 (λ x. let e = p .2 in omega arith))
-      (record { front = record { mode = refl; goal = f .0; clause = f .1; pairs = f .2; branch = h }; shared = c })
+      (record { front = record { mode = refl; stood = q; waits = p; sides = inl (refl, refl); branch = h }; shared = c })
 
   -- After the arguments of two applications are pushed, their pairs are due.
   pub pushed-result : (n : ℕ) (w : List ℕ) (r : Registers) (s : Store) (b : Branch) (ds : List Configuration) (o : Option (List Pair))
-      (a : ℕ) → n ≤ maxBudget → Pushed T n (s .next) w o a
+      (a : ℕ) → Pushed T n (s .next) w o a
       → BranchAt T n (s .next) w (r .goals) (r .path) (r .line) b → SharedAt T n w (r .next) (r .trail) (r .choice) s ds
-      → ResultAt T n (made w (duePairs (T .numbers) w r a)) (settle (comparing s o) b ++ ds)
+      → ResultAt T n (made w (duePairs w r a)) (settle (comparing s o) b ++ ds)
   unfolding comparing
-  pushed-result n w r s b ds o a small p h c = rw (p .is) (pairs-result n w r s b ds (p .list) a small (p .there) h c)
+  pushed-result n w r s b ds o a p h c = rw (p .is) (pairs-result n w r s b ds (p .list) a (p .there) h c)

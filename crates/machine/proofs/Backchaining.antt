@@ -385,7 +385,7 @@ module _ (T : Table) (w : List ℕ) (r : Registers) (s : Store) (a : Atom) (k : 
       (putsIf (membersLeft (T .clauses) (withMember r h i j (suc (r .place)))) (saved (withMember r h i j (suc (r .place))))
       (puts (r .path ∷ r .line ∷ r .place ∷ m .count ∷ s .next ∷ []) w₂ (r .acts) 39) (r .acts) 43) (r .acts) 31) (r .acts) 57
       → ResultAt T (suc (r .acts))
-      (made w′ (duePairs (T .numbers) w′
+      (made w′ (duePairs w′
       (withGoals (withChoice (withNext (withPath r (suc (r .acts)) clauseLine) (s .next + m .count))
       (cond (membersLeft (T .clauses) (withMember r h i j (suc (r .place)))) (suc (r .acts)) (r .choice)))
       (cond (eqb (kindOf (T .numbers) (m .leaf)) impliesKind) (suc (r .acts)) (r .goals))) (pairsFrom (T .numbers) w′ (suc (r .acts)) 0)))
@@ -451,7 +451,7 @@ module _ (T : Table) (w : List ℕ) (r : Registers) (s : Store) (a : Atom) (k : 
       (cond d (suc u) (r .goals))) s₂
       (branch (bodySequent (bodyOf (T .numbers) (m .leaf)) env (a .program) (a .level) ++ b .goals)
       (Dclause k (freshVariables prefix x) ∷ b .path)) (level1.tryFrom s a others (suc k) b ++ ds) _
-      (pairsFrom t w′ (suc u) 0) (omega arith)
+      (pairsFrom t w′ (suc u) 0)
       (subst (λ (ts : Terms Leaf). Pushed T (suc u) (s₂ .next) w′ (pushPairs ts (substitutes (argumentsAt t hd) env) [])
       (pairsFrom t w′ (suc u) 0)) (atom .arguments) P)
       (record {
@@ -483,7 +483,7 @@ module _ (T : Table) (w : List ℕ) (r : Registers) (s : Store) (a : Atom) (k : 
       (childOf (T .numbers) (m .leaf) 0 ∷ v ∷ r .program ∷ r .level ∷ r .goals ∷ [])
       (putsIf (membersLeft (T .clauses) q′) (saved q′) (puts (r .path ∷ r .line ∷ r .place ∷ m .count ∷ x ∷ []) w₂ (r .acts) 39)
       (r .acts) 43) (r .acts) 31) (r .acts) 57 in
-      made w′ (duePairs (T .numbers) w′
+      made w′ (duePairs w′
       (withGoals (withChoice (withNext (withPath r v clauseLine) n) (cond (membersLeft (T .clauses) q′) v (r .choice)))
       (cond (eqb (kindOf (T .numbers) (m .leaf)) impliesKind) v (r .goals))) (pairsFrom (T .numbers) w′ v 0))
 

@@ -5,11 +5,12 @@ use mathlib.Core.Bool.{Bool, true, false, cond, false≢true}
 use mathlib.Core.Path.{_≡_, refl, sym, ap, ap₂, _∙_, subst}
 use mathlib.Core.List.{List, [], _∷_, _++_}
 use mathlib.Core.Option.{Option, none}
+use mathlib.Core.Logic.{inr}
 use lib.Dec.{eqb, leb}
 use lib.ListN.{length, getD}
 use borrow.Author.Tests.{eqb-true, eqb-false, eq-eqb, ne-eqb}
 use Rattle.terms.specs.Terms.{Term, substitutes, Leaves}
-use Rattle.unification.specs.Store.{binding, Leaf, Store, lower, bind}
+use Rattle.unification.specs.Store.{Leaf, Store, binding, lower, bind}
 use Rattle.unification.specs.Matching.{Pair, pairs, check, fail, pushTerms, afterNode, visit}
 use Rattle.unification.specs.Promises.{Below}
 use Rattle.search.specs.Configurations.{Branch, Configuration, match}
@@ -19,12 +20,12 @@ use Rattle.node_table.specs.Layout.{childCount}
 use Rattle.node_table.specs.Decoding.{argumentsAt}
 use Rattle.machine.specs.declared.Registers.{Registers}
 use Rattle.machine.specs.Fields as fields
-use Rattle.machine.specs.Records.{cellOf, levelOf, putCell, putLevel, putNodes, checkMode}
-use Rattle.machine.specs.RegisterUpdates.{withTrail, withNode}
-use Rattle.machine.specs.Words.{increment, nameOf, nodeOf, frameOf, environmentAt, closureTag, constantTag, variableTag}
+use Rattle.machine.specs.Records.{cellOf, levelOf, putCell, putLevel, made, putNodes, checkMode}
+use Rattle.machine.specs.RegisterUpdates.{withTrail, withNodes}
+use Rattle.machine.specs.Words.{increment, nameOf, environmentAt, closureTag, constantTag, variableTag}
 use Rattle.machine.specs.Trail.{lowerTo, bindTo, oldLevel, effect}
 use Rattle.machine.specs.ChoicePoints.{failed}
-use Rattle.machine.specs.Matching.{nodesFrom, bindValue, nextNode, passNode, visitVariable, visitConstant, visitClosure, visitWord}
+use Rattle.machine.specs.Matching.{nodesFrom, bindValue, passNode, visitVariable, visitConstant, visitClosure, visitWord}
 use Rattle.machine.proofs.Records.{There, there}
 use Rattle.machine.proofs.Words.{increment-small, name-is, tag-of, name-of, node-is, frame-is}
 use Rattle.machine.proofs.MemoryOrder.{Grow, extends-22, grow-refl, grow-puts}
@@ -35,7 +36,7 @@ use Rattle.machine.proofs.Terms.{FrameIn, framed-extends, framed-up, en
 use Rattle.machine.proofs.Terms.{word-closure, word-extends, word-up}
 use Rattle.machine.proofs.Stores.{CellAt, StoreAt, store-grow, store-up, store-lower, store-bind}
 use Rattle.machine.proofs.WaitingArguments.{PairsAt, NodesAt, pairs-extends, pairs-up, nodes-extends, nodes-up, nodes-before}
-use Rattle.machine.proofs.WaitingArguments.{push-nodes, first-node}
+use Rattle.machine.proofs.WaitingArguments.{push-nodes}
 use Rattle.machine.proofs.Branches.{BranchAt, branch-extends, branch-up}
 use Rattle.machine.proofs.Configurations.{storeOf, ConfigurationAt}
 use Rattle.machine.proofs.ChoicePoints.{bounded-next, alternatives-noted, SharedAt, shared-same, ResultAt}
@@ -129,7 +130,7 @@ module _ (T : Table) where
         (rw e₂ st)
 
     -- Once the variable is bound, the pairs that wait are due.
-    bind-result : ResultAt T (suc (r .acts)) (bindValue (T .numbers) w r z k) (settle (pairs (bind s₁ y t) ps) b ++ ds)
+    bind-result : ResultAt T (suc (r .acts)) (bindValue w r z k) (settle (pairs (bind s₁ y t) ps) b ++ ds)
     unfolding bindValue withTrail bind
     bind-result =
         let w′ = effect w u z k (r .left) (r .right) (r .trail) in
@@ -137,7 +138,7 @@ module _ (T : Table) where
         let m = shared .bounded .bindings in
         let lb : length (bind s₁ y t .bindings) ≤ suc u = rw bindings (omega arith) in
         rw (increment-small u (omega arith))
-        (pairs-result T (suc u) w′ (withTrail r (suc u)) (bind s₁ y t) b ds ps (r .pairs) (omega arith)
+        (pairs-result T (suc u) w′ (withTrail r (suc u)) (bind s₁ y t) b ds ps (r .pairs)
         (pairs-up T u (s₁ .next) (s₁ .next) ps w′ (r .pairs) (omega arith) (pairs-extends T u (s₁ .next) ps w w′ (r .pairs) h waiting))
         (branch-up T u (s₁ .next) w′ (r .goals) (r .path) (r .line) b
         (branch-extends T u (s₁ .next) w w′ (r .goals) (r .path) (r .line) b h branch))
@@ -152,22 +153,21 @@ module _ (T : Table) where
 
     -- If nodes are left, the next one is due.
     more-result : (n : Term Leaf) (ns : List (Term Leaf)) → NodesAt T (suc (r .acts)) (s₁ .next) (n ∷ ns) w e
-        → ResultAt T (suc (r .acts)) (nextNode (T .numbers) w r z k e) (match (check s₁ y t n ns ps) b ∷ ds)
-    unfolding nextNode withNode withTrail ResultAt ConfigurationAt storeOf
+        → ResultAt T (suc (r .acts)) (made (effect w (r .acts) z k 0 0 (r .trail)) (withNodes (withTrail r (increment (r .acts))) e))
+        (match (check s₁ y t n ns ps) b ∷ ds)
+    unfolding withNodes withTrail ResultAt ConfigurationAt storeOf
     more-result n ns h =
         let w′ = effect w u z k 0 0 (r .trail) in
         let h₀ = extends-effect-22 u w u z k 0 0 (r .trail) in
         let h₁ = extends-effect-22 (suc u) w u z k 0 0 (r .trail) in
         let m = shared .bounded .bindings in
         let lb : length (s₁ .bindings) ≤ suc u = rw bindings (omega arith) in
-        let f = first-node T (suc u) (s₁ .next) w′ e n ns (omega arith) (nodes-extends T (suc u) (s₁ .next) (n ∷ ns) w w′ e h₁ h) in
         rw (increment-small u (omega arith)) (record {
           front = record {
             mode = mode;
             variable = variable;
             value = word-up T u (s₁ .next) (s₁ .next) w′ (omega arith) (word-extends T u (s₁ .next) w w′ h₀ value);
-            node = f .0;
-            nodes = f .1;
+            nodes = inr (refl, nodes-extends T (suc u) (s₁ .next) (n ∷ ns) w w′ e h₁ h);
             pairs =
                 pairs-up T u (s₁ .next) (s₁ .next) ps w′ (r .pairs) (omega arith)
                 (pairs-extends T u (s₁ .next) ps w w′ (r .pairs) h₀ waiting);
@@ -180,23 +180,23 @@ module _ (T : Table) where
 
     -- After a node: level 1's `afterNode`.
     pub pass-result : NodesAt T (suc (r .acts)) (s₁ .next) ns w e
-        → ResultAt T (suc (r .acts)) (passNode (T .numbers) w r z k e) (settle (afterNode s₁ y t ns ps) b ++ ds)
+        → ResultAt T (suc (r .acts)) (passNode w r z k e) (settle (afterNode s₁ y t ns ps) b ++ ds)
     unfolding passNode afterNode settle NodesAt
     pass-result h = go ns h
       where
         go : (ns : List (Term Leaf)) → NodesAt T (suc (r .acts)) (s₁ .next) ns w e
-            → ResultAt T (suc (r .acts)) (passNode (T .numbers) w r z k e) (settle (afterNode s₁ y t ns ps) b ++ ds)
+            → ResultAt T (suc (r .acts)) (passNode w r z k e) (settle (afterNode s₁ y t ns ps) b ++ ds)
         go [] h = rw (eq-eqb e 0 h) bind-result
         go (n ∷ ns) h = rw (ne-eqb e 0 (λ x. let q = h .2 in omega arith)) (more-result n ns h)
 
-  -- The node that is due, looked through: its word is in hand, its term is p.
+  -- The node that is due, looked through: its word x and its term p.
   module _ (w : List ℕ) (r : Registers) (s : Store) (b : Branch) (ds : List Configuration)
       (room : numbersPerUnit * suc (r .acts) ≤ length w) (small : r .acts < maxBudget)
       (branch : BranchAt T (r .acts) (s .next) w (r .goals) (r .path) (r .line) b)
       (shared : SharedAt T (r .acts) w (r .next) (r .trail) (r .choice) s ds)
-      (mode : r .mode ≡ checkMode) (y : ℕ) (t : Term Leaf) (ns : List (Term Leaf)) (ps : List Pair) (variable : r .left ≡ 4 * y + 1)
+      (mode : r .mode ≡ checkMode) (y e : ℕ) (t : Term Leaf) (ns : List (Term Leaf)) (ps : List Pair) (variable : r .left ≡ 4 * y + 1)
       (value : WordAt T (r .acts) (s .next) w (r .right) t)
-      (waiting : PairsAt T (r .acts) (s .next) ps w (r .pairs)) (bound : y < s .next) (free : binding (s .bindings) y ≡ none) (left : NodesAt T (r .acts) (s .next) ns w (r .nodes)) where
+      (waiting : PairsAt T (r .acts) (s .next) ps w (r .pairs)) (bound : y < s .next) (free : binding (s .bindings) y ≡ none) where
     -- The variable that is to be bound has no word yet.
     unbound : cellOf w y ≡ 0
     unfolding CellAt
@@ -209,7 +209,7 @@ module _ (T : Table) where
     -- A node that lowers nothing is passed, in a memory w′ that may have a record of nodes.
     passes : (w′ : List ℕ) → Grow (r .acts) (s .next) w w′ → (ns′ : List (Term Leaf)) (e′ : ℕ)
         → NodesAt T (suc (r .acts)) (s .next) ns′ w′ e′
-        → ResultAt T (suc (r .acts)) (passNode (T .numbers) w′ r 0 0 e′) (settle (afterNode s y t ns′ ps) b ++ ds)
+        → ResultAt T (suc (r .acts)) (passNode w′ r 0 0 e′) (settle (afterNode s y t ns′ ps) b ++ ds)
     unfolding lowerTo
     passes w′ g ns′ e′ h =
         let u = r .acts in
@@ -222,75 +222,78 @@ module _ (T : Table) where
         ∙ unbound) (λ q. absurd (false≢true (sym q))) (sh .store) refl refl h
 
     -- At an application, its arguments wait.
-    closure : (m f : ℕ) → Applied T m → FrameIn (r .acts) (s .next) w f → (w′ : List ℕ) → w′ ≡ putNodes w (r .acts) m f (r .nodes)
-        → ResultAt T (suc (r .acts)) (passNode (T .numbers) w′ r 0 0 (nodesFrom (T .numbers) w′ (increment (r .acts)) 0))
+    closure : (m f : ℕ) → Applied T m → FrameIn (r .acts) (s .next) w f → NodesAt T (r .acts) (s .next) ns w e → (w′ : List ℕ)
+        → w′ ≡ putNodes w (r .acts) m f e
+        → ResultAt T (suc (r .acts)) (passNode w′ r 0 0 (nodesFrom (T .numbers) w′ (increment (r .acts)) 0))
         (settle (afterNode s y t (pushTerms (substitutes (argumentsAt (T .numbers) m) (environmentAt w f)) ns) ps) b ++ ds)
     unfolding argumentsAt
-    closure m f a hf w′ z =
+    closure m f a hf h w′ z =
         let u = r .acts in
         let g : Grow u (s .next) w w′ =
-        rw (z, nodes-are w u m f (r .nodes)) (grow-puts (m ∷ f ∷ r .nodes ∷ []) w u (s .next) u fields.waitingNode (omega arith) (omega arith)
+        rw (z, nodes-are w u m f e) (grow-puts (m ∷ f ∷ e ∷ []) w u (s .next) u fields.waitingNode (omega arith) (omega arith)
         (omega arith)) in
         let h₀ = extends-22 u w w′ (g .extends) in
-        let at : (i : ℕ) → i < 3 → field w′ u (fields.waitingNode + i) ≡ getD (m ∷ f ∷ r .nodes ∷ []) i 0 =
-        λ i k. rw (z, nodes-are w u m f (r .nodes)) (puts-at (m ∷ f ∷ r .nodes ∷ []) w u fields.waitingNode i (omega arith) (omega arith) k) in
+        let at : (i : ℕ) → i < 3 → field w′ u (fields.waitingNode + i) ≡ getD (m ∷ f ∷ e ∷ []) i 0 =
+        λ i k. rw (z, nodes-are w u m f e) (puts-at (m ∷ f ∷ e ∷ []) w u fields.waitingNode i (omega arith) (omega arith) k) in
         let e₀ : field w′ u fields.waitingNode ≡ m = at 0 (omega arith) in
         let e₁ : field w′ u fields.waitingFrame ≡ f = at 1 (omega arith) in
-        let e₂ : field w′ u fields.waitingAfter ≡ r .nodes = at 2 (omega arith) in
+        let e₂ : field w′ u fields.waitingAfter ≡ e = at 2 (omega arith) in
         rw (increment-small u (omega arith))
         (passes w′ g _ (nodesFrom (T .numbers) w′ (suc u) 0)
         (rw (← environment-extends u w w′ f h₀ (hf .frame), ← e₀, ← e₁)
         (push-nodes T (childCount (T .numbers) (field w′ u fields.waitingNode)) (suc u) (s .next) w′ ns u 0 (omega arith) (omega arith)
         (rw e₀ a) (rw e₁ (framed-up u (s .next) (s .next) w′ f (omega arith) (framed-extends u (s .next) w w′ f h₀ hf))) (omega arith)
-        (rw e₂ (nodes-up T u (s .next) (s .next) ns w′ (r .nodes) (omega arith) (nodes-extends T u (s .next) ns w w′ (r .nodes) h₀ left)))
-        (rw e₂ (nodes-before T u (s .next) ns w (r .nodes) left)))))
+        (rw e₂ (nodes-up T u (s .next) (s .next) ns w′ e (omega arith) (nodes-extends T u (s .next) ns w w′ e h₀ h)))
+        (rw e₂ (nodes-before T u (s .next) ns w e h)))))
 
     -- By the node's word: level 1's `visit`.
-    pub visit-result : (p : Term Leaf) → WordAt T (r .acts) (s .next) w (r .due) p → Leaves p (Below (s .next))
-        → ResultAt T (suc (r .acts)) (visitWord (T .numbers) w r) (settle (visit s y t p ns ps) b ++ ds)
+    pub visit-result : (x : ℕ) (p : Term Leaf) → WordAt T (r .acts) (s .next) w x p → Leaves p (Below (s .next))
+        → NodesAt T (r .acts) (s .next) ns w e
+        → ResultAt T (suc (r .acts)) (visitWord (T .numbers) w r e x) (settle (visit s y t p ns ps) b ++ ds)
     unfolding visitWord visitVariable visitConstant visitClosure visit settle Leaves Below lower
-    visit-result p (word-variable {y = z} ex) l = rw (tag-of (r .due) z variableTag (omega arith) ex) (go (eqb z y) refl)
+    visit-result x p (word-variable {y = z} ex) l h = rw (tag-of x z variableTag (omega arith) ex) (go (eqb z y) refl)
       where
         k : ℕ
         k = min (levelOf w z) (s .level y)
 
-        st : StoreAt T (r .acts) (lowerTo w (r .due) k) (lower s z (s .level y))
+        st : StoreAt T (r .acts) (lowerTo w x k) (lower s z (s .level y))
         st = rw (ex, lower-variable w z k) (store-lower T (r .acts) w s z (s .level y) (variable-there z l) l (shared .store))
 
-        lk : min (levelOf w (nameOf (r .due))) (levelOf w (nameOf (r .left))) ≡ k
+        lk : min (levelOf w (nameOf x)) (levelOf w (nameOf (r .left))) ≡ k
         lk =
-            ap₂ min (ap (levelOf w) (name-of (r .due) z 1 (omega arith) ex)) (ap (levelOf w) (name-of (r .left) y 1 (omega arith) variable)
+            ap₂ min (ap (levelOf w) (name-of x z 1 (omega arith) ex)) (ap (levelOf w) (name-of (r .left) y 1 (omega arith) variable)
             ∙ shared .store .levels y bound)
 
         go : (c : Bool) → eqb z y ≡ c
             → ResultAt T (suc (r .acts))
-            (cond (eqb (r .due) (r .left)) (failed w r) (passNode (T .numbers) w r (r .due) (min (levelOf w (nameOf (r .due))) (levelOf w (nameOf (r .left)))) (r .nodes)))
+            (cond (eqb x (r .left)) (failed w r) (passNode w r x (min (levelOf w (nameOf x)) (levelOf w (nameOf (r .left)))) e))
             (settle (cond c fail (afterNode (lower s z (s .level y)) y t ns ps)) b ++ ds)
-        go true q = rw (eq-eqb (r .due) (r .left) (let i = eqb-true z y q in omega arith)) (now-failed T w r s b ds room small branch shared)
+        go true q = rw (eq-eqb x (r .left) (let i = eqb-true z y q in omega arith)) (now-failed T w r s b ds room small branch shared)
         go false q =
-            rw (ne-eqb (r .due) (r .left) (λ i. eqb-false z y q (omega arith)), lk)
-            (pass-result w r s (lower s z (s .level y)) b ds room small branch shared mode (r .due) k y (r .nodes) t ns ps variable value waiting bound
+            rw (ne-eqb x (r .left) (λ i. eqb-false z y q (omega arith)), lk)
+            (pass-result w r s (lower s z (s .level y)) b ds room small branch shared mode x k y e t ns ps variable value waiting bound
             unbound
-            (λ i. rw (name-of (r .due) z 1 (omega arith) ex) (variable-there z l)) st refl refl
-            (nodes-up T (r .acts) (s .next) (s .next) ns w (r .nodes) (omega arith) left))
-    visit-result p (word-constant {c = c} {k = j} ex g v) l =
+            (λ i. rw (name-of x z 1 (omega arith) ex) (variable-there z l)) st refl refl
+            (nodes-up T (r .acts) (s .next) (s .next) ns w e (omega arith) h))
+    visit-result x p (word-constant {c = c} {k = j} ex g v) l h =
         rw (
-          tag-of (r .due) c constantTag (omega arith) ex,
-          name-of (r .due) c 2 (omega arith) ex,
+          tag-of x c constantTag (omega arith) ex,
+          name-of x c 2 (omega arith) ex,
           v,
           name-of (r .left) y 1 (omega arith) variable,
           shared .store .levels y bound,
         ) (go (leb j (s .level y)))
       where
-        go : (q : Bool) → ResultAt T (suc (r .acts)) (cond q (passNode (T .numbers) w r 0 0 (r .nodes)) (failed w r))
+        go : (q : Bool) → ResultAt T (suc (r .acts)) (cond q (passNode w r 0 0 e) (failed w r))
             (settle (cond q (afterNode s y t ns ps) fail) b ++ ds)
-        go true = passes w (grow-refl (r .acts) (s .next) w) ns (r .nodes) (nodes-up T (r .acts) (s .next) (s .next) ns w (r .nodes) (omega arith) left)
+        go true = passes w (grow-refl (r .acts) (s .next) w) ns e (nodes-up T (r .acts) (s .next) (s .next) ns w e (omega arith) h)
         go false = now-failed T w r s b ds room small branch shared
-    visit-result p (word-closure {g = k} {ts = ts} m f ex a v i j) l =
+    visit-result x p (word-closure {g = k} {ts = ts} m f ex a v i j) l h =
         rw (
-          tag-of (r .due) (maxNodes * f + m) closureTag (omega arith) ex,
-          ap nodeOf ex ∙ node-is m f (node-small T m (a .0)),
-          ap frameOf ex ∙ frame-is m f (node-small T m (a .0)),
+          tag-of x (maxNodes * f + m) closureTag (omega arith) ex,
+          ex,
+          node-is m f (node-small T m (a .0)),
+          frame-is m f (node-small T m (a .0)),
           ← j,
         )
-        (closure m f (applied T m a) v (putNodes w (r .acts) m f (r .nodes)) refl)
+        (closure m f (applied T m a) v h (putNodes w (r .acts) m f e) refl)

@@ -4,6 +4,7 @@ use native.Mathlib.Omega.{arith}
 use mathlib.Core.Bool.{Bool, true, false, _&&_, cond}
 use mathlib.Core.Path.{_≡_, refl, sym, ap, _∙_}
 use mathlib.Core.List.{List, [], _∷_, _++_}
+use mathlib.Core.Logic.{inl}
 use lib.Dec.{eqb}
 use lib.ListN.{length, getD}
 use borrow.Author.Tests.{eqb-true, eqb-false, eq-eqb, ne-eqb}
@@ -21,7 +22,7 @@ use Rattle.machine.specs.declared.Registers.{Registers}
 use Rattle.machine.specs.Fields as fields
 use Rattle.machine.specs.Records.{made, putPairs}
 use Rattle.machine.specs.RegisterUpdates.{withCheck}
-use Rattle.machine.specs.Words.{increment, nodeOf, frameOf, environmentAt, closureTag, constantTag, variableTag}
+use Rattle.machine.specs.Words.{increment, environmentAt, closureTag, constantTag, variableTag}
 use Rattle.machine.specs.ChoicePoints.{failed}
 use Rattle.machine.specs.Matching.{pairsFrom, duePairs, compareClosures, compareLeaves, compareWords}
 use Rattle.machine.proofs.Words.{increment-small, tag-of, node-is, frame-is}
@@ -29,7 +30,7 @@ use Rattle.machine.proofs.MemoryOrder.{Grow, extends-22, grow-refl, gro
 use Rattle.machine.proofs.Tables.{Table, Applied, applied, node-small, same-count}
 use Rattle.machine.proofs.Terms.{FrameIn, framed-extends, framed-up, environment-extends, WordAt, word-variable, word-constant}
 use Rattle.machine.proofs.Terms.{word-closure, word-up}
-use Rattle.machine.proofs.WaitingArguments.{PairsAt, NodesAt, pairs-extends, pairs-up, pairs-before, Pushed, push-pairs}
+use Rattle.machine.proofs.WaitingArguments.{PairsAt, pairs-extends, pairs-up, pairs-before, Pushed, push-pairs}
 use Rattle.machine.proofs.Branches.{BranchAt, branch-extends, branch-up}
 use Rattle.machine.proofs.Configurations.{storeOf, ConfigurationAt}
 use Rattle.machine.proofs.ChoicePoints.{alternatives-up, SharedAt, shared-grow, ResultAt, failed-result}
@@ -82,25 +83,24 @@ module _ (T : Table) (w : List ℕ) (r : Registers) (s : Store) (b : Branch) (ds
 
   -- The pairs that wait are due, or the next goal if none wait.
   pub now-pairs : (ps : List Pair) (e : ℕ) → PairsAt T (r .acts) (s .next) ps w e
-      → ResultAt T (suc (r .acts)) (made w (duePairs (T .numbers) w r e)) (settle (pairs s ps) b ++ ds)
+      → ResultAt T (suc (r .acts)) (made w (duePairs w r e)) (settle (pairs s ps) b ++ ds)
   now-pairs ps e p =
-      pairs-result T (suc u) w r s b ds ps e (omega arith) (pairs-up T u (s .next) (s .next) ps w e (omega arith) p)
+      pairs-result T (suc u) w r s b ds ps e (pairs-up T u (s .next) (s .next) ps w e (omega arith) p)
       (branch-up T u (s .next) w (r .goals) (r .path) (r .line) b branch)
       (shared-grow T u w w (r .next) (r .trail) (r .choice) s ds (grow-refl u (s .next) w) shared)
 
-  -- A range check of the variable and its value is due; its first node is the value.
-  now-check : (x a y : ℕ) (t : Term Leaf) (ps : List Pair) → x ≡ 4 * y + 1 → WordAt T (r .acts) (s .next) w a t
-      → PairsAt T (r .acts) (s .next) ps w (r .pairs)
-      → ResultAt T (suc (r .acts)) (made w (withCheck r x a)) (match (check s y t t [] ps) b ∷ ds)
-  unfolding withCheck ResultAt ConfigurationAt storeOf NodesAt
-  now-check x a y t ps q v p = record {
+  -- A range check of the variable and its value is due.
+  now-check : (x a e y : ℕ) (t : Term Leaf) (ps : List Pair) → x ≡ 4 * y + 1 → WordAt T (r .acts) (s .next) w a t
+      → PairsAt T (r .acts) (s .next) ps w e
+      → ResultAt T (suc (r .acts)) (made w (withCheck r e x a)) (match (check s y t t [] ps) b ∷ ds)
+  unfolding withCheck ResultAt ConfigurationAt storeOf
+  now-check x a e y t ps q v p = record {
     front = record {
       mode = refl;
       variable = q;
       value = word-up T u (s .next) (s .next) w (omega arith) v;
-      node = word-up T u (s .next) (s .next) w (omega arith) v;
-      nodes = refl;
-      pairs = pairs-up T u (s .next) (s .next) ps w (r .pairs) (omega arith) p;
+      nodes = inl (word-up T u (s .next) (s .next) w (omega arith) v, inl (refl, refl));
+      pairs = pairs-up T u (s .next) (s .next) ps w e (omega arith) p;
       branch = branch-up T u (s .next) w (r .goals) (r .path) (r .line) b branch;
     };
     shared = shared-grow T u w w (r .next) (r .trail) (r .choice) s ds (grow-refl u (s .next) w) shared;
@@ -110,7 +110,7 @@ module _ (T : Table) (w : List ℕ) (r : Registers) (s : Store) (b : Branch) (ds
   closures : (e m f n g : ℕ) (ps : List Pair) → Applied T m → Applied T n → FrameIn (r .acts) (s .next) w f
       → FrameIn (r .acts) (s .next) w g → labelOf (T .numbers) m ≡ labelOf (T .numbers) n → PairsAt T (r .acts) (s .next) ps w e
       → (w′ : List ℕ) → w′ ≡ putPairs w (r .acts) m f n g e
-      → ResultAt T (suc (r .acts)) (made w′ (duePairs (T .numbers) w′ r (pairsFrom (T .numbers) w′ (increment (r .acts)) 0)))
+      → ResultAt T (suc (r .acts)) (made w′ (duePairs w′ r (pairsFrom (T .numbers) w′ (increment (r .acts)) 0)))
       (settle (comparing s (pushPairs (substitutes (argumentsAt (T .numbers) m) (environmentAt w f))
       (substitutes (argumentsAt (T .numbers) n) (environmentAt w g)) ps)) b ++ ds)
   closures e m f n g ps am an hf hg lab p w′ z =
@@ -126,57 +126,59 @@ module _ (T : Table) (w : List ℕ) (r : Registers) (s : Store) (b : Branch) (ds
       (pairs-up T u (s .next) (s .next) ps w′ e (omega arith) (pairs-extends T u (s .next) ps w w′ e h p))
       (pairs-before T u (s .next) ps w e p) in
       rw (increment-small u (omega arith))
-      (pushed-result T (suc u) w′ r s b ds _ (pairsFrom (T .numbers) w′ (suc u) 0) (omega arith) P
+      (pushed-result T (suc u) w′ r s b ds _ (pairsFrom (T .numbers) w′ (suc u) 0) P
       (branch-up T u (s .next) w′ (r .goals) (r .path) (r .line) b
       (branch-extends T u (s .next) w w′ (r .goals) (r .path) (r .line) b h branch))
       (shared-grow T u w w′ (r .next) (r .trail) (r .choice) s ds gr shared))
 
   -- By the words of both sides: level 1's `compareTerms`.
-  pub compare-result : (p q : Term Leaf) (ps : List Pair) → WordAt T (r .acts) (s .next) w (r .left) p
-      → WordAt T (r .acts) (s .next) w (r .right) q → PairsAt T (r .acts) (s .next) ps w (r .pairs)
-      → ResultAt T (suc (r .acts)) (compareWords (T .numbers) w r) (settle (compareTerms s p q ps) b ++ ds)
+  pub compare-result : (e x y : ℕ) (p q : Term Leaf) (ps : List Pair) → WordAt T (r .acts) (s .next) w x p
+      → WordAt T (r .acts) (s .next) w y q → PairsAt T (r .acts) (s .next) ps w e
+      → ResultAt T (suc (r .acts)) (compareWords (T .numbers) w r e x y) (settle (compareTerms s p q ps) b ++ ds)
   unfolding compareWords compareLeaves compareClosures compareTerms settle
-  compare-result p q ps (word-variable {y = i} ex) (word-variable {y = j} ey) h =
-      rw (tag-of (r .left) i variableTag (omega arith) ex) (go (eqb i j) refl)
+  compare-result e x y p q ps (word-variable {y = i} ex) (word-variable {y = j} ey) h =
+      rw (tag-of x i variableTag (omega arith) ex) (go (eqb i j) refl)
     where
-      go : (c : Bool) → eqb i j ≡ c → ResultAt T (suc (r .acts)) (cond (eqb (r .left) (r .right)) (made w (duePairs (T .numbers) w r (r .pairs))) (made w (withCheck r (r .left) (r .right))))
+      go : (c : Bool) → eqb i j ≡ c → ResultAt T (suc (r .acts)) (cond (eqb x y) (made w (duePairs w r e)) (made w (withCheck r e x y)))
           (settle (cond c (pairs s ps) (check s i (leaf (var j)) (leaf (var j)) [] ps)) b ++ ds)
-      go true z = rw (eq-eqb (r .left) (r .right) (let k = eqb-true i j z in omega arith)) (now-pairs ps (r .pairs) h)
-      go false z = rw (ne-eqb (r .left) (r .right) (λ k. eqb-false i j z (omega arith))) (now-check (r .left) (r .right) i (leaf (var j)) ps ex (word-variable ey) h)
-  compare-result p q ps (word-variable {y = i} ex) (word-constant {c = d} {k = l} ey g v) h =
-      rw (tag-of (r .left) i variableTag (omega arith) ex, ne-eqb (r .left) (r .right) (λ z. omega arith))
-      (now-check (r .left) (r .right) i (leaf (con d l)) ps ex (word-constant ey g v) h)
-  compare-result p q ps (word-variable {y = i} ex) (word-closure {g = k} {ts = ts} m f ey a v l z) h =
-      rw (tag-of (r .left) i variableTag (omega arith) ex, ne-eqb (r .left) (r .right) (λ z. omega arith))
-      (now-check (r .left) (r .right) i (app k ts) ps ex (word-closure m f ey a v l z) h)
-  compare-result p q ps (word-constant {c = c} {k = k} ex g v) (word-variable {y = j} ey) h =
-      rw (tag-of (r .left) c constantTag (omega arith) ex, tag-of (r .right) j variableTag (omega arith) ey)
-      (now-check (r .right) (r .left) j (leaf (con c k)) ps ey (word-constant ex g v) h)
-  compare-result p q ps (word-constant {c = c} {k = k} ex g v) (word-constant {c = d} {k = l} ey g′ v′) h =
-      rw (tag-of (r .left) c constantTag (omega arith) ex, tag-of (r .right) d constantTag (omega arith) ey) (go (eqb c d) refl)
+      go true z = rw (eq-eqb x y (let k = eqb-true i j z in omega arith)) (now-pairs ps e h)
+      go false z = rw (ne-eqb x y (λ k. eqb-false i j z (omega arith))) (now-check x y e i (leaf (var j)) ps ex (word-variable ey) h)
+  compare-result e x y p q ps (word-variable {y = i} ex) (word-constant {c = d} {k = l} ey g v) h =
+      rw (tag-of x i variableTag (omega arith) ex, ne-eqb x y (λ z. omega arith))
+      (now-check x y e i (leaf (con d l)) ps ex (word-constant ey g v) h)
+  compare-result e x y p q ps (word-variable {y = i} ex) (word-closure {g = k} {ts = ts} m f ey a v l z) h =
+      rw (tag-of x i variableTag (omega arith) ex, ne-eqb x y (λ z. omega arith))
+      (now-check x y e i (app k ts) ps ex (word-closure m f ey a v l z) h)
+  compare-result e x y p q ps (word-constant {c = c} {k = k} ex g v) (word-variable {y = j} ey) h =
+      rw (tag-of x c constantTag (omega arith) ex, tag-of y j variableTag (omega arith) ey)
+      (now-check y x e j (leaf (con c k)) ps ey (word-constant ex g v) h)
+  compare-result e x y p q ps (word-constant {c = c} {k = k} ex g v) (word-constant {c = d} {k = l} ey g′ v′) h =
+      rw (tag-of x c constantTag (omega arith) ex, tag-of y d constantTag (omega arith) ey) (go (eqb c d) refl)
     where
-      go : (z : Bool) → eqb c d ≡ z → ResultAt T (suc (r .acts)) (cond (eqb (r .left) (r .right)) (made w (duePairs (T .numbers) w r (r .pairs))) (failed w r))
+      go : (z : Bool) → eqb c d ≡ z → ResultAt T (suc (r .acts)) (cond (eqb x y) (made w (duePairs w r e)) (failed w r))
           (settle (cond (z && eqb k l) (pairs s ps) fail) b ++ ds)
       go true z =
           let i = eqb-true c d z in
-          rw (eq-eqb (r .left) (r .right) (omega arith), eq-eqb k l (sym v ∙ ap (λ (j : ℕ). field w j fields.constantLevel) i ∙ v′)) (now-pairs ps (r .pairs) h)
-      go false z = rw (ne-eqb (r .left) (r .right) (λ i. eqb-false c d z (omega arith))) now-failed
-  compare-result p q ps (word-constant {c = c} {k = k} ex g v) (word-closure m f ey a v′ l z) h =
-      rw (tag-of (r .left) c constantTag (omega arith) ex, tag-of (r .right) (maxNodes * f + m) closureTag (omega arith) ey, ne-eqb (r .left) (r .right) (λ i. omega arith))
+          rw (eq-eqb x y (omega arith), eq-eqb k l (sym v ∙ ap (λ (j : ℕ). field w j fields.constantLevel) i ∙ v′)) (now-pairs ps e h)
+      go false z = rw (ne-eqb x y (λ i. eqb-false c d z (omega arith))) now-failed
+  compare-result e x y p q ps (word-constant {c = c} {k = k} ex g v) (word-closure m f ey a v′ l z) h =
+      rw (tag-of x c constantTag (omega arith) ex, tag-of y (maxNodes * f + m) closureTag (omega arith) ey, ne-eqb x y (λ i. omega arith))
       now-failed
-  compare-result p q ps (word-closure {g = k} {ts = ts} m f ex a v l z) (word-variable {y = j} ey) h =
-      rw (tag-of (r .left) (maxNodes * f + m) closureTag (omega arith) ex, tag-of (r .right) j variableTag (omega arith) ey)
-      (now-check (r .right) (r .left) j (app k ts) ps ey (word-closure m f ex a v l z) h)
-  compare-result p q ps (word-closure m f ex a v l z) (word-constant {c = d} ey g v′) h =
-      rw (tag-of (r .left) (maxNodes * f + m) closureTag (omega arith) ex, tag-of (r .right) d constantTag (omega arith) ey) now-failed
-  compare-result p q ps (word-closure {g = k} {ts = ts} m f ex a v l z) (word-closure {g = k′} {ts = us} n g ey a′ v′ l′ z′) h =
+  compare-result e x y p q ps (word-closure {g = k} {ts = ts} m f ex a v l z) (word-variable {y = j} ey) h =
+      rw (tag-of x (maxNodes * f + m) closureTag (omega arith) ex, tag-of y j variableTag (omega arith) ey)
+      (now-check y x e j (app k ts) ps ey (word-closure m f ex a v l z) h)
+  compare-result e x y p q ps (word-closure m f ex a v l z) (word-constant {c = d} ey g v′) h =
+      rw (tag-of x (maxNodes * f + m) closureTag (omega arith) ex, tag-of y d constantTag (omega arith) ey) now-failed
+  compare-result e x y p q ps (word-closure {g = k} {ts = ts} m f ex a v l z) (word-closure {g = k′} {ts = us} n g ey a′ v′ l′ z′) h =
       rw (
-        tag-of (r .left) (maxNodes * f + m) closureTag (omega arith) ex,
-        tag-of (r .right) (maxNodes * g + n) closureTag (omega arith) ey,
-        ap nodeOf ex ∙ node-is m f (node-small T m (a .0)),
-        ap frameOf ex ∙ frame-is m f (node-small T m (a .0)),
-        ap nodeOf ey ∙ node-is n g (node-small T n (a′ .0)),
-        ap frameOf ey ∙ frame-is n g (node-small T n (a′ .0)),
+        tag-of x (maxNodes * f + m) closureTag (omega arith) ex,
+        tag-of y (maxNodes * g + n) closureTag (omega arith) ey,
+        ex,
+        ey,
+        node-is m f (node-small T m (a .0)),
+        frame-is m f (node-small T m (a .0)),
+        node-is n g (node-small T n (a′ .0)),
+        frame-is n g (node-small T n (a′ .0)),
         ← l,
         ← l′,
         ← z,
@@ -189,12 +191,12 @@ module _ (T : Table) (w : List ℕ) (r : Registers) (s : Store) (b : Branch) (ds
       t = T .numbers
 
       w′ : List ℕ
-      w′ = putPairs w (r .acts) m f n g (r .pairs)
+      w′ = putPairs w (r .acts) m f n g e
 
       go : (c : Bool) → eqb (labelOf t m) (labelOf t n) ≡ c
-          → ResultAt T (suc (r .acts)) (cond c (made w′ (duePairs t w′ r (pairsFrom t w′ (increment (r .acts)) 0))) (failed w r))
+          → ResultAt T (suc (r .acts)) (cond c (made w′ (duePairs w′ r (pairsFrom t w′ (increment (r .acts)) 0))) (failed w r))
           (settle (cond c
           (comparing s (pushPairs (substitutes (argumentsAt t m) (environmentAt w f))
           (substitutes (argumentsAt t n) (environmentAt w g)) ps)) fail) b ++ ds)
-      go true i = closures (r .pairs) m f n g ps (applied T m a) (applied T n a′) v v′ (eqb-true (labelOf t m) (labelOf t n) i) h w′ refl
+      go true i = closures e m f n g ps (applied T m a) (applied T n a′) v v′ (eqb-true (labelOf t m) (labelOf t n) i) h w′ refl
       go false i = now-failed

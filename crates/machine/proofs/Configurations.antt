@@ -4,6 +4,7 @@ use native.Mathlib.Omega.{arith}
 use mathlib.Core.Bool.{cond}
 use mathlib.Core.Path.{_≡_, refl, sym, ap, _∙_, subst}
 use mathlib.Core.List.{List, [], _∷_, _++_, map}
+use mathlib.Core.Logic.{_⊎_, inl, inr}
 use lib.Dec.{eqb}
 use lib.ListN.{length, drop}
 use borrow.Author.Tests.{ne-eqb}
@@ -75,23 +76,31 @@ module _ (T : Table) where
     pub low : k ≤ n
     pub branch : BranchAt T n x w (r .goals) (r .path) (r .line) b
 
-  -- A range check: the variable to be bound, its value, and the node that is due are in hand.
+  -- The node that is due in a range check and the nodes left: its word d is in hand, or it stands at the position a as it waited.
+  abbrev pub DueAt : ℕ → ℕ → List ℕ → ℕ → ℕ → Term Leaf → List (Term Leaf) → Type 0
+  DueAt n v w d a x ns =
+      (WordAt T n v w d x × (((a ≡ 0) × (ns ≡ [])) ⊎ ((y : Term Leaf) × NodesAt T n v (y ∷ ns) w a)))
+      ⊎ ((d ≡ 0) × NodesAt T n v (x ∷ ns) w a)
+
   pub record CheckAt (n v : ℕ) (w : List ℕ) (r : Registers) (y : ℕ) (t x : Term Leaf) (ns : List (Term Leaf)) (ps : List Pair)
       (b : Branch) : Type 0 where
     pub mode : r .mode ≡ checkMode
     pub variable : r .left ≡ 4 * y + 1
     pub value : WordAt T n v w (r .right) t
-    pub node : WordAt T n v w (r .due) x
-    pub nodes : NodesAt T n v ns w (r .nodes)
+    pub nodes : DueAt n v w (r .node) (r .nodes) x ns
     pub pairs : PairsAt T n v ps w (r .pairs)
     pub branch : BranchAt T n v w (r .goals) (r .path) (r .line) b
 
-  -- A comparison: both sides of the pair that is due are in hand.
+  -- The sides of the pair p that is due: their words are in hand, or they are those of the pair q as it waited.
+  abbrev pub SidesAt : ℕ → ℕ → List ℕ → Registers → Pair → Pair → Type 0
+  SidesAt n x w r q p = ((r .left ≡ 0) × (q ≡ p)) ⊎ (WordAt T n x w (r .left) (p .goal) × WordAt T n x w (r .right) (p .clause))
+
+  -- A comparison of the pair p, which stood there as it waited.
   pub record PairAt (n x : ℕ) (w : List ℕ) (r : Registers) (p : Pair) (ps : List Pair) (b : Branch) : Type 0 where
     pub mode : r .mode ≡ compareMode
-    pub goal : WordAt T n x w (r .left) (p .goal)
-    pub clause : WordAt T n x w (r .right) (p .clause)
-    pub pairs : PairsAt T n x ps w (r .pairs)
+    pub stood : Pair
+    pub waits : PairsAt T n x (stood ∷ ps) w (r .pairs)
+    pub sides : SidesAt n x w r stood p
     pub branch : BranchAt T n x w (r .goals) (r .path) (r .line) b
 
   -- Pairs left to compare: one at least.
@@ -214,6 +223,32 @@ module _ (T : Table) where
     are = rw (e₀, e₁, e₂) (c .are);
   }
 
+  -- The nodes of a range check stay in an extended memory.
+  due-extends : (n v : ℕ) (w w′ : List ℕ) (d a : ℕ) (x : Term Leaf) (ns : List (Term Leaf)) → Extends fields.constantLevel n w w′
+      → DueAt n v w d a x ns → DueAt n v w′ d a x ns
+  due-extends n v w w′ d a x ns e (inl (c, inl k)) = inl (word-extends T n v w w′ e c, inl k)
+  due-extends n v w w′ d a x ns e (inl (c, inr k)) =
+      inl (word-extends T n v w w′ e c, inr (k .0, nodes-extends T n v (k .0 ∷ ns) w w′ a e (k .1)))
+  due-extends n v w w′ d a x ns e (inr c) = inr (c .0, nodes-extends T n v (x ∷ ns) w w′ a e (c .1))
+
+  -- The nodes of a range check stay one act later.
+  due-up : (n v : ℕ) (w : List ℕ) (d a : ℕ) (x : Term Leaf) (ns : List (Term Leaf)) → DueAt n v w d a x ns → DueAt (suc n) v w d a x ns
+  due-up n v w d a x ns (inl (c, inl k)) = inl (word-up T n v v w (omega arith) c, inl k)
+  due-up n v w d a x ns (inl (c, inr k)) =
+      inl (word-up T n v v w (omega arith) c, inr (k .0, nodes-up T n v v (k .0 ∷ ns) w a (omega arith) (k .1)))
+  due-up n v w d a x ns (inr c) = inr (c .0, nodes-up T n v v (x ∷ ns) w a (omega arith) (c .1))
+
+  -- The sides of a pair stay in an extended memory.
+  sides-extends : (n x : ℕ) (w w′ : List ℕ) (r : Registers) (q p : Pair) → Extends fields.constantLevel n w w′ → SidesAt n x w r q p
+      → SidesAt n x w′ r q p
+  sides-extends n x w w′ r q p e (inl c) = inl c
+  sides-extends n x w w′ r q p e (inr c) = inr (word-extends T n x w w′ e (c .0), word-extends T n x w w′ e (c .1))
+
+  -- The sides of a pair stay one act later.
+  pub sides-up : (n x : ℕ) (w : List ℕ) (r : Registers) (q p : Pair) → SidesAt n x w r q p → SidesAt (suc n) x w r q p
+  sides-up n x w r q p (inl c) = inl c
+  sides-up n x w r q p (inr c) = inr (word-up T n x x w (omega arith) (c .0), word-up T n x x w (omega arith) (c .1))
+
   -- The whole configuration stays in an extended memory.
   pub configuration-extends : (n : ℕ) (w w′ : List ℕ) (r : Registers) (c : Configuration) → Extends fields.constantLevel n w w′
       → ConfigurationAt n w r c → ConfigurationAt n w′ r c
@@ -235,17 +270,16 @@ module _ (T : Table) where
   configuration-extends n w w′ r (match (pairs s []) b) e h = h
   configuration-extends n w w′ r (match (pairs s (p ∷ ps)) b) e h = record {
     mode = h .mode;
-    goal = word-extends T n (s .next) w w′ e (h .goal);
-    clause = word-extends T n (s .next) w w′ e (h .clause);
-    pairs = pairs-extends T n (s .next) ps w w′ (r .pairs) e (h .pairs);
+    stood = h .stood;
+    waits = pairs-extends T n (s .next) (h .stood ∷ ps) w w′ (r .pairs) e (h .waits);
+    sides = sides-extends n (s .next) w w′ r (h .stood) p e (h .sides);
     branch = branch-extends T n (s .next) w w′ (r .goals) (r .path) (r .line) b e (h .branch);
   }
   configuration-extends n w w′ r (match (check s y t x ns ps) b) e h = record {
     mode = h .mode;
     variable = h .variable;
     value = word-extends T n (s .next) w w′ e (h .value);
-    node = word-extends T n (s .next) w w′ e (h .node);
-    nodes = nodes-extends T n (s .next) ns w w′ (r .nodes) e (h .nodes);
+    nodes = due-extends n (s .next) w w′ (r .node) (r .nodes) x ns e (h .nodes);
     pairs = pairs-extends T n (s .next) ps w w′ (r .pairs) e (h .pairs);
     branch = branch-extends T n (s .next) w w′ (r .goals) (r .path) (r .line) b e (h .branch);
   }
@@ -272,17 +306,16 @@ module _ (T : Table) where
   configuration-up n w r (match (pairs s []) b) h = h
   configuration-up n w r (match (pairs s (p ∷ ps)) b) h = record {
     mode = h .mode;
-    goal = word-up T n (s .next) (s .next) w (omega arith) (h .goal);
-    clause = word-up T n (s .next) (s .next) w (omega arith) (h .clause);
-    pairs = pairs-up T n (s .next) (s .next) ps w (r .pairs) (omega arith) (h .pairs);
+    stood = h .stood;
+    waits = pairs-up T n (s .next) (s .next) (h .stood ∷ ps) w (r .pairs) (omega arith) (h .waits);
+    sides = sides-up n (s .next) w r (h .stood) p (h .sides);
     branch = branch-up T n (s .next) w (r .goals) (r .path) (r .line) b (h .branch);
   }
   configuration-up n w r (match (check s y t x ns ps) b) h = record {
     mode = h .mode;
     variable = h .variable;
     value = word-up T n (s .next) (s .next) w (omega arith) (h .value);
-    node = word-up T n (s .next) (s .next) w (omega arith) (h .node);
-    nodes = nodes-up T n (s .next) (s .next) ns w (r .nodes) (omega arith) (h .nodes);
+    nodes = due-up n (s .next) w (r .node) (r .nodes) x ns (h .nodes);
     pairs = pairs-up T n (s .next) (s .next) ps w (r .pairs) (omega arith) (h .pairs);
     branch = branch-up T n (s .next) w (r .goals) (r .path) (r .line) b (h .branch);
   }

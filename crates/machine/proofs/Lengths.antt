@@ -18,8 +18,8 @@ use Rattle.machine.specs.Frames.{copyFrame, putVariable, putFresh, putVa
 use Rattle.machine.specs.ChoicePoints.{saveChoice, backtrack, failed}
 use Rattle.machine.specs.Goals.{membersLeft, tryFrom, takeAtom, takeTrue, takeAnd, takeOr, takeImplies, takeExists, putConstant}
 use Rattle.machine.specs.Goals.{takeForall, takeGoal}
-use Rattle.machine.specs.Matching.{compareClosures, compareLeaves, compareWords, comparePair, bindValue, nextNode, passNode}
-use Rattle.machine.specs.Matching.{visitVariable, visitConstant, visitClosure, visitWord, checkNode}
+use Rattle.machine.specs.Matching.{compareClosures, compareLeaves, compareWords, comparePair, bindValue, passNode, visitVariable}
+use Rattle.machine.specs.Matching.{visitConstant, visitClosure, visitWord, checkNode, compareSides, pairsAfter, nodesAfter, checkWord}
 use Rattle.machine.specs.Backchaining.{nextMember, putPrefix, saveAlternative, putBody, putTry, tryMember, tryFound, tryNext}
 use Rattle.machine.specs.Machine.{dueAct, act, runActs}
 use Rattle.machine.specs.Simulation.{KeepsLength}
@@ -200,58 +200,47 @@ length-take t c w r =
     y = putField (putField copy u fields.constantLevel (increment (r .level))) u (fields.frame + labelOf t (r .node)) (constantWord u)
 
 -- Comparing a pair keeps the length.
-length-compareWords : (t w : List ℕ) (r : Registers) → length (compareWords t w r .memory) ≡ length w
+length-compareWords : (t w : List ℕ) (r : Registers) (e x y : ℕ) → length (compareWords t w r e x y .memory) ≡ length w
 unfolding compareWords compareLeaves compareClosures
-length-compareWords t w r =
+length-compareWords t w r e x y =
     made-either (eqb (tagOf x) variableTag) _ _ w (made-either (eqb x y) _ _ w refl refl)
     (made-either (eqb (tagOf y) variableTag) _ _ w refl
     (made-either (eqb (tagOf x) constantTag) _ _ w (made-either (eqb x y) _ (failed w r) w refl (length-failed w r))
     (made-either (eqb (tagOf y) constantTag) (failed w r) _ w (length-failed w r)
     (made-either (eqb (labelOf t (nodeOf x)) (labelOf t (nodeOf y))) _ (failed w r) w
-    (length-pairs w (r .acts) (nodeOf x) (frameOf x) (nodeOf y) (frameOf y) (r .pairs)) (length-failed w r)))))
-  where
-    x : ℕ
-    x = r .left
-
-    y : ℕ
-    y = r .right
-
--- So does the whole act, which follows a binding or compares.
-length-comparePair : (t w : List ℕ) (r : Registers) → length (comparePair t w r .memory) ≡ length w
-unfolding comparePair
-length-comparePair t w r =
-    made-either (eqb (bindingOf w (r .left)) 0) _ _ w
-    (made-either (eqb (bindingOf w (r .right)) 0) (compareWords t w r) _ w (length-compareWords t w r) refl) refl
+    (length-pairs w (r .acts) (nodeOf x) (frameOf x) (nodeOf y) (frameOf y) e) (length-failed w r)))))
 
 -- Going on after a node keeps the length.
-length-passNode : (t w : List ℕ) (r : Registers) (z k e : ℕ) → length (passNode t w r z k e .memory) ≡ length w
-unfolding passNode bindValue nextNode
-length-passNode t w r z k e =
-    made-either (eqb e 0) (bindValue t w r z k) (nextNode t w r z k e) w (length-effect w (r .acts) z k (r .left) (r .right) (r .trail))
+length-passNode : (w : List ℕ) (r : Registers) (z k e : ℕ) → length (passNode w r z k e .memory) ≡ length w
+unfolding passNode bindValue
+length-passNode w r z k e =
+    made-either (eqb e 0) (bindValue w r z k) _ w (length-effect w (r .acts) z k (r .left) (r .right) (r .trail))
     (length-effect w (r .acts) z k 0 0 (r .trail))
 
 -- Looking at a node keeps the length.
-length-visitWord : (t w : List ℕ) (r : Registers) → length (visitWord t w r .memory) ≡ length w
+length-visitWord : (t w : List ℕ) (r : Registers) (e x : ℕ) → length (visitWord t w r e x .memory) ≡ length w
 unfolding visitWord visitVariable visitConstant visitClosure
-length-visitWord t w r =
-    made-either (eqb (tagOf x) variableTag) (visitVariable t w r) _ w
+length-visitWord t w r e x =
+    made-either (eqb (tagOf x) variableTag) (visitVariable w r e x) _ w
     (made-either (eqb x (r .left)) (failed w r) _ w (length-failed w r)
-    (length-passNode t w r x (min (levelOf w (nameOf x)) (levelOf w (nameOf (r .left)))) e))
-    (made-either (eqb (tagOf x) constantTag) (visitConstant t w r) (visitClosure t w r) w
+    (length-passNode w r x (min (levelOf w (nameOf x)) (levelOf w (nameOf (r .left)))) e))
+    (made-either (eqb (tagOf x) constantTag) (visitConstant w r e x) (visitClosure t w r e x) w
     (made-either (leb (field w (nameOf x) fields.constantLevel) (levelOf w (nameOf (r .left)))) _ (failed w r) w
-    (length-passNode t w r 0 0 e) (length-failed w r))
-    (length-passNode t (putNodes w (r .acts) (nodeOf x) (frameOf x) e) r 0 0 _ ∙ length-nodes w (r .acts) (nodeOf x) (frameOf x) e))
-  where
-    x : ℕ
-    x = r .due
+    (length-passNode w r 0 0 e) (length-failed w r))
+    (length-passNode (putNodes w (r .acts) (nodeOf x) (frameOf x) e) r 0 0 _ ∙ length-nodes w (r .acts) (nodeOf x) (frameOf x) e))
 
-    e : ℕ
-    e = r .nodes
+-- One act on a pair keeps the length, whether it follows a binding or compares; and one act on a node.
+length-compareSides : (t w : List ℕ) (r : Registers) (x y : ℕ) → length (compareSides t w r x y .memory) ≡ length w
+unfolding compareSides
+length-compareSides t w r x y =
+    made-either (eqb (bindingOf w x) 0) _ _ w
+    (made-either (eqb (bindingOf w y) 0) (compareWords t w r (pairsAfter t w (r .pairs)) x y) _ w (length-compareWords t w r _ x y)
+    refl) refl
 
--- So does the whole act, which follows a binding or looks at the node.
-length-checkNode : (t w : List ℕ) (r : Registers) → length (checkNode t w r .memory) ≡ length w
-unfolding checkNode
-length-checkNode t w r = made-either (eqb (bindingOf w (r .due)) 0) (visitWord t w r) _ w (length-visitWord t w r) refl
+length-checkWord : (t w : List ℕ) (r : Registers) (x : ℕ) → length (checkWord t w r x .memory) ≡ length w
+unfolding checkWord
+length-checkWord t w r x =
+    made-either (eqb (bindingOf w x) 0) (visitWord t w r (nodesAfter t w (r .nodes)) x) _ w (length-visitWord t w r _ x) refl
 
 -- Trying a member keeps the length.
 length-tryFound : (t : List ℕ) (c : ℕ) (w : List ℕ) (r : Registers) (m : Found) → length (tryFound t c w r m .memory) ≡ length w
@@ -277,12 +266,12 @@ length-tryFound t c w r m =
 
 -- Any act keeps the length.
 pub length-act : (t : List ℕ) (c : ℕ) (w : List ℕ) (r : Registers) → length (act t c w r .memory) ≡ length w
-unfolding act dueAct tryNext
+unfolding act dueAct tryNext comparePair checkNode
 length-act t c w r =
     made-either (eqb (r .mode) takeMode) (takeGoal t c w r) _ w (length-take t c w r)
     (made-either (eqb (r .mode) tryMode) (tryNext t c w r) _ w (length-tryFound t c w r _)
-    (made-either (eqb (r .mode) compareMode) (comparePair t w r) (checkNode t w r) w (length-comparePair t w r)
-    (length-checkNode t w r)))
+    (made-either (eqb (r .mode) compareMode) (comparePair t w r) (checkNode t w r) w (length-compareSides t w r _ _)
+    (length-checkWord t w r _)))
 
 -- Any number of acts keeps the length.
 pub keepsLength : KeepsLength

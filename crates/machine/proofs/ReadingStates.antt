@@ -13,7 +13,7 @@ use Rattle.sequents.specs.Sequents.{Program, Entry, entry, entries, Sequent}
 use Rattle.sequents.specs.Derivations.{sheetProgram}
 use Rattle.unification.specs.Store.{Leaf}
 use Rattle.unification.specs.Matching.{Pair}
-use Rattle.search.specs.Configurations.{Atom}
+use Rattle.search.specs.Configurations.{Branch, Atom}
 use Rattle.sheet_format.specs.Limits.{maxBudget}
 use Rattle.node_table.specs.Layout.{childCount}
 use Rattle.node_table.specs.Decoding.{clauseAtNode, clausesFrom}
@@ -21,10 +21,10 @@ use Rattle.machine.specs.declared.Registers.{Registers}
 use Rattle.machine.specs.Fields as fields
 use Rattle.machine.specs.Records.{made}
 use Rattle.machine.specs.Words.{environmentAt}
-use Rattle.machine.specs.Matching.{positionWord, pairsFrom, nodesFrom}
+use Rattle.machine.specs.Matching.{positionWord, pairsFrom, nodesFrom, pairsAfter, nodesAfter}
 use Rattle.machine.specs.Backchaining.{clauseOf, clauseFrame}
 use Rattle.machine.specs.ReadingStates.{programFrom, sequentAt, goalsFrom, atomDue, membersDue, waitingPairs, pairsLeft}
-use Rattle.machine.specs.ReadingStates.{waitingNodes, nodesLeft}
+use Rattle.machine.specs.ReadingStates.{pairDue, pairsNext, waitingNodes, nodesLeft, nodeDue}
 use Rattle.machine.proofs.Words.{position-small, position-record, position-argument}
 use Rattle.machine.proofs.Tables.{Table, few-arguments}
 use Rattle.machine.proofs.Terms.{word-term}
@@ -32,7 +32,8 @@ use Rattle.machine.proofs.WaitingArguments.{pairs-from, nodes-from, Pai
 use Rattle.machine.proofs.WaitingArguments.{pairs-after, nodes-after}
 use Rattle.machine.proofs.Branches.{first-environment, sheetFrom, ProgramAt, program-sheet, program-more, program-le, SequentAt}
 use Rattle.machine.proofs.Branches.{GoalsAt}
-use Rattle.machine.proofs.Configurations.{AtomAt, RestAt, PositionAt}
+use Rattle.machine.proofs.Configurations.{AtomAt, RestAt, PositionAt, DueAt, PairAt}
+use Rattle.machine.proofs.MatchActs.{pair-words, due-word}
 use Rattle.memory.specs.Records.{field}
 
 -- Dropping fewer entries than the first clause has.
@@ -207,10 +208,27 @@ module _ (T : Table) where
       (rw (nodes-from t w r (suc i)) (fewer-left f r i (childCount t (field w r fields.waitingNode)) (field w r fields.waitingAfter)
       (omega arith) k (few-arguments T (field w r fields.waitingNode) (suc i) (c .4 .node)) (c .6) (omega arith))) (c .5)))
 
-  -- The nodes left to look at are read back.
-  pub nodes-read : (x : ℕ) (ns : List (Term Leaf)) (w : List ℕ) (r : Registers) → r .acts ≤ maxBudget
-      → NodesAt T (r .acts) x ns w (r .nodes) → nodesLeft (T .numbers) (made w r) ≡ ns
-  unfolding nodesLeft
-  nodes-read x ns w r small c =
-      waiting-nodes (4 * r .acts) (r .acts) x ns w (r .nodes) small
-      (let b = nodes-before T (r .acts) x ns w (r .nodes) c in omega arith) c
+  -- The pair that is due and the pairs after it are read back.
+  pub due-pair-read : (x : ℕ) (p : Pair) (ps : List Pair) (w : List ℕ) (r : Registers) (b : Branch) → r .acts ≤ maxBudget
+      → PairAt T (r .acts) x w r p ps b → pairDue (T .numbers) (made w r) ∷ pairsNext (T .numbers) (made w r) ≡ p ∷ ps
+  unfolding pairDue pairsNext
+  due-pair-read x p ps w r b small h =
+      let z = pair-words T w r x p ps b small h in
+      rw (
+        word-term T (r .acts) x w (z .0),
+        word-term T (r .acts) x w (z .1),
+        waiting-pairs (4 * r .acts) (r .acts) x ps w (pairsAfter t w (r .pairs)) small
+            (let k = pairs-before T (r .acts) x ps w (pairsAfter t w (r .pairs)) (z .2) in omega arith) (z .2),
+      ) refl
+
+  -- The node that is due and the nodes left are read back.
+  pub due-read : (x : ℕ) (n : Term Leaf) (ns : List (Term Leaf)) (w : List ℕ) (r : Registers) → r .acts ≤ maxBudget
+      → DueAt T (r .acts) x w (r .node) (r .nodes) n ns
+      → (nodeDue (T .numbers) (made w r) ≡ n) × (nodesLeft (T .numbers) (made w r) ≡ ns)
+  unfolding nodeDue nodesLeft
+  due-read x n ns w r small d =
+      let z = due-word T w r small x n ns d in
+      let b = nodes-before T (r .acts) x ns w (nodesAfter t w (r .nodes)) (z .1) in (
+        word-term T (r .acts) x w (z .0),
+        waiting-nodes (4 * r .acts) (r .acts) x ns w (nodesAfter t w (r .nodes)) small (omega arith) (z .1),
+      )

@@ -15,7 +15,7 @@ use Rattle.machine.specs.declared.Registers.{Registers}
 use Rattle.machine.specs.Records.{made, noMode}
 use Rattle.machine.specs.RegisterUpdates.{withMode, withNext, withTrail, withChoice, withGoals, withPath, withGoal, withMember}
 use Rattle.machine.specs.ChoicePoints.{resumeGoal, resumeMember, resumeBranch, resume, backtrack, failed}
-use Rattle.machine.specs.ReadingStates.{openGoals, goalDue, pairDue, nodeDue}
+use Rattle.machine.specs.ReadingStates.{openGoals, goalDue}
 use Rattle.machine.specs.Simulation.{StandsAt, StandsAtBranch, StandsAtConfiguration, Stands}
 use Rattle.machine.proofs.Tables.{Table}
 use Rattle.machine.proofs.Terms.{word-variable, word-term}
@@ -23,7 +23,7 @@ use Rattle.machine.proofs.Stores.{store-bindings}
 use Rattle.machine.proofs.Branches.{PathAt, path-read, GoalsAt, goals-le, BranchAt}
 use Rattle.machine.proofs.Configurations.{storeOf, CompareAt, ConfigurationAt}
 use Rattle.machine.proofs.ChoicePoints.{SharedAt, StateAt, ResultAt, failed-result}
-use Rattle.machine.proofs.ReadingStates.{sequent-read, goals-read, atom-read, position-read, pairs-read, nodes-read}
+use Rattle.machine.proofs.ReadingStates.{sequent-read, goals-read, atom-read, position-read, pairs-read, due-pair-read, due-read}
 
 -- Failure is no act.
 failed-acts : (w : List ℕ) (r : Registers) → failed w r .registers .acts ≡ r .acts
@@ -63,7 +63,7 @@ module _ (T : Table) where
   -- The configuration acted upon.
   stands-at-configuration : (w : List ℕ) (r : Registers) (x : Configuration) (ds : List Configuration) → r .acts ≤ maxBudget
       → StateAt T (r .acts) w r x ds → StandsAtConfiguration (T .numbers) (T .clauses) (made w r) x
-  unfolding StandsAtConfiguration ConfigurationAt CompareAt storeOf goalDue GoalsAt pairDue nodeDue
+  unfolding StandsAtConfiguration ConfigurationAt CompareAt storeOf goalDue GoalsAt
   stands-at-configuration w r (take s g b) ds few h = (
     stands-at-branch w r s ds b 0 (h .front .0) (h .shared) (h .front .2),
     sequent-read T w r (r .node) (r .frame) (r .program) (r .level) g (h .front .1),
@@ -77,22 +77,19 @@ module _ (T : Table) where
   stands-at-configuration w r (match (pairs s []) b) ds few h = absurd (h .front)
   stands-at-configuration w r (match (pairs s (p ∷ ps)) b) ds few h = (
     stands-at-branch w r s ds b 2 (h .front .mode) (h .shared) (h .front .branch),
-    rw (
-      word-term T (r .acts) (s .next) w (h .front .goal),
-      word-term T (r .acts) (s .next) w (h .front .clause),
-      pairs-read T (s .next) ps w r few (h .front .pairs),
-    ) refl,
+    due-pair-read T (s .next) p ps w r b few (h .front),
   )
-  stands-at-configuration w r (match (check s y v n ns ps) b) ds few h = (
-    stands-at-branch w r s ds b 3 (h .front .mode) (h .shared) (h .front .branch),
-    record {
-      variable = word-term T (r .acts) (s .next) w {s = leaf (var y)} (word-variable (h .front .variable));
-      value = word-term T (r .acts) (s .next) w (h .front .value);
-      node = word-term T (r .acts) (s .next) w (h .front .node);
-      nodes = nodes-read T (s .next) ns w r few (h .front .nodes);
-      pairs = pairs-read T (s .next) ps w r few (h .front .pairs);
-    },
-  )
+  stands-at-configuration w r (match (check s y v n ns ps) b) ds few h =
+      let z = due-read T (s .next) n ns w r few (h .front .nodes) in (
+        stands-at-branch w r s ds b 3 (h .front .mode) (h .shared) (h .front .branch),
+        record {
+          variable = word-term T (r .acts) (s .next) w {s = leaf (var y)} (word-variable (h .front .variable));
+          value = word-term T (r .acts) (s .next) w (h .front .value);
+          node = z .0;
+          nodes = z .1;
+          pairs = pairs-read T (s .next) ps w r few (h .front .pairs);
+        },
+      )
   stands-at-configuration w r (match fail b) ds few h = h .front
   stands-at-configuration w r (done s ls) ds few h =
       stands-at-branch w r s ds (branch [] ls) 4 (h .front .0) (h .shared)

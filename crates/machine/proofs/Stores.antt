@@ -65,7 +65,8 @@ module _ (T : Table) where
 
   -- The store stays one act later.
   pub store-up : (n : ℕ) (w : List ℕ) (s : Store) → StoreAt n w s → StoreAt (suc n) w s
-  store-up n w s r = record { cells = λ x h. cell-up n (s .next) w (cellOf w x) (binding (s .bindings) x) (r .cells x h); levels = r .levels }
+  store-up n w s r =
+      record { cells = λ x h. cell-up n (s .next) w (cellOf w x) (binding (s .bindings) x) (r .cells x h); levels = r .levels }
 
   -- Lowering a level in memory is level 1's `lower`.
   pub store-lower : (n : ℕ) (w : List ℕ) (s : Store) (z k : ℕ) → There z w → z < s .next → StoreAt n w s

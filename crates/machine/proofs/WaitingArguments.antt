@@ -6,7 +6,7 @@ use mathlib.Core.Path.{_≡_, refl, ap, _∙_}
 use mathlib.Core.List.{List, [], _∷_}
 use mathlib.Core.Option.{Option, some}
 use lib.Dec.{ltb}
-use borrow.Author.Tests.{lt-ltb, le-ltb}
+use borrow.Author.Tests.{lt-ltb, le-ltb, ne-eqb}
 use Rattle.terms.specs.Terms.{Term, substitute, substitutes}
 use Rattle.unification.specs.Store.{Leaf}
 use Rattle.unification.specs.Matching.{Pair, pushTerms, pushPairs}
@@ -56,7 +56,7 @@ pairs-after t w a r i e k = let z = argument-after a r i e k in rw (z .0, z .1)
 -- The position after that of a node.
 pub nodes-after : (t w : List ℕ) (a r i : ℕ) → a ≡ 4 * suc r + i → i < 4 → nodesAfter t w a ≡ nodesFrom t w (suc r) (suc i)
 unfolding nodesAfter
-nodes-after t w a r i e k = let z = argument-after a r i e k in rw (z .0, z .1)
+nodes-after t w a r i e k = let z = argument-after a r i e k in rw (ne-eqb a 0 (λ q. omega arith), z .0, z .1)
 
 module _ (T : Table) where
   -- Argument i of the node a in the frame f.

@@ -3,7 +3,7 @@ use Prim.Native.Nat.{ℕ, _+_, _-_}
 use mathlib.Core.Bool.{cond}
 use mathlib.Core.List.{List}
 use lib.Dec.{eqb, ltb}
-use Rattle.sheet_format.specs.Limits.{variableNames}
+use Rattle.sheet_format.specs.Limits.{maxNodes, variableNames}
 use Rattle.node_table.specs.Layout.{kindOf, labelOf, childOf, membersOf, clauseNode, impliesKind}
 use Rattle.machine.specs.declared.Registers.{Registers}
 use Rattle.machine.specs.Fields as fields
@@ -67,7 +67,7 @@ unfoldable pub tryMember : List ℕ → ℕ → List ℕ → Registers → Found
 tryMember t c w r m =
     let s = nextMember t w r in
     let w′ = putPairs (putTry t c (putPrefix w r m) r m s) (r .acts) (r .node) (r .frame) (headOf t (m .leaf)) (increment (r .acts)) 0 in
-    made w′ (duePairs t w′ (tried t c r m s) (pairsFrom t w′ (increment (r .acts)) 0))
+    made w′ (duePairs w′ (tried t c r m s) (pairsFrom t w′ (increment (r .acts)) 0))
 
 -- "Matching first compares predicates; if they differ the try fails."
 unfoldable pub tryFound : List ℕ → ℕ → List ℕ → Registers → Found → Made

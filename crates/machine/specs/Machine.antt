@@ -56,7 +56,6 @@ startRegisters goal = record {
   left = 0;
   right = 0;
   pairs = 0;
-  due = 0;
   nodes = 0;
 }
 

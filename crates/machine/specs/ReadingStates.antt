@@ -19,7 +19,7 @@ use Rattle.node_table.specs.Decoding.{argumentsAt, goalAt, clauseAtNode, clause
 use Rattle.machine.specs.Fields as fields
 use Rattle.machine.specs.Records.{Made}
 use Rattle.machine.specs.Words.{environmentAt, termOf}
-use Rattle.machine.specs.Matching.{argumentWord, pairsAfter, nodesAfter}
+use Rattle.machine.specs.Matching.{argumentWord, pairsAfter, leftWord, rightWord, dueWord, nodesAfter}
 use Rattle.memory.specs.Records.{field}
 
 -- The program from assumption h on, at most n assumptions, then the sheet's clauses from the i-th on.
@@ -86,11 +86,17 @@ waitingPairs (suc n) t w a =
           ∷ waitingPairs n t w (pairsAfter t w a)
     ]
 
--- The pair that is due, as far as it is looked through.
+-- The pair that is due, as far as it is looked through, and the pairs left after it. A record has at most four.
 unfoldable pub pairDue : List ℕ → Made → Pair
-pairDue t m = record { goal = termOf t (m .memory) (m .registers .left); clause = termOf t (m .memory) (m .registers .right) }
+pairDue t m = record {
+  goal = termOf t (m .memory) (leftWord t (m .memory) (m .registers));
+  clause = termOf t (m .memory) (rightWord t (m .memory) (m .registers));
+}
 
--- The pairs left to compare after it. A record has at most four.
+unfoldable pub pairsNext : List ℕ → Made → List Pair
+pairsNext t m = waitingPairs (maxArity * m .registers .acts) t (m .memory) (pairsAfter t (m .memory) (m .registers .pairs))
+
+-- The pairs left to compare after a range check.
 unfoldable pub pairsLeft : List ℕ → Made → List Pair
 pairsLeft t m = waitingPairs (maxArity * m .registers .acts) t (m .memory) (m .registers .pairs)
 
@@ -103,10 +109,10 @@ waitingNodes (suc n) t w a =
       | false ↦ termOf t w (argumentWord t w a fields.waitingNode) ∷ waitingNodes n t w (nodesAfter t w a)
     ]
 
+-- The nodes left to look at after the one that is due.
+unfoldable pub nodesLeft : List ℕ → Made → List (Term Leaf)
+nodesLeft t m = waitingNodes (maxArity * m .registers .acts) t (m .memory) (nodesAfter t (m .memory) (m .registers .nodes))
+
 -- The node that is due in a range check, as far as it is looked through.
 unfoldable pub nodeDue : List ℕ → Made → Term Leaf
-nodeDue t m = termOf t (m .memory) (m .registers .due)
-
--- The nodes left to look at after it.
-unfoldable pub nodesLeft : List ℕ → Made → List (Term Leaf)
-nodesLeft t m = waitingNodes (maxArity * m .registers .acts) t (m .memory) (m .registers .nodes)
+nodeDue t m = termOf t (m .memory) (dueWord t (m .memory) (m .registers))

@@ -18,7 +18,7 @@ use Rattle.machine.specs.Words.{termOf}
 use Rattle.machine.specs.ChoicePoints.{failed}
 use Rattle.machine.specs.Machine.{runActs, runMachine}
 use Rattle.machine.specs.Reading.{Holds, pathFrom}
-use Rattle.machine.specs.ReadingStates.{openGoals, goalDue, atomDue, membersDue, pairDue, pairsLeft, nodeDue, nodesLeft}
+use Rattle.machine.specs.ReadingStates.{openGoals, goalDue, atomDue, membersDue, pairDue, pairsNext, pairsLeft, nodeDue, nodesLeft}
 
 -- The registers and the memory stand at a branch with this mode, store and path.
 pub record StandsAt (t : List ℕ) (m : Made) (due : ℕ) (s : Store) (ls : List (Line Leaf)) : Type 0 where
@@ -44,7 +44,7 @@ unfoldable pub StandsAtConfiguration : List ℕ → ℕ → Made → Configurati
 StandsAtConfiguration t c m (take s g b) = StandsAtBranch t c m takeMode s b × (goalDue t c m ≡ g)
 StandsAtConfiguration t c m (try s a e es k b) =
     StandsAtBranch t c m tryMode s b × (atomDue t c m ≡ a) × (membersDue t c m ≡ e ∷ es) × (m .registers .place ≡ k)
-StandsAtConfiguration t c m (match (pairs s ps) b) = StandsAtBranch t c m compareMode s b × (pairDue t m ∷ pairsLeft t m ≡ ps)
+StandsAtConfiguration t c m (match (pairs s ps) b) = StandsAtBranch t c m compareMode s b × (pairDue t m ∷ pairsNext t m ≡ ps)
 StandsAtConfiguration t c m (match (check s y v n ns ps) b) = StandsAtBranch t c m checkMode s b × StandsAtCheck t m y v n ns ps
 StandsAtConfiguration t c m (match fail b) = ⊥
 StandsAtConfiguration t c m (done s ls) = StandsAtBranch t c m provedMode s (branch [] ls)

@@ -19,7 +19,8 @@ pub struct Registers {
     pub path: u32,
     // Which line the latest record of the path is (module `lines`).
     pub line: u32,
-    // The goal to take, or the atom whose members are tried: node, frame, assumptions, level.
+    // The goal to take, or the atom whose members are tried: node, frame, assumptions, level. In a range check node is the word in hand of
+    // the node that is due, 0 where it stands as it waited.
     pub node: u32,
     pub frame: u32,
     pub program: u32,
@@ -29,13 +30,12 @@ pub struct Registers {
     pub clause: u32,
     pub member: u32,
     pub place: u32,
-    // The words in hand of the pair that is due: the goal's side, the clause's side. In a range check: the variable to be bound, its
-    // value.
+    // The words in hand of the pair that is due, goal's side and clause's side; left is 0 where they stand as they waited. In a range
+    // check: the variable to be bound, and its value.
     pub left: u32,
     pub right: u32,
-    // The pairs that wait, after the one in hand.
+    // The pairs that wait, the first of them due in a comparison.
     pub pairs: u32,
-    // A range check: the word in hand of the node that is due; the nodes that wait after it.
-    pub due: u32,
+    // The nodes of a range check that wait, the first of them due, 0 for the whole value.
     pub nodes: u32,
 }

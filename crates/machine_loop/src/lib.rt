@@ -103,7 +103,6 @@ pub fn start_registers(goal: u32) -> Registers
         left: 0,
         right: 0,
         pairs: 0,
-        due: 0,
         nodes: 0,
     }
 }

@@ -10,7 +10,7 @@ use memory::put_field;
 ghost use mathlib.Core.Path.{_≡_};
 ghost use Rattle.machine.specs.Records.{made};
 ghost use Rattle.machine.specs.RegisterUpdates.{withActs, withMode, withNext, withTrail, withChoice, withGoals, withPath, withGoal};
-ghost use Rattle.machine.specs.RegisterUpdates.{withMember, withPair, withLeft, withRight, withCheck, withDue, withNode};
+ghost use Rattle.machine.specs.RegisterUpdates.{withMember, withPairs, withSides, withCheck, withDue, withNodes};
 ghost use Rattle.machine.specs.ChoicePoints.{saveChoice};
 
 // One more act is done.
@@ -102,63 +102,56 @@ pub fn with_member(r: Registers, h: u32, c: u32, k: u32, p: u32) -> Registers
     s
 }
 
-// A pair is due, with the words x and y in hand; then the pairs at a.
-pub fn with_pair(r: Registers, x: u32, y: u32, a: u32) -> Registers
-    ensures { λ s. ⌜ s ≡ withPair r x y a ⌝ }
+// A pair is due, which stands as it waited.
+pub fn with_pairs(r: Registers, a: u32) -> Registers
+    ensures { λ s. ⌜ s ≡ withPairs r a ⌝ }
 {
     let mut s = r;
     s.mode = modes::COMPARE;
-    s.left = x;
-    s.right = y;
+    s.left = 0;
     s.pairs = a;
     s
 }
 
-// The goal's side of the pair that is due, and the clause's side.
-pub fn with_left(r: Registers, x: u32) -> Registers
-    ensures { λ s. ⌜ s ≡ withLeft r x ⌝ }
+// A binding of the pair that is due has been followed (request W-206): its words are in hand.
+pub fn with_sides(r: Registers, x: u32, y: u32) -> Registers
+    ensures { λ s. ⌜ s ≡ withSides r x y ⌝ }
 {
     let mut s = r;
     s.left = x;
-    s
-}
-
-pub fn with_right(r: Registers, y: u32) -> Registers
-    ensures { λ s. ⌜ s ≡ withRight r y ⌝ }
-{
-    let mut s = r;
     s.right = y;
     s
 }
 
-// A range check is due, of the value v for the variable x. Its first node is the whole value.
-pub fn with_check(r: Registers, x: u32, v: u32) -> Registers
-    ensures { λ s. ⌜ s ≡ withCheck r x v ⌝ }
+// A range check is due, of the value v for the variable x; then the pairs a. Its first node is the whole value.
+pub fn with_check(r: Registers, a: u32, x: u32, v: u32) -> Registers
+    ensures { λ s. ⌜ s ≡ withCheck r a x v ⌝ }
 {
     let mut s = r;
     s.mode = modes::CHECK;
+    s.node = v;
     s.left = x;
     s.right = v;
-    s.due = v;
+    s.pairs = a;
     s.nodes = 0;
     s
 }
 
-// The node of a range check that is due.
+// A binding of the node of a range check that is due has been followed (request W-206): its word is in hand.
 pub fn with_due(r: Registers, x: u32) -> Registers
     ensures { λ s. ⌜ s ≡ withDue r x ⌝ }
 {
     let mut s = r;
-    s.due = x;
+    s.node = x;
     s
 }
 
-// The node of a range check that is due, then the nodes at a.
-pub fn with_node(r: Registers, x: u32, a: u32) -> Registers
-    ensures { λ s. ⌜ s ≡ withNode r x a ⌝ }
+// The nodes of a range check that wait, the first of them due.
+pub fn with_nodes(r: Registers, a: u32) -> Registers
+    ensures { λ s. ⌜ s ≡ withNodes r a ⌝ }
 {
     let mut s = r;
-    s.due = x;
+    s.node = 0;
     s.nodes = a;
     s
 }

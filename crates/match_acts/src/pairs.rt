@@ -4,7 +4,7 @@ use goal_acts::goals::proceed;
 use machine::Registers;
 use machine::fields;
 use machine_memory::cells::record_of;
-use machine_memory::registers::with_pair;
+use machine_memory::registers::with_pairs;
 use machine_memory::words::truncate;
 use machine_memory::words::word_of;
 use memory::field;
@@ -16,7 +16,7 @@ use sheet_format::limits;
 use sheet_format::limits::NUMBERS_PER_UNIT;
 ghost use mathlib.Core.Path.{_≡_};
 ghost use Prim.Native.Nat.{_+_};
-ghost use Rattle.machine.specs.Matching.{positionWord, pairsFrom, nodesFrom, argumentWord, pairsAfter, nodesAfter, duePairs};
+ghost use Rattle.machine.specs.Matching.{positionWord, pairsFrom, nodesFrom, argumentWord, pairsAfter, duePairs};
 ghost use Rattle.memory.specs.Records.{field};
 
 const ARGUMENTS: usize = limits::MAX_ARITY as usize;
@@ -73,21 +73,12 @@ pub fn pairs_after(t: &[u32], w: &[u32], a: u32) -> u32
     pairs_from(t, w, a / limits::MAX_ARITY, a % limits::MAX_ARITY + 1)
 }
 
-// The nodes after the one at position a.
-pub fn nodes_after(t: &[u32], w: &[u32], a: u32) -> u32
-    ensures { λ e. ⌜ e ≡ nodesAfter (now (t .entry)) (now (w .entry)) a ⌝ }
-{
-    nodes_from(t, w, a / limits::MAX_ARITY, a % limits::MAX_ARITY + 1)
-}
-
-// The pair at position a is due, with its words in hand; where none is left, the next goal.
-pub fn due_pairs(t: &[u32], w: &[u32], r: Registers, a: u32) -> Registers
-    ensures { λ s. ⌜ s ≡ duePairs (now (t .entry)) (now (w .entry)) r a ⌝ }
+// The pairs at position a are due; where none is left, the next goal.
+pub fn due_pairs(w: &[u32], r: Registers, a: u32) -> Registers
+    ensures { λ s. ⌜ s ≡ duePairs (now (w .entry)) r a ⌝ }
 {
     if a == 0 {
         return proceed(w, r);
     }
-    let x = argument_word(t, w, a, fields::GOAL_SIDE_NODE);
-    let y = argument_word(t, w, a, fields::CLAUSE_SIDE_NODE);
-    with_pair(r, x, y, pairs_after(t, w, a))
+    with_pairs(r, a)
 }

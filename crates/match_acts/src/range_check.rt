@@ -3,8 +3,10 @@
 use super::occurs_check::pass_node;
 use super::occurs_check::visit_constant;
 use super::occurs_check::visit_variable;
+use super::pairs::argument_word;
 use super::pairs::nodes_from;
 use machine::Registers;
+use machine::fields;
 use machine::tags;
 use machine_memory::records::put_nodes;
 use machine_memory::registers::with_due;
@@ -13,41 +15,71 @@ use machine_memory::words::frame_of;
 use machine_memory::words::increment;
 use machine_memory::words::node_of;
 use machine_memory::words::tag_of;
+use sheet_format::limits;
 ghost use mathlib.Core.Path.{_≡_};
 ghost use Rattle.machine.specs.Records.{made};
-ghost use Rattle.machine.specs.Matching.{visitClosure, visitWord, checkNode};
+ghost use Rattle.machine.specs.Matching.{visitClosure, visitWord, dueWord, nodesAfter, checkWord, checkNode};
 
-// The node is an application: its arguments are looked at, then the nodes that wait.
-pub fn visit_closure(t: &[u32], w: &mut [u32], r: Registers) -> Registers
-    ensures { λ s. ⌜ made (now (w .exit)) s ≡ visitClosure (now (t .entry)) (now (w .entry)) r ⌝ }
+// The node is an application: its arguments are looked at, then the nodes at e.
+pub fn visit_closure(t: &[u32], w: &mut [u32], r: Registers, e: u32, x: u32) -> Registers
+    ensures { λ s. ⌜ made (now (w .exit)) s ≡ visitClosure (now (t .entry)) (now (w .entry)) r e x ⌝ }
 {
     let u = r.acts;
-    put_nodes(w, u, node_of(r.due), frame_of(r.due), r.nodes);
+    put_nodes(w, u, node_of(x), frame_of(x), e);
     let rest = nodes_from(t, w, increment(u), 0);
-    pass_node(t, w, r, 0, 0, rest)
+    pass_node(w, r, 0, 0, rest)
 }
 
-// By what the node is, looked through; then the nodes that wait.
-pub fn visit_word(t: &[u32], w: &mut [u32], r: Registers) -> Registers
-    ensures { λ s. ⌜ made (now (w .exit)) s ≡ visitWord (now (t .entry)) (now (w .entry)) r ⌝ }
+// By what the node is, looked through; then the nodes at e.
+pub fn visit_word(t: &[u32], w: &mut [u32], r: Registers, e: u32, x: u32) -> Registers
+    ensures { λ s. ⌜ made (now (w .exit)) s ≡ visitWord (now (t .entry)) (now (w .entry)) r e x ⌝ }
 {
-    let a = tag_of(r.due);
+    let a = tag_of(x);
     if a == tags::VARIABLE {
-        return visit_variable(t, w, r);
+        return visit_variable(w, r, e, x);
     }
     if a == tags::CONSTANT {
-        return visit_constant(t, w, r);
+        return visit_constant(w, r, e, x);
     }
-    visit_closure(t, w, r)
+    visit_closure(t, w, r, e, x)
 }
 
-// One act on the node of a range check that is due: it follows one binding (request W-206), or looks at the node where it is not bound.
+// The word of the node that is due: in hand where it is the whole value or a binding of it has been followed, else the one that waits.
+pub fn due_word(t: &[u32], w: &[u32], r: Registers) -> u32
+    ensures { λ a. ⌜ a ≡ dueWord (now (t .entry)) (now (w .entry)) r ⌝ }
+{
+    if r.node == 0 {
+        return argument_word(t, w, r.nodes, fields::WAITING_NODE);
+    }
+    r.node
+}
+
+// The nodes after the one at position a.
+pub fn nodes_after(t: &[u32], w: &[u32], a: u32) -> u32
+    ensures { λ e. ⌜ e ≡ nodesAfter (now (t .entry)) (now (w .entry)) a ⌝ }
+{
+    if a == 0 {
+        return 0;
+    }
+    nodes_from(t, w, a / limits::MAX_ARITY, a % limits::MAX_ARITY + 1)
+}
+
+// One act on the node of the word x: it follows one binding (request W-206), or looks at the node where it is not bound.
+pub fn check_word(t: &[u32], w: &mut [u32], r: Registers, x: u32) -> Registers
+    ensures { λ s. ⌜ made (now (w .exit)) s ≡ checkWord (now (t .entry)) (now (w .entry)) r x ⌝ }
+{
+    let p = binding_of(w, x);
+    if p != 0 {
+        return with_due(r, p);
+    }
+    let e = nodes_after(t, w, r.nodes);
+    visit_word(t, w, r, e, x)
+}
+
+// One act: the node of a range check that is due.
 pub fn check_node(t: &[u32], w: &mut [u32], r: Registers) -> Registers
     ensures { λ s. ⌜ made (now (w .exit)) s ≡ checkNode (now (t .entry)) (now (w .entry)) r ⌝ }
 {
-    let x = binding_of(w, r.due);
-    if x != 0 {
-        return with_due(r, x);
-    }
-    visit_word(t, w, r)
+    let x = due_word(t, w, r);
+    check_word(t, w, r, x)
 }

@@ -7,7 +7,7 @@ use Rattle.printing.specs.Writer.{Answered}
 use Rattle.machine.specs.Records.{cellOf, levelOf, putCell, putLevel, putEntry, putGoal, putAssumption, putPath, putUse, putChoice}
 use Rattle.machine.specs.Records.{putChosen, putPosition, putPairs, putNodes}
 use Rattle.machine.specs.RegisterUpdates.{withActs, withMode, withNext, withTrail, withChoice, withGoals, withPath, withGoal, withMember}
-use Rattle.machine.specs.RegisterUpdates.{withPair, withLeft, withRight, withCheck, withDue, withNode}
+use Rattle.machine.specs.RegisterUpdates.{withPairs, withSides, withCheck, withDue, withNodes}
 use Rattle.machine.specs.Words.{truncate, increment, variableWord, constantWord, closureWord, tagOf, nameOf, nodeOf, frameOf, slotOf}
 use Rattle.machine.specs.Words.{wordOf, bindingOf, leafOf, environmentAt, termOf}
 use Rattle.printing.specs.Bindings.{deref}
@@ -16,9 +16,9 @@ use Rattle.machine.specs.Frames.{copyFrame, putVariable, putFresh, putVariables
 use Rattle.machine.specs.ChoicePoints.{saveChoice, resumeGoal, resumeMember, resumeBranch, resume, backtrack, failed}
 use Rattle.machine.specs.Goals.{dueGoal, proceed, membersLeft, tryFrom, takeAtom, takeTrue, takeAnd, rightBranch, takeOr, takeImplies}
 use Rattle.machine.specs.Goals.{takeExists, putConstant, takeForall, takeGoal}
-use Rattle.machine.specs.Matching.{positionWord, pairsFrom, nodesFrom, argumentWord, pairsAfter, nodesAfter, duePairs, compareClosures}
-use Rattle.machine.specs.Matching.{compareLeaves, compareWords, comparePair, bindValue, nextNode, passNode, visitVariable, visitConstant}
-use Rattle.machine.specs.Matching.{visitClosure, visitWord, checkNode}
+use Rattle.machine.specs.Matching.{positionWord, pairsFrom, nodesFrom, argumentWord, pairsAfter, duePairs, compareClosures, compareLeaves}
+use Rattle.machine.specs.Matching.{compareWords, leftWord, rightWord, compareSides, comparePair, bindValue, passNode, visitVariable}
+use Rattle.machine.specs.Matching.{visitConstant, visitClosure, visitWord, dueWord, nodesAfter, checkWord, checkNode}
 use Rattle.machine.specs.Backchaining.{clauseOf, clauseFrame, nextClause, nextMember, putPrefix, saveAlternative, putBody, putTry, tried}
 use Rattle.machine.specs.Backchaining.{tryMember, tryFound, tryNext}
 use Rattle.machine.specs.Machine.{dueAct, act, runActs, startMemory, startRegisters, runMachine}
@@ -41,20 +41,20 @@ use Rattle.clause_members.specs.Members.{hasName, pushName, addName, findMember
 -- A run of the machine, and the text written.
 unfoldable computeAnswer : List ℕ → List ℕ → ℕ → ℕ → ℕ → List ℕ → List ℕ → Answered
 unfolding field putField cellOf levelOf putCell putLevel putEntry putGoal putAssumption putPath putUse putChoice putChosen putPosition
-    putPairs putNodes withActs withMode withNext withTrail withChoice withGoals withPath withGoal withMember withPair withLeft withRight
-    withCheck withDue withNode truncate increment variableWord constantWord closureWord tagOf nameOf nodeOf frameOf slotOf wordOf bindingOf deref leafOf environmentAt termOf
-    lowerTo bindTo oldLevel effect undoEntry undo copyFrame putVariable putFresh putVariables hasName pushName addName findMember member
-    headOf saveChoice resumeGoal resumeMember resumeBranch resume backtrack failed dueGoal proceed membersLeft tryFrom takeAtom takeTrue
-    takeAnd rightBranch takeOr takeImplies takeExists putConstant takeForall takeGoal positionWord pairsFrom nodesFrom argumentWord pairsAfter
-    nodesAfter duePairs
-    compareClosures compareLeaves compareWords comparePair bindValue nextNode passNode visitVariable visitConstant visitClosure visitWord
-    checkNode clauseOf clauseFrame nextClause nextMember putPrefix saveAlternative putBody putTry tried tryMember tryFound
-    tryNext dueAct act runActs startMemory startRegisters runMachine kindOf childCount labelOf childOf infoOf packInfo maskOf goalBit
-    membersOf sizeOf bitOf nameStart nameLength isFunctionBit arityOf clauseNode emit writeBytes copyBytes writeDigits writeNumber
-    writeSymbol withPosition withVariables withConstants wrote numberVariable numberConstant writeVariable writeConstant emitTo writeName writeFunctor
-    separator argumentsBy bracketedBy applicationBy wordBy writeTerm termTo bytesTo numberTo resultTo plainBytes termLine bindingsTo
-    prefixTo clauseTo lineTo linesTo linkWord linkPath clearConstants clearVariables textLimit proofPass prepare firstLink writePass
-    writeProof shortPass writeShort writeNo writeSpent ascii
+    putPairs putNodes withActs withMode withNext withTrail withChoice withGoals withPath withGoal withMember withPairs withSides withCheck
+    withDue withNodes truncate increment variableWord constantWord closureWord tagOf nameOf nodeOf frameOf slotOf wordOf bindingOf deref
+    leafOf environmentAt termOf lowerTo bindTo oldLevel effect undoEntry undo copyFrame putVariable putFresh putVariables hasName pushName
+    addName findMember member headOf saveChoice resumeGoal resumeMember resumeBranch resume backtrack failed dueGoal proceed membersLeft
+    tryFrom takeAtom takeTrue takeAnd rightBranch takeOr takeImplies takeExists putConstant takeForall takeGoal positionWord pairsFrom
+    nodesFrom argumentWord pairsAfter nodesAfter duePairs compareClosures compareLeaves compareWords leftWord rightWord compareSides
+    comparePair bindValue passNode visitVariable visitConstant visitClosure visitWord dueWord checkWord checkNode clauseOf clauseFrame
+    nextClause nextMember putPrefix saveAlternative putBody putTry tried tryMember tryFound tryNext dueAct act runActs startMemory
+    startRegisters runMachine kindOf childCount labelOf childOf infoOf packInfo maskOf goalBit membersOf sizeOf bitOf nameStart nameLength
+    isFunctionBit arityOf clauseNode emit writeBytes copyBytes writeDigits writeNumber writeSymbol withPosition withVariables
+    withConstants wrote numberVariable numberConstant writeVariable writeConstant emitTo writeName writeFunctor separator argumentsBy
+    bracketedBy applicationBy wordBy writeTerm termTo bytesTo numberTo resultTo plainBytes termLine bindingsTo prefixTo clauseTo lineTo
+    linesTo linkWord linkPath clearConstants clearVariables textLimit proofPass prepare firstLink writePass writeProof shortPass
+    writeShort writeNo writeSpent ascii
 computeAnswer sheet t clauses goal budget w out = writeProof sheet t goal (runMachine budget t clauses goal w) budget out
 
 -- "Goal every b some a p(a,b)", with the clause every z p(z,z), has the nodes V 0, V 1, p(0,0), U, p(0,1), E, U.
