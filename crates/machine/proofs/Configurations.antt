@@ -76,7 +76,7 @@ module _ (T : Table) where
     pub low : k ≤ n
     pub branch : BranchAt T n x w (r .goals) (r .path) (r .line) b
 
-  -- The node that is due in a range check and the nodes left: its word d is in hand, or it stands at the position a as it waited.
+  -- The node that is due in a range check and the nodes left: d is its word, or 0 and it is the argument at position a.
   abbrev pub DueAt : ℕ → ℕ → List ℕ → ℕ → ℕ → Term Leaf → List (Term Leaf) → Type 0
   DueAt n v w d a x ns =
       (WordAt T n v w d x × (((a ≡ 0) × (ns ≡ [])) ⊎ ((y : Term Leaf) × NodesAt T n v (y ∷ ns) w a)))
@@ -91,11 +91,11 @@ module _ (T : Table) where
     pub pairs : PairsAt T n v ps w (r .pairs)
     pub branch : BranchAt T n v w (r .goals) (r .path) (r .line) b
 
-  -- The sides of the pair p that is due: their words are in hand, or they are those of the pair q as it waited.
+  -- The sides of the pair p that is due: their words are in the registers, or they are those of the waiting pair q.
   abbrev pub SidesAt : ℕ → ℕ → List ℕ → Registers → Pair → Pair → Type 0
   SidesAt n x w r q p = ((r .left ≡ 0) × (q ≡ p)) ⊎ (WordAt T n x w (r .left) (p .goal) × WordAt T n x w (r .right) (p .clause))
 
-  -- A comparison of the pair p, which stood there as it waited.
+  -- A comparison of the pair p, which was the pair `stood` before its bindings were followed.
   pub record PairAt (n x : ℕ) (w : List ℕ) (r : Registers) (p : Pair) (ps : List Pair) (b : Branch) : Type 0 where
     pub mode : r .mode ≡ compareMode
     pub stood : Pair

@@ -61,7 +61,7 @@ due-word T w r small v x ns (inl (c, inr k)) =
     rw (ne-eqb (r .node) 0 (word-nonzero T c)) (c, first-node T (r .acts) v w (r .nodes) (k .0) ns small (k .1) .1)
 due-word T w r small v x ns (inr c) = rw (eq-eqb (r .node) 0 (c .0)) (first-node T (r .acts) v w (r .nodes) x ns small (c .1))
 
--- Where a binding of the node that is due has been followed, the word that was come to is in hand.
+-- Where a binding of the node that is due has been followed, the register has the word that was come to.
 due-followed : (T : Table) (n v : ℕ) (w : List ℕ) (d e a : ℕ) (x y : Term Leaf) (ns : List (Term Leaf)) → WordAt T n v w e y
     → DueAt T n v w d a x ns → DueAt T n v w e a y ns
 due-followed T n v w d e a x y ns c (inl k) = inl (c, k .1)
@@ -69,7 +69,7 @@ due-followed T n v w d e a x y ns c (inr k) = inl (c, inr (x, k .1))
 
 module _ (T : Table) (w : List ℕ) (r : Registers) (b : Branch) (ds : List Configuration)
     (room : numbersPerUnit * suc (r .acts) ≤ length w) (small : r .acts < maxBudget) where
-  -- A word is in hand, one act later.
+  -- A word stays the term's, one act later.
   later : (s : Store) {a : ℕ} {t : Term Leaf} → WordAt T (r .acts) (s .next) w a t → WordAt T (suc (r .acts)) (s .next) w a t
   later s v = word-up T (r .acts) (s .next) (s .next) w (omega arith) v
 
@@ -174,4 +174,5 @@ module _ (T : Table) (w : List ℕ) (r : Registers) (b : Branch) (ds : List Conf
           let g = i .0 .good .formed in
           rw (eq-eqb (bindingOf w a) 0 c)
           (visit-result T w r s b ds room small (f .branch) (st .shared) (f .mode) y (nodesAfter (T .numbers) w (r .nodes)) t ns ps
-          (f .variable) (f .value) (f .pairs) (i .0 .low) (unbound-binding (s .bindings) y (g .bound) (i .0 .unbound)) a x (z .0) (i .0 .nodes .0) (z .1))
+          (f .variable) (f .value) (f .pairs) (i .0 .low) (unbound-binding (s .bindings) y (g .bound) (i .0 .unbound))
+          a x (z .0) (i .0 .nodes .0) (z .1))

@@ -1,7 +1,7 @@
 -- Matching (document 01, "The walk", third paragraph): comparing a pair, looking at one node in a range check; and following one
 -- binding (request W-206). Pairs and nodes wait as the arguments of linked records; a position is a pointer and the number of an argument,
 -- in one number, 0 for none. No position is ever past the last argument: what comes then is the position that the record keeps. Once a
--- binding of the pair or the node that is due has been followed, its words are in hand: in the registers.
+-- binding of the pair or the node that is due has been followed, its words are in the registers.
 use Prim.Native.Nat.{ℕ, _+_, _-_, _*_, _/_, _%_, min}
 use mathlib.Core.Bool.{cond}
 use mathlib.Core.List.{List}

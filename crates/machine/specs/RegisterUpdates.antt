@@ -83,13 +83,13 @@ withMember r h c k p =
     registers (r .acts) (r .mode) (r .next) (r .trail) (r .choice) (r .goals) (r .path) (r .line) (r .node) (r .frame) (r .program)
     (r .level) h c k p (r .left) (r .right) (r .pairs) (r .nodes)
 
--- A pair is due, which stands as it waited.
+-- A pair is due, with the words that its record has.
 unfoldable pub withPairs : Registers → ℕ → Registers
 withPairs r a =
     registers (r .acts) compareMode (r .next) (r .trail) (r .choice) (r .goals) (r .path) (r .line) (r .node) (r .frame) (r .program)
     (r .level) (r .hypothesis) (r .clause) (r .member) (r .place) 0 (r .right) a (r .nodes)
 
--- The words in hand of the pair that is due.
+-- The words of the pair that is due, after a binding has been followed.
 unfoldable pub withSides : Registers → ℕ → ℕ → Registers
 withSides r x y =
     registers (r .acts) (r .mode) (r .next) (r .trail) (r .choice) (r .goals) (r .path) (r .line) (r .node) (r .frame) (r .program)
@@ -101,7 +101,7 @@ withCheck r a x v =
     registers (r .acts) checkMode (r .next) (r .trail) (r .choice) (r .goals) (r .path) (r .line) v (r .frame) (r .program) (r .level)
     (r .hypothesis) (r .clause) (r .member) (r .place) x v a 0
 
--- The word in hand of the node of a range check that is due.
+-- The word of the node of a range check that is due, after a binding has been followed.
 unfoldable pub withDue : Registers → ℕ → Registers
 withDue r x =
     registers (r .acts) (r .mode) (r .next) (r .trail) (r .choice) (r .goals) (r .path) (r .line) x (r .frame) (r .program) (r .level)

@@ -19,8 +19,8 @@ pub struct Registers {
     pub path: u32,
     // Which line the latest record of the path is (module `lines`).
     pub line: u32,
-    // The goal to take, or the atom whose members are tried: node, frame, assumptions, level. In a range check node is the word in hand of
-    // the node that is due, 0 where it stands as it waited.
+    // The goal to take, or the atom whose members are tried: node, frame, assumptions, level. In a range check node is the word of the
+    // node that is due, as far as it is looked through, 0 while that is the word which its record has.
     pub node: u32,
     pub frame: u32,
     pub program: u32,
@@ -30,8 +30,8 @@ pub struct Registers {
     pub clause: u32,
     pub member: u32,
     pub place: u32,
-    // The words in hand of the pair that is due, goal's side and clause's side; left is 0 where they stand as they waited. In a range
-    // check: the variable to be bound, and its value.
+    // The words of the pair that is due, goal's side and clause's side, as far as they are looked through; left is 0 while they are those
+    // which its record has. In a range check: the variable to be bound, and its value.
     pub left: u32,
     pub right: u32,
     // The pairs that wait, the first of them due in a comparison.

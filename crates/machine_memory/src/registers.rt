@@ -102,7 +102,7 @@ pub fn with_member(r: Registers, h: u32, c: u32, k: u32, p: u32) -> Registers
     s
 }
 
-// A pair is due, which stands as it waited.
+// A pair is due, with the words that its record has.
 pub fn with_pairs(r: Registers, a: u32) -> Registers
     ensures { λ s. ⌜ s ≡ withPairs r a ⌝ }
 {
@@ -113,7 +113,7 @@ pub fn with_pairs(r: Registers, a: u32) -> Registers
     s
 }
 
-// A binding of the pair that is due has been followed (request W-206): its words are in hand.
+// A binding of the pair that is due has been followed (request W-206): these are its words now.
 pub fn with_sides(r: Registers, x: u32, y: u32) -> Registers
     ensures { λ s. ⌜ s ≡ withSides r x y ⌝ }
 {
@@ -137,7 +137,7 @@ pub fn with_check(r: Registers, a: u32, x: u32, v: u32) -> Registers
     s
 }
 
-// A binding of the node of a range check that is due has been followed (request W-206): its word is in hand.
+// A binding of the node of a range check that is due has been followed (request W-206): this is its word now.
 pub fn with_due(r: Registers, x: u32) -> Registers
     ensures { λ s. ⌜ s ≡ withDue r x ⌝ }
 {

@@ -69,7 +69,7 @@ pub fn compare_words(t: &[u32], w: &mut [u32], r: Registers, e: u32, x: u32, y: 
     compare_closures(t, w, r, e, x, y)
 }
 
-// The words of the pair that is due: in hand once a binding of it has been followed, else those that wait.
+// The words of the pair that is due: in the registers once a binding of it has been followed, else in its record.
 pub fn left_word(t: &[u32], w: &[u32], r: Registers) -> u32
     ensures { λ a. ⌜ a ≡ leftWord (now (t .entry)) (now (w .entry)) r ⌝ }
 {

@@ -44,7 +44,7 @@ pub fn visit_word(t: &[u32], w: &mut [u32], r: Registers, e: u32, x: u32) -> Reg
     visit_closure(t, w, r, e, x)
 }
 
-// The word of the node that is due: in hand where it is the whole value or a binding of it has been followed, else the one that waits.
+// The word of the node that is due: in a register where it is the whole value or a binding of it has been followed, else in its record.
 pub fn due_word(t: &[u32], w: &[u32], r: Registers) -> u32
     ensures { λ a. ⌜ a ≡ dueWord (now (t .entry)) (now (w .entry)) r ⌝ }
 {

@@ -82,10 +82,6 @@ follow-below bs t u n h e =
     follow-holds (λ v w. Leaves w (Below n)) bs t u
     (all-weaken (BelowBinding n) (λ b. Leaves (b .value) (Below n)) (λ b k. k .1) bs h) e
 
-pub binding-below : (bs : List Binding) (n x : ℕ) (t : Term Leaf) → All (BelowBinding n) bs → binding bs x ≡ some t → Leaves t (Below n)
-unfolding follow
-binding-below bs n x t h e = follow-below bs (leaf (var x)) t n h e
-
 -- Where no binding is left to follow, the term is looked through.
 pub follow-none : (bs : List Binding) (t : Term Leaf) → follow bs t ≡ none → look bs t ≡ t
 unfolding follow binding look look1

@@ -7,9 +7,9 @@ use native.Mathlib.Omega.{arith}
 use lib.Dec.{eqb}
 use borrow.Author.Tests.{eqb-true, eq-eqb, ne-eqb}
 use Rattle.terms.specs.Lists.{All}
-use Rattle.terms.specs.Terms.{Term, leaf, app, Leaves}
+use Rattle.terms.specs.Terms.{Term, leaf, app}
 use Rattle.unification.specs.Store.{Leaf, var, con, Binding, look1, look}
-use Rattle.unification.specs.Promises.{Below, BelowBinding, Unbound}
+use Rattle.unification.specs.Promises.{BelowBinding, Unbound}
 
 -- A binding leaves everything but its variable alone.
 pub look1-other : (t : Term Leaf) (b : Binding) → (t ≡ leaf (var (b .name)) → ⊥) → look1 t b ≡ t
@@ -21,22 +21,6 @@ look1-other (leaf (var x)) b h = go (eqb x (b .name)) refl
     go false e = refl
 look1-other (leaf (con c k)) b h = refl
 look1-other (app f ts) b h = refl
-
--- Variables stay below n.
-pub look1-below : (t : Term Leaf) (b : Binding) (n : ℕ) → BelowBinding n b → Leaves t (Below n) → Leaves (look1 t b) (Below n)
-unfolding look1 Leaves Below
-look1-below (leaf (var x)) b n h k = go (eqb x (b .name))
-  where
-    go : (c : Bool) → Leaves (cond c (b .value) (leaf (var x))) (Below n)
-    go true = h .1
-    go false = k
-look1-below (leaf (con c j)) b n h k = tt
-look1-below (app f ts) b n h k = k
-
-pub look-below : (bs : List Binding) (t : Term Leaf) (n : ℕ) → All (BelowBinding n) bs → Leaves t (Below n) → Leaves (look bs t) (Below n)
-unfolding look
-look-below [] t n h k = k
-look-below (b ∷ bs) t n h k = look1-below (look bs t) b n (h .0) (look-below bs t n (h .1) k)
 
 -- What another variable's binding leaves unbound.
 pub unbound-bind : (b : Binding) (bs : List Binding) (x : ℕ) → Unbound bs x → (x ≡ b .name → ⊥) → Unbound (b ∷ bs) x
