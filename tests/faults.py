@@ -28,7 +28,7 @@ SECONDS = 300
 NOT_TOLD_APART = {"engine_clauses_side_first"}
 
 # The wrong programs of document 01 itself ("What a hurried programmer would do", "What the desk may rely on", c), two that show in the
-# text alone, and those of W-201, W-204 and W-206: the stored cases or texts must tell them apart too.
+# text alone, and those of W-201, W-204, W-206 and W-207: the stored cases or texts must tell them apart too.
 LISTED = {
     "engine_spent_at_once",
     "engine_units_off_by_one",
@@ -110,6 +110,42 @@ LISTED = {
     "engine_root_paid_twice",
     "engine_sides_exchanged",
     "engine_two_bindings_for_one_unit",
+    "assumptions_before_the_sheet",
+    "checker_members_reversed_by_default",
+    "checker_members_reversed_by_o_latest",
+    "checker_o_latest_ignored",
+    "checker_places_among_assumptions",
+    "checker_places_from_the_other_end",
+    "engine_members_reversed_by_default",
+    "engine_members_reversed_by_o_latest",
+    "engine_o_latest_ignored",
+    "engine_places_among_assumptions",
+    "engine_places_from_the_other_end",
+    "engine_places_of_the_other_order",
+    "latest_first_after_the_sheet",
+    "latest_first_by_default",
+    "o_latest_after_the_sheet",
+    "o_latest_oldest_first",
+    "o_letter_small",
+    "o_line_after_q_accepted",
+    "o_line_after_q_under_6",
+    "o_line_anywhere",
+    "o_line_before_the_q_line",
+    "o_line_folded",
+    "o_line_in_line_2",
+    "o_line_makes_a_node",
+    "o_line_makes_a_symbol",
+    "o_line_not_counted",
+    "o_line_refused",
+    "o_line_refused_under_11",
+    "o_line_shorter_word",
+    "o_line_twice",
+    "o_line_with_another_word",
+    "o_line_with_more",
+    "o_line_without_lf",
+    "o_line_without_word",
+    "o_oldest_accepted",
+    "orders_exchanged",
 }
 
 # These find proofs where there are none, and the checker must turn them down. Without the occurs check a false proof holds an endless
@@ -124,7 +160,7 @@ UNSOUND = {
 }
 
 # The files in which an edit can make the engine find such proofs.
-SEARCH = {"src/formula.rs", "src/search.rs", "src/unification.rs"}
+SEARCH = {"src/formula.rs", "src/program.rs", "src/search.rs", "src/unification.rs"}
 
 
 class Failure(Exception):

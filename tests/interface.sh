@@ -48,7 +48,7 @@ members() {
     printf 'C\t%d\nQ\t0\n' $(($1 - 1))
 }
 
-# Document 01, "Rehearsed sheets": budgets, the answer buffer, limits; two examples of docs/SHEETS.md. The others are stored cases.
+# Document 01, "Rehearsed sheets": budgets, the answer buffer, limits; examples of README.md and docs/SHEETS.md. The others are stored cases.
 strobe=examples/strobe.sheet
 proved='R\tproved\t3\nD\tclause\t1\nvalid\n'
 expect_text "$proved" $strobe 3
@@ -62,6 +62,20 @@ expect_text 'X\t3\t0\n' $strobe 0
 expect_text 'X\t11\t1\n' "$work/empty"
 expect_text 'R\tproved\t11\nB\t0\tSTROBE\nB\t1\tOld_Vic\nD\tclause\t1\tOld_Vic\nD\tclause\t2\nvalid\n' examples/capitals.sheet
 expect_text 'R\tproved\t31\nB\t0\t514\nD\tclause\t1\t514\t7\nD\tand\nD\tclause\t3\nD\tclause\t4\nvalid\n' examples/channels.sheet
+# Request W-207: the house's rules come before suppositions, and with `O latest` after them.
+for example in house doors; do
+    (printf 'O\tlatest\n' && cat "examples/$example.sheet") >"$work/$example"
+done
+expect_text 'R\tproved\t13\nD\tclause\t1\nD\tall\t!0@1\nD\tassume\nD\tclause\t2\nD\tclause\t3\nvalid\n' examples/house.sheet
+expect_text 'R\tproved\t15\nD\tclause\t1\nD\tall\t!0@1\nD\tassume\nD\tclause\t3\nD\tclause\t4\nvalid\n' "$work/house"
+# doors UNITS PLACE PLACE PLACE SHEET: the places are those of the rules used under the supposition.
+doors() {
+    local first="R\tproved\t$1\nB\t0\tcue_12\nD\tclause\t1\tcue_12\nD\tand\nD\tclause\t6\nD\tall\t!0@1\nD\tassume\nD\tsome\twarning\n"
+    local second="D\tand\nD\tclause\t$2\t!0@1\nD\tclause\t$3\twarning\nD\tright\nD\tsome\t_0@1\nD\tclause\t$4\t_0@1\nvalid\n"
+    expect_text "$first$second" "$5"
+}
+doors 56 4 2 5 examples/doors.sheet
+doors 59 5 3 6 "$work/doors"
 # Request W-204: a unit for each of the five nodes of g(1,g(2,3)).
 expect_text 'R\tspent\t9\n' tests/cases/w204_range_check_through_n.sheet 9
 members 64 >"$work/members64"

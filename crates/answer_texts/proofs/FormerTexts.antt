@@ -16,7 +16,7 @@ use Rattle.search.proofs.Formed.{Arities, FormedTerm, FormedTerms, SheetName, F
 use Rattle.search.proofs.FormedStores.{SymbolUpTo}
 use Rattle.search.proofs.Bounds.{ShownUpTo, proved-bounds}
 use Rattle.sheet_format.specs.Nodes.{Declaration}
-use Rattle.sheet_format.specs.Sheets.{Sheet}
+use Rattle.sheet_format.specs.Sheets.{Sheet, rulesOf}
 use Rattle.sheet_format.proofs.Formed.{FormedTerm as SheetTerm, FormedTerms as SheetTerms, FormedGoal as SheetGoal, FormedClause as SheetClause}
 use Rattle.sheet_format.proofs.Good.{Good}
 use Rattle.sheet_format.proofs.Numberless.{NumberlessGoal, NumberlessClause}
@@ -102,9 +102,9 @@ answer-numberless n vs e ls h k = (
 
 -- The lines of a proved search over such a sheet.
 pub lines-numberless : (s : Sheet) → Good s → All NumberlessClause (s .clauses) × NumberlessGoal (s .goal)
-    → (budget n : ℕ) (store : Store) (path : List (Line Leaf)) → search budget (s .clauses) (s .goal) ≡ ends (proved store path) n
+    → (budget n : ℕ) (store : Store) (path : List (Line Leaf)) → search budget (rulesOf s) (s .goal) ≡ ends (proved store path) n
     → All (λ x. All Numberless (termsOf x)) (answerLines n (freeVariables (s .goal)) (finalEnvironment store) (finalLines store path))
 lines-numberless s good h budget n store path e =
     answer-numberless n (freeVariables (s .goal)) (finalEnvironment store) (finalLines store path) (names-free (s .goal))
-    (proved-bounds symbolic (s .clauses) (s .goal) (clauses-symbolic (s .symbols) (s .clauses) (good .clausesFormed) (h .0))
+    (proved-bounds symbolic (rulesOf s) (s .goal) (clauses-symbolic (s .symbols) (s .clauses) (good .clausesFormed) (h .0))
     (goal-symbolic (s .symbols) (s .goal) (good .goalFormed) (h .1)) budget n store path e)

@@ -20,7 +20,7 @@ use Rattle.search.proofs.Formed.{FormedClause}
 use Rattle.search.proofs.Bounds.{proved-bounds, proved-least}
 use Rattle.search.proofs.Promises.{units, derivationSteps, soundness}
 use Rattle.sheet_format.specs.Limits.{maxBudget, maxTextBytes}
-use Rattle.sheet_format.specs.Sheets.{Sheet}
+use Rattle.sheet_format.specs.Sheets.{Sheet, rulesOf}
 use Rattle.sheet_format.proofs.Formed.{FormedClause as SheetClause}
 use Rattle.sheet_format.proofs.Good.{Good, good}
 use Rattle.sheet_format.proofs.Numberless.{numberless-sheet}
@@ -39,7 +39,7 @@ searchLines s store path n = answerLines n (freeVariables (s .goal)) (finalEnvir
 
 -- The lines of a proved search's text can be written, within the limits.
 lines-writable : (s : Sheet) → Good s → (budget n : ℕ) (store : Store) (path : List (Line Leaf)) → n ≤ maxBudget
-    → search budget (s .clauses) (s .goal) ≡ ends (proved store path) n
+    → search budget (rulesOf s) (s .goal) ≡ ends (proved store path) n
     → length (searchText s store path n) ≤ maxTextBytes → All (Writable (s .symbols)) (numbered (searchLines s store path n))
 unfolding searchText numbered
 lines-writable s well budget n store path few e short =
@@ -49,18 +49,18 @@ lines-writable s well budget n store path few e short =
     answer-writable ds (numberingOf (shown (searchLines s store path n))) n (omega arith)
     (numbers-le ds (searchLines s store path n) maxTextBytes short) (freeVariables (s .goal))
     (finalEnvironment store) (finalLines store path) (names-free (s .goal))
-    (proved-bounds (declared ds) (s .clauses) (s .goal) clauses (sheet-goal (s .goal) ds (well .goalFormed)) budget n store path e)
+    (proved-bounds (declared ds) (rulesOf s) (s .goal) clauses (sheet-goal (s .goal) ds (well .goalFormed)) budget n store path e)
 
 -- T5: they are those of a derivation of the instance that the final values give.
 pub textSound : TextSound
 unfolding searchText
 textSound bytes s read budget n store path few e short =
-    let sound = soundness (s .clauses) (s .goal) budget n store path e in
-    let tree = trees (instanceOf (s .clauses) (s .goal) (finalEnvironment store)) .lines-tree (finalLines store path) (sound .derives) in
-    let most : n ≤ maxBudget = (let l = units (s .clauses) (s .goal) .tells budget n (proved store path) .0 e .1 in omega arith) in
+    let sound = soundness (rulesOf s) (s .goal) budget n store path e in
+    let tree = trees (instanceOf (rulesOf s) (s .goal) (finalEnvironment store)) .lines-tree (finalLines store path) (sound .derives) in
+    let most : n ≤ maxBudget = (let l = units (rulesOf s) (s .goal) .tells budget n (proved store path) .0 e .1 in omega arith) in
     record {
       units = n;
-      least = proved-least (s .clauses) (s .goal) budget n store path e;
+      least = proved-least (rulesOf s) (s .goal) budget n store path e;
       most = most;
       environment = finalEnvironment store;
       proof = record { level0 = λ v f. sound .level0 v; derivation = tree .0 };
@@ -76,8 +76,8 @@ pub textAsBefore : TextAsBefore
 unfolding searchText textSound finalEnvironment
 textAsBefore bytes s read h budget n store path few e short =
     let t = textSound bytes s read budget n store path few e short in
-    let sound = soundness (s .clauses) (s .goal) budget n store path e in
-    let tree = trees (instanceOf (s .clauses) (s .goal) (finalEnvironment store)) .lines-tree (finalLines store path) (sound .derives) in
+    let sound = soundness (rulesOf s) (s .goal) budget n store path e in
+    let tree = trees (instanceOf (rulesOf s) (s .goal) (finalEnvironment store)) .lines-tree (finalLines store path) (sound .derives) in
     record {
       spells = t;
       numberless =
@@ -90,7 +90,7 @@ textAsBefore bytes s read h budget n store path few e short =
 pub textFollows : TextFollows
 unfolding searchText finalEnvironment finalLines
 textFollows s budget n store path e =
-    let d = derivationSteps (s .clauses) (s .goal) .derivation budget n store path e in
+    let d = derivationSteps (rulesOf s) (s .goal) .derivation budget n store path e in
     let q : answerOf (d .0 .sequence) ≡ final store = fun-ext (d .1) in
     record {
       path = path;

@@ -31,4 +31,4 @@ abbrev pub smallNames : List Declaration → List Declaration
 smallNames ds = map smallDeclaration ds
 
 unfoldable pub smallSheet : Sheet → Sheet
-smallSheet s = record { symbols = smallNames (s .symbols); clauses = s .clauses; goal = s .goal }
+smallSheet s = record { order = s .order; symbols = smallNames (s .symbols); clauses = s .clauses; goal = s .goal }

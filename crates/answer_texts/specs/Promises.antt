@@ -16,7 +16,7 @@ use Rattle.search.specs.Procedure.{State, DerivationSequence, answerOf, initial
 use Rattle.sheet_format.specs.Limits.{maxNumber, maxBudget, maxTextBytes}
 use Rattle.sheet_format.specs.Bytes.{decimal}
 use Rattle.sheet_format.specs.Nodes.{Declaration}
-use Rattle.sheet_format.specs.Sheets.{Sheet, sheet, readSheet}
+use Rattle.sheet_format.specs.Sheets.{Sheet, rulesOf, sheet, readSheet}
 use Rattle.sheet_format.specs.FormerLines.{WithoutNumberLines}
 use Rattle.answer_texts.specs.TextLines.{answerLines}
 use Rattle.answer_texts.specs.Spelling.{spellTerm, proofText}
@@ -32,14 +32,14 @@ searchText s store path units =
 abbrev pub TextSound : Type 0
 TextSound = (bytes : List ℕ) (s : Sheet) → readSheet bytes ≡ sheet s
     → (budget n : ℕ) (store : Store) (path : List (Line Leaf)) → budget ≤ maxBudget
-    → search budget (s .clauses) (s .goal) ≡ ends (proved store path) n
+    → search budget (rulesOf s) (s .goal) ≡ ends (proved store path) n
     → length (searchText s store path n) ≤ maxTextBytes → SpellsAsDeclared s (searchText s store path n)
 
 -- Request W-204: over a sheet without N lines the text of a proved search holds no number as a term, so that it is one of those before.
 abbrev pub TextAsBefore : Type 0
 TextAsBefore = (bytes : List ℕ) (s : Sheet) → readSheet bytes ≡ sheet s → WithoutNumberLines bytes
     → (budget n : ℕ) (store : Store) (path : List (Line Leaf)) → budget ≤ maxBudget
-    → search budget (s .clauses) (s .goal) ≡ ends (proved store path) n
+    → search budget (rulesOf s) (s .goal) ≡ ends (proved store path) n
     → length (searchText s store path n) ≤ maxTextBytes → SpellsBefore (λ a b. a ≡ b) s (searchText s store path n)
 
 -- Request W-204: a number is written in base ten, up to 65,535, whatever the sheet declares, and has level 0.
@@ -56,11 +56,11 @@ NumbersWritten = (ds : List Declaration) (n : ℕ) → NumberWritten ds n
 pub record DerivesText (s : Sheet) (units : ℕ) (text : List ℕ) : Type 0 where
   pub path : List (Line Leaf)
   pub state : State
-  pub sequence : DerivationSequence (initial (s .clauses) (s .goal)) path state
+  pub sequence : DerivationSequence (initial (rulesOf s) (s .goal)) path state
   pub finished : state .goals ≡ []
   pub spelled : text ≡ proofText (s .symbols) (answerLines units (freeVariables (s .goal))
       (putEnvironment (answerOf sequence) startEnvironment) (map (putLine (answerOf sequence)) (reverse path)))
 
 abbrev pub TextFollows : Type 0
 TextFollows = (s : Sheet) (budget n : ℕ) (store : Store) (path : List (Line Leaf))
-    → search budget (s .clauses) (s .goal) ≡ ends (proved store path) n → DerivesText s n (searchText s store path n)
+    → search budget (rulesOf s) (s .goal) ≡ ends (proved store path) n → DerivesText s n (searchText s store path n)

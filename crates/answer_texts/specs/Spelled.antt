@@ -17,7 +17,7 @@ use Rattle.sequents.specs.Lines.{Infers}
 use Rattle.sheet_format.specs.Limits.{maxNumber, maxBudget}
 use Rattle.sheet_format.specs.Bytes.{linesOf, lf}
 use Rattle.sheet_format.specs.Nodes.{Declaration}
-use Rattle.sheet_format.specs.Sheets.{Sheet}
+use Rattle.sheet_format.specs.Sheets.{Sheet, rulesOf}
 use Rattle.answer_texts.specs.TextLines.{TextLine, resultLine, bindingLine, derivationLine, answerLines}
 use Rattle.answer_texts.specs.Numbering.{numbered}
 use Rattle.answer_texts.specs.Spelling.{spell, proofText}
@@ -65,7 +65,7 @@ pub record SpellsBy (same : List ℕ → List ℕ → Type 0) (s : Sheet) (text 
   pub least : 1 ≤ units
   pub most : units ≤ maxBudget
   pub environment : Environment Symbol
-  pub proof : InstanceDerivation (s .clauses) (s .goal) environment
+  pub proof : InstanceDerivation (rulesOf s) (s .goal) environment
   pub writable : All (Writable (s .symbols))
       (numbered (answerLines units (freeVariables (s .goal)) environment (lines (proof .derivation))))
   pub spelled : same text (proofText (s .symbols) (answerLines units (freeVariables (s .goal)) environment (lines (proof .derivation))))
@@ -87,7 +87,7 @@ pub data Stage : Type 0 where
 
 -- Where no B line is due, the instance is to be derived.
 unfoldable pub boundStage : Sheet → List ℕ → Environment Symbol → Stage
-boundStage s [] e = sequents (instanceOf (s .clauses) (s .goal) e ∷ [])
+boundStage s [] e = sequents (instanceOf (rulesOf s) (s .goal) e ∷ [])
 boundStage s (v ∷ vs) e = bindings (v ∷ vs) e
 
 -- Before the B lines; no name that stands free keeps this value.

@@ -2,3 +2,4 @@ pub mod Exact
 pub mod Passed
 pub mod Callers
 pub mod Promises
+pub mod Orders

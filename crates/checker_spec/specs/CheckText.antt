@@ -25,14 +25,17 @@ unfoldable pub checkSheet : List ℕ → Read → Checked
 checkSheet text (refused r) = checkRefused r
 checkSheet text (sheet s) = judged (judge s text)
 
--- The sheet's bytes, the text's, the lengths of table and work buffer.
-unfoldable pub checkText : List ℕ → List ℕ → ℕ → ℕ → Checked
-checkText bytes text tableLength workLength =
+-- How sheets are read, the sheet's bytes, the text's, the lengths of table and work buffer.
+abbrev pub checkTextBy : (List ℕ → Read) → List ℕ → List ℕ → ℕ → ℕ → Checked
+checkTextBy reads bytes text tableLength workLength =
     turnBackIf checkRefused (ltb maxSheetBytes (length bytes)) 1
     (turnBackIf checkRefused (ltb tableLength tableNumbers) 2
     (turnBackIf checkRefused (ltb maxTextBytes (length text)) 4
     (turnBackIf checkRefused (ltb workLength (demanded (countLf text))) 5
-    (checkSheet text (readSheet bytes)))))
+    (checkSheet text (reads bytes)))))
+
+unfoldable pub checkText : List ℕ → List ℕ → ℕ → ℕ → Checked
+checkText bytes text tableLength workLength = checkTextBy readSheet bytes text tableLength workLength
 
 -- "On 1 to 5 no buffer changes. Past 5, refused or not, the first 8,192 numbers of the table and the demanded part of the work
 -- buffer are zero at the end, the rest of both unchanged."

@@ -2,6 +2,7 @@
 pub mod open_sequents;
 pub mod places;
 pub mod registers;
+pub mod starts;
 
 // What the table of the sheet has: how many symbols and clauses, and the node of the goal.
 pub struct Shape {

@@ -53,11 +53,12 @@ pub fn next_sequent(w: &[u32], r: Registers) -> Registers
     open_sequent(w, r, rest - 1)
 }
 
-// A hypothesis, in record q.
-pub fn put_hypothesis(w: &mut [u32], q: u32, node: u32, frame: u32, next: u32)
-    ensures { λ _. ⌜ now (w .exit) ≡ putHypothesis (now (w .entry)) q node frame next ⌝ }
+// A hypothesis, in record q, with its start (request W-207).
+pub fn put_hypothesis(w: &mut [u32], q: u32, node: u32, frame: u32, next: u32, start: u32)
+    ensures { λ _. ⌜ now (w .exit) ≡ putHypothesis (now (w .entry)) q node frame next start ⌝ }
 {
     put_field(w, q, fields::HYPOTHESIS_NODE, node);
     put_field(w, q, fields::HYPOTHESIS_FRAME, frame);
     put_field(w, q, fields::HYPOTHESIS_NEXT, next);
+    put_field(w, q, fields::HYPOTHESIS_START, start);
 }

@@ -20,27 +20,35 @@ ghost use Rattle.machine.specs.Words.{increment};
 ghost use Rattle.machine.specs.Backchaining.{tried, tryMember, tryFound, tryNext};
 ghost use Rattle.machine.specs.Machine.{act};
 
-// The predicates agree: the argument pairs are due.
-pub fn try_member(t: &[u32], c: u32, w: &mut [u32], r: Registers, m: Found) -> Registers
-    ensures { λ s. ⌜ made (now (w .exit)) s ≡ tryMember (now (t .entry)) c (now (w .entry)) r m ⌝ }
+// The predicates agree: the argument pairs are due; next are the registers at the next member.
+pub fn try_member(
+    t: &[u32],
+    c: u32,
+    w: &mut [u32],
+    r: Registers,
+    m: Found,
+    next: Registers,
+) -> Registers
+    ensures { λ s. ⌜ made (now (w .exit)) s ≡ tryMember (now (t .entry)) c (now (w .entry)) r m next ⌝ }
 {
     let u = r.acts;
-    let s = next_member(t, w, r);
     put_prefix(w, r, m);
-    put_try(t, c, w, r, m, s);
+    put_try(t, c, w, r, m, next);
     let p = increment(u);
     put_pairs(w, u, r.node, r.frame, head_of(t, m.leaf), p, 0);
-    due_pairs(w, tried(t, c, r, m, s), pairs_from(t, w, p, 0))
+    due_pairs(w, tried(t, c, r, m, next), pairs_from(t, w, p, 0))
 }
 
 // First the predicates are compared; if they differ the try fails, and the next member is due.
 pub fn try_found(t: &[u32], c: u32, w: &mut [u32], r: Registers, m: Found) -> Registers
     ensures { λ s. ⌜ made (now (w .exit)) s ≡ tryFound (now (t .entry)) c (now (w .entry)) r m ⌝ }
 {
+    // One call for both ends of the try keeps the next member in this function.
+    let next = next_member(t, c, w, r);
     if label(t, r.node) == label(t, head_of(t, m.leaf)) {
-        return try_member(t, c, w, r, m);
+        return try_member(t, c, w, r, m, next);
     }
-    try_from(c, w, next_member(t, w, r))
+    try_from(c, w, next)
 }
 
 // One act: the member that is due.

@@ -1,19 +1,24 @@
 // The member that is due for an atom, the one after it, and its prefix. Each function is a definition of the crate machine, and its
 // contract says so.
 use clause_members::Found;
+use goal_acts::trying_order::from_clause;
 use machine::Registers;
 use machine::fields;
+use machine_memory::assumption_chains::later_of;
+use machine_memory::assumption_chains::parent_of;
 use machine_memory::frames::copy_frame;
 use machine_memory::frames::put_fresh;
 use machine_memory::registers::with_member;
 use machine_memory::words::increment;
 use memory::field;
 use node_table::clause_node;
+use node_table::layout;
 use node_table::members;
+use node_table::order_number;
 use sheet_format::limits;
 ghost use mathlib.Core.Path.{_≡_};
 ghost use Rattle.machine.specs.Words.{increment};
-ghost use Rattle.machine.specs.Backchaining.{clauseOf, clauseFrame, nextClause, nextMember, putPrefix};
+ghost use Rattle.machine.specs.Backchaining.{clauseOf, clauseFrame, afterAssumption, nextClause, nextMember, putPrefix};
 
 // The clause whose member is due: its node and its frame.
 pub fn clause_of(t: &[u32], w: &[u32], r: Registers) -> u32
@@ -36,27 +41,37 @@ pub fn clause_frame(w: &[u32], r: Registers) -> u32
     field(w, h - 1, fields::ASSUMPTION_FRAME)
 }
 
-// At the first member of the clause after it.
-pub fn next_clause(w: &[u32], r: Registers) -> Registers
-    ensures { λ s. ⌜ s ≡ nextClause (now (w .entry)) r ⌝ }
+// After an assumption: by default the one made after it, with `O latest` the one made before it or else the sheet's first clause
+// (request W-207); p is the place of the member.
+pub fn after_assumption(t: &[u32], c: u32, w: &[u32], r: Registers, p: u32) -> Registers
+    ensures { λ s. ⌜ s ≡ afterAssumption (now (t .entry)) c (now (w .entry)) r p ⌝ }
 {
-    let h = r.hypothesis;
-    let place = increment(r.place);
-    if h == 0 {
-        return with_member(r, 0, increment(r.clause), 0, place);
+    if order_number(t) == layout::DEFAULT_ORDER {
+        return with_member(r, later_of(w, r.program, r.hypothesis), c, 0, p);
     }
-    with_member(r, field(w, h - 1, fields::ASSUMPTION_NEXT), 0, 0, place)
+    with_member(r, parent_of(w, r.hypothesis), 0, 0, p)
+}
+
+// At the first member of the clause after it.
+pub fn next_clause(t: &[u32], c: u32, w: &[u32], r: Registers) -> Registers
+    ensures { λ s. ⌜ s ≡ nextClause (now (t .entry)) c (now (w .entry)) r ⌝ }
+{
+    let place = increment(r.place);
+    if r.hypothesis == 0 {
+        return from_clause(t, c, w, r, increment(r.clause), place);
+    }
+    after_assumption(t, c, w, r, place)
 }
 
 // At the member after it.
-pub fn next_member(t: &[u32], w: &[u32], r: Registers) -> Registers
-    ensures { λ s. ⌜ s ≡ nextMember (now (t .entry)) (now (w .entry)) r ⌝ }
+pub fn next_member(t: &[u32], c: u32, w: &[u32], r: Registers) -> Registers
+    ensures { λ s. ⌜ s ≡ nextMember (now (t .entry)) c (now (w .entry)) r ⌝ }
 {
     let k = increment(r.member);
     if k < members(t, clause_of(t, w, r)) {
         return with_member(r, r.hypothesis, r.clause, k, increment(r.place));
     }
-    next_clause(w, r)
+    next_clause(t, c, w, r)
 }
 
 // The frame of the try: the clause's, with fresh variables of the goal's level for the prefix of the member.

@@ -16,7 +16,7 @@ use Rattle.search.specs.Search.{proved, noProof, ends, spent, search}
 use Rattle.search.specs.Search.{SearchOutcome}
 use Rattle.sheet_format.specs.Limits.{maxBudget, maxTextBytes}
 use Rattle.sheet_format.specs.Buffers.{demanded}
-use Rattle.sheet_format.specs.Sheets.{Sheet}
+use Rattle.sheet_format.specs.Sheets.{Sheet, rulesOf}
 use Rattle.node_table.specs.Decoding.{decodeSheet}
 use Rattle.node_table.specs.WellMade.{WellMade, Named}
 use Rattle.table_builder.specs.declared.node_info.Counts.{Counts}
@@ -112,7 +112,7 @@ module _ (bytes t : List ℕ) (k : Counts) (goal : ℕ) (table : WellMade t (k .
       (told-comes Proved reportedProved a text out refl refl refl)))
 
   -- Each outcome of the search is told and written.
-  outcome-told : (o : SearchOutcome) → search budget (s .clauses) (s .goal) ≡ o → Reports t m o
+  outcome-told : (o : SearchOutcome) → search budget (rulesOf s) (s .goal) ≡ o → Reports t m o
       → Comes out (reportOutcome bytes t goal budget m out) (fit (length out) (answerTo s budget o))
   unfolding Reports reportOutcome answerTo demanded decodeSheet s m outcomeNumber outcomeCode refusalNumber refusalLine
   outcome-told (ends (proved st path) n) q h =
@@ -128,10 +128,10 @@ module _ (bytes t : List ℕ) (k : Counts) (goal : ℕ) (table : WellMade t (k .
       ) (told-comes Spent reportedSpent budget (spentText budget) out refl refl refl)
 
   search-told : Comes out (reportOutcome bytes t goal budget m out)
-      (fit (length out) (answerTo s budget (search budget (s .clauses) (s .goal))))
+      (fit (length out) (answerTo s budget (search budget (rulesOf s) (s .goal))))
   unfolding s m demanded
   search-told =
-      outcome-told (search budget (s .clauses) (s .goal)) refl
+      outcome-told (search budget (rulesOf s) (s .goal)) refl
       (machineReports bytes t (k .symbols) (k .nodes) (k .clauses) goal s (record { made = table; decoded = refl }) budget few w room)
 
 -- A sheet that was read: what is told of the search.
@@ -144,7 +144,7 @@ sheet-answers bytes t t′ x k goal budget w out out′ r c e few room d =
     let g = subst
     (λ (y : Reply). Comes out y
     (fit (length out) (answerTo (decodeSheet bytes t′ (k .symbols) (k .clauses) goal) budget
-    (search budget (decodeSheet bytes t′ (k .symbols) (k .clauses) goal .clauses)
+    (search budget (rulesOf (decodeSheet bytes t′ (k .symbols) (k .clauses) goal))
     (decodeSheet bytes t′ (k .symbols) (k .clauses) goal .goal))))) (sym d)
     (search-told bytes t′ k goal (z .wellMade) (z .named) budget few w out room) in
     record { value = rw (z .read) (g .value); answerEnd = rw (z .read) (g .buffer) }

@@ -14,7 +14,7 @@ use Rattle.outcomes.specs.Outcomes.{outcomeCode, refusalNumber, refusalLine, re
 use Rattle.search.specs.Search.{search}
 use Rattle.sheet_format.specs.Limits.{maxSheetBytes, tableNumbers, maxBudget, maxTextBytes, numbersPerUnit}
 use Rattle.sheet_format.specs.Buffers.{demanded, zeroed}
-use Rattle.sheet_format.specs.Sheets.{refusal, Read, sheet, refused, readSheet, turnBackIf}
+use Rattle.sheet_format.specs.Sheets.{rulesOf, refusal, Read, sheet, refused, readSheet, turnBackIf}
 use Rattle.engine_spec.specs.EngineRun.{Answer, Result, answered, turnedBack, answerTo, fit, runSheet, engineRun, engineRunBy, isEarly}
 use Rattle.engine_spec.specs.EngineRun.{tableAfter, workAfter, answerAfter}
 use Rattle.engine_spec.specs.Promises.{handedBack, RunContract}
@@ -85,7 +85,7 @@ late bytes budget a = reads (readSheet bytes) refl
     reads : (x : Read) → readSheet bytes ≡ x → isEarly (runSheet budget a x) ≡ false
     reads (refused r) q = lt-leb (r .number) 5 (refused-late bytes r q)
     reads (sheet s) q =
-        let x = answerTo s budget (search budget (s .clauses) (s .goal)) in
+        let x = answerTo s budget (search budget (rulesOf s) (s .goal)) in
         fits (ltb maxTextBytes (length (x .text)) || ltb a (length (x .text))) x
 
 -- Turned back by sizes.

@@ -10,7 +10,7 @@ use lib.ListN.{length}
 use borrow.Author.Tests.{ltb-true, ltb-false, eqb-false, lt-ltb, le-ltb, eq-eqb, ne-eqb}
 use Rattle.search.specs.Search.{SearchOutcome, search}
 use Rattle.sheet_format.specs.Limits.{maxSheetBytes, tableNumbers, maxBudget, maxTextBytes}
-use Rattle.sheet_format.specs.Sheets.{Sheet, Refusal, refusal, Read, sheet, refused, readSheet, turnBackIf}
+use Rattle.sheet_format.specs.Sheets.{Sheet, rulesOf, Refusal, refusal, Read, sheet, refused, readSheet, turnBackIf}
 use Rattle.sheet_format.specs.Buffers.{demanded}
 use Rattle.engine_spec.specs.EngineRun.{Answer, Result, answered, turnedBack, answerTo, fit, runSheet, engineRun, engineRunBy}
 
@@ -29,7 +29,7 @@ pub record Answers (bytes : List ℕ) (budget t w a : ℕ) (x : Answer) : Type 0
   pub read : readSheet bytes ≡ sheet s
   pub textFits : length (x .text) ≤ maxTextBytes
   pub bufferFits : length (x .text) ≤ a
-  pub is : x ≡ answerTo s budget (search budget (s .clauses) (s .goal))
+  pub is : x ≡ answerTo s budget (search budget (rulesOf s) (s .goal))
 
 -- A refusal is no answer.
 refused-answered : (r : Refusal) (x : Answer) → turnedBack r ≡ answered x → ⊥
@@ -56,7 +56,7 @@ fit-answered a y x e = go (ltb maxTextBytes (length (y .text)) || ltb a (length 
     go false q e = let r = or-false _ _ q in (cc, ltb-false _ _ (r .0), ltb-false _ _ (r .1))
 
 runSheet-answered : (budget a : ℕ) (r : Read) (x : Answer) → runSheet budget a r ≡ answered x
-    → (s : Sheet) × (r ≡ sheet s) × (fit a (answerTo s budget (search budget (s .clauses) (s .goal))) ≡ answered x)
+    → (s : Sheet) × (r ≡ sheet s) × (fit a (answerTo s budget (search budget (rulesOf s) (s .goal))) ≡ answered x)
 unfolding runSheet
 runSheet-answered budget a (refused r) x e = absurd (refused-answered r x e)
 runSheet-answered budget a (sheet s) x e = (s, refl, e)
@@ -72,7 +72,7 @@ answered-answers bytes budget t w a x e =
     let g5 = passed-gate _ _ _ x (g3 .1) in
     let b = or-false (eqb budget 0) (ltb maxBudget budget) (g3 .0) in
     let q = runSheet-answered budget a (readSheet bytes) x (g5 .1) in
-    let f = fit-answered a (answerTo (q .0) budget (search budget (q .0 .clauses) (q .0 .goal))) x (q .2) in
+    let f = fit-answered a (answerTo (q .0) budget (search budget (rulesOf (q .0)) (q .0 .goal))) x (q .2) in
     record {
       passed = record {
         sheetFits = ltb-false _ _ (g1 .0);
@@ -91,7 +91,7 @@ answered-answers bytes budget t w a x e =
 -- A run whose sheet and budget pass ends with its answer, or with refusal 2, 5 or 12.
 pub passes : (bytes : List ℕ) (budget t w a : ℕ) (s : Sheet) → length bytes ≤ maxSheetBytes → 1 ≤ budget → budget ≤ maxBudget
     → readSheet bytes ≡ sheet s
-    → (engineRun bytes budget t w a ≡ answered (answerTo s budget (search budget (s .clauses) (s .goal))))
+    → (engineRun bytes budget t w a ≡ answered (answerTo s budget (search budget (rulesOf s) (s .goal))))
     ⊎ ((r : Refusal) × (engineRun bytes budget t w a ≡ turnedBack r) × ((r .number ≡ 2) ⊎ ((r .number ≡ 5) ⊎ (r .number ≡ 12))))
 unfolding engineRun engineRunBy turnBackIf runSheet fit
 passes bytes budget t w a s short least most read =
@@ -99,7 +99,7 @@ passes bytes budget t w a s short least most read =
     (table (ltb t tableNumbers))
   where
     y : Answer
-    y = answerTo s budget (search budget (s .clauses) (s .goal))
+    y = answerTo s budget (search budget (rulesOf s) (s .goal))
 
     Ends : Result → Type 0
     Ends o = (o ≡ answered y) ⊎ ((r : Refusal) × (o ≡ turnedBack r) × ((r .number ≡ 2) ⊎ ((r .number ≡ 5) ⊎ (r .number ≡ 12))))
@@ -118,9 +118,9 @@ passes bytes budget t w a s short least most read =
 
 -- A run with the buffers for it ends with its answer.
 pub passes-all : (bytes : List ℕ) (budget t w a : ℕ) (s : Sheet) → Passed bytes budget t w → readSheet bytes ≡ sheet s
-    → length (answerTo s budget (search budget (s .clauses) (s .goal)) .text) ≤ maxTextBytes
-    → length (answerTo s budget (search budget (s .clauses) (s .goal)) .text) ≤ a
-    → engineRun bytes budget t w a ≡ answered (answerTo s budget (search budget (s .clauses) (s .goal)))
+    → length (answerTo s budget (search budget (rulesOf s) (s .goal)) .text) ≤ maxTextBytes
+    → length (answerTo s budget (search budget (rulesOf s) (s .goal)) .text) ≤ a
+    → engineRun bytes budget t w a ≡ answered (answerTo s budget (search budget (rulesOf s) (s .goal)))
 unfolding engineRun engineRunBy turnBackIf runSheet fit
 passes-all bytes budget t w a s p read small room =
     let z = p .least in

@@ -7,7 +7,7 @@ use native.Mathlib.Omega.{arith}
 use lib.ListN.{length, take}
 use Rattle.search.specs.Search.{Verdict, proved, noProof, ComesTo, ends}
 use Rattle.search.proofs.Promises.{derivationSteps}
-use Rattle.sheet_format.specs.Sheets.{Sheet, Refusal, sheet, readSheet}
+use Rattle.sheet_format.specs.Sheets.{Sheet, rulesOf, Refusal, sheet, readSheet}
 use Rattle.answer_texts.specs.Spelled.{SpellsAsDeclared}
 use Rattle.engine_spec.specs.EngineRun.{Reported, reportedProved, reportedNo, reportedSpent, Answer, Result, answered, turnedBack}
 use Rattle.engine_spec.specs.EngineRun.{answerTo, engineRun, answerAfter}
@@ -124,7 +124,7 @@ module _ (bytes : List ℕ) (budget : ℕ) (table work answer table′ work′ a
         let p = demand bytes s read .comesTo budget (length table) (length work) (length answer) (q .0) (q .1)
         (not-spent _ (subst (λ (k : ℕ). k ≤ 1) (q .2 .outcome) h)) in (
           p .0,
-          subst (λ (k : ℕ). ComesTo (s .clauses) (s .goal) k (p .0)) (sym (q .2 .units)) (p .1),
+          subst (λ (k : ℕ). ComesTo (rulesOf s) (s .goal) k (p .0)) (sym (q .2 .units)) (p .1),
           q .2 .outcome
               ∙ ap (λ (y : Answer). outcomeNumber (y .outcome)) (p .2) ∙ verdict-number s budget (q .0 .units) (p .0),
           q .2 .text ∙ ap (λ (y : Answer). y .text) (p .2) ∙ ap (λ (k : ℕ). answerTo s budget (ends (p .0) k) .text) (sym (q .2 .units)),
@@ -139,7 +139,7 @@ module _ (bytes : List ℕ) (budget : ℕ) (table work answer table′ work′ a
         rw (q .2 .units, q .2 .text) (steps bytes s read .follows budget (length table) (length work) (length answer) (q .0) (q .1)
         (proved-number _ (sym (q .2 .outcome) ∙ h)));
     walked = λ s read h n l.
-        let d = derivationSteps (s .clauses) (s .goal) in
+        let d = derivationSteps (rulesOf s) (s .goal) in
         (d .formed n, d .follows n);
     spends = λ s read h.
         let q = the-answer h in

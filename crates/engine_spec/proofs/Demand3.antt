@@ -16,7 +16,7 @@ use Rattle.search.specs.Promises.{SheetNames}
 use Rattle.search.proofs.Promises.{units, completeness}
 use Rattle.sheet_format.specs.Limits.{tableNumbers, maxBudget}
 use Rattle.sheet_format.specs.Buffers.{demanded}
-use Rattle.sheet_format.specs.Sheets.{Sheet, Refusal, Read, sheet, readSheet}
+use Rattle.sheet_format.specs.Sheets.{Sheet, rulesOf, Refusal, Read, sheet, readSheet}
 use Rattle.answer_texts.specs.Spelling.{spentText}
 use Rattle.answer_texts.specs.Promises.{DerivesText}
 use Rattle.answer_texts.proofs.Promises.{textFollows}
@@ -42,22 +42,22 @@ module _ (bytes : List ℕ) (s : Sheet) (read : readSheet bytes ≡ sheet s) (cl
   same-sheet r e = cc
 
   answer-is : (budget t w a : ℕ) (x : Answer) → engineRun bytes budget t w a ≡ answered x
-      → x ≡ answerTo s budget (search budget (s .clauses) (s .goal))
+      → x ≡ answerTo s budget (search budget (rulesOf s) (s .goal))
   answer-is budget t w a x e =
       let r = answered-answers bytes budget t w a x e in
-      r .is ∙ ap (λ (q : Sheet). answerTo q budget (search budget (q .clauses) (q .goal))) (same-sheet (r .s) (r .read))
+      r .is ∙ ap (λ (q : Sheet). answerTo q budget (search budget (rulesOf q) (q .goal))) (same-sheet (r .s) (r .read))
 
   -- An answer other than spent tells what the search comes to.
-  tells : (budget : ℕ) (o : SearchOutcome) (x : Answer) → search budget (s .clauses) (s .goal) ≡ o → x ≡ answerTo s budget o
+  tells : (budget : ℕ) (o : SearchOutcome) (x : Answer) → search budget (rulesOf s) (s .goal) ≡ o → x ≡ answerTo s budget o
       → (x .outcome ≡ reportedSpent → ⊥)
-      → (v : Verdict) × ComesTo (s .clauses) (s .goal) (x .units) v × (x ≡ answerTo s budget (ends v (x .units))) × (x .units ≤ budget)
+      → (v : Verdict) × ComesTo (rulesOf s) (s .goal) (x .units) v × (x ≡ answerTo s budget (ends v (x .units))) × (x .units ≤ budget)
   unfolding answerTo
   tells budget (ends (proved store path) n) x q e h =
-      let c = units (s .clauses) (s .goal) .tells budget n (proved store path) .0 q in
+      let c = units (rulesOf s) (s .goal) .tells budget n (proved store path) .0 q in
       let u : x .units ≡ n = ap (λ (y : Answer). y .units) e in
       (proved store path, rw u (c .0), subst (λ (k : ℕ). x ≡ answerTo s budget (ends (proved store path) k)) (sym u) e, rw u (c .1))
   tells budget (ends noProof n) x q e h =
-      let c = units (s .clauses) (s .goal) .tells budget n noProof .0 q in
+      let c = units (rulesOf s) (s .goal) .tells budget n noProof .0 q in
       let u : x .units ≡ n = ap (λ (y : Answer). y .units) e in
       (noProof, rw u (c .0), subst (λ (k : ℕ). x ≡ answerTo s budget (ends noProof k)) (sym u) e, rw u (c .1))
   tells budget spent x q e h = absurd (h (ap (λ (y : Answer). y .outcome) e))
@@ -90,12 +90,12 @@ module _ (bytes : List ℕ) (s : Sheet) (read : readSheet bytes ≡ sheet s) (cl
 
   -- A larger budget has the same answer.
   answer-again : (budget t w a : ℕ) (x : Answer) → engineRun bytes budget t w a ≡ answered x → (x .outcome ≡ reportedSpent → ⊥)
-      → (larger : ℕ) → budget ≤ larger → answerTo s larger (search larger (s .clauses) (s .goal)) ≡ x
+      → (larger : ℕ) → budget ≤ larger → answerTo s larger (search larger (rulesOf s) (s .goal)) ≡ x
   answer-again budget t w a x e h larger l =
-      let q = tells budget (search budget (s .clauses) (s .goal)) x refl (answer-is budget t w a x e) h in
+      let q = tells budget (search budget (rulesOf s) (s .goal)) x refl (answer-is budget t w a x e) h in
       let le : x .units ≤ larger = let k = q .3 in omega arith in
-      let again : search larger (s .clauses) (s .goal) ≡ ends (q .0) (x .units) =
-      units (s .clauses) (s .goal) .tells larger (x .units) (q .0) .1 (q .1, le) in
+      let again : search larger (rulesOf s) (s .goal) ≡ ends (q .0) (x .units) =
+      units (rulesOf s) (s .goal) .tells larger (x .units) (q .0) .1 (q .1, le) in
       ap (answerTo s larger) again ∙ answer-verdict (q .0) (x .units) larger budget ∙ sym (q .2)
 
   same-answer : (budget t w a : ℕ) (x : Answer) → engineRun bytes budget t w a ≡ answered x → (x .outcome ≡ reportedSpent → ⊥)
@@ -116,7 +116,7 @@ module _ (bytes : List ℕ) (s : Sheet) (read : readSheet bytes ≡ sheet s) (cl
   told-retry budget t w a x e h larger t′ w′ a′ l m ht hw ha =
       let r = answered-answers bytes budget t w a x e in
       let is = answer-again budget t w a x e h larger l in
-      let long : length (answerTo s larger (search larger (s .clauses) (s .goal)) .text) ≡ length (x .text) =
+      let long : length (answerTo s larger (search larger (rulesOf s) (s .goal)) .text) ≡ length (x .text) =
       ap (λ (y : Answer). length (y .text)) is in
       passes-all bytes larger t′ w′ a′ s
       (record {
@@ -130,23 +130,23 @@ module _ (bytes : List ℕ) (s : Sheet) (read : readSheet bytes ≡ sheet s) (cl
 
   -- A run told as spent has done the budget's acts, and another is due.
   spent-due : (budget t w a : ℕ) (x : Answer) → engineRun bytes budget t w a ≡ answered x → x .outcome ≡ reportedSpent
-      → (x .units ≡ budget) × (x .text ≡ spentText budget) × (verdictOf (after (s .clauses) (s .goal) budget) ≡ none)
+      → (x .units ≡ budget) × (x .text ≡ spentText budget) × (verdictOf (after (rulesOf s) (s .goal) budget) ≡ none)
   unfolding answerTo
   spent-due budget t w a x e h =
-      let q = says-spent budget (search budget (s .clauses) (s .goal)) x (answer-is budget t w a x e) h in
+      let q = says-spent budget (search budget (rulesOf s) (s .goal)) x (answer-is budget t w a x e) h in
       let z = answer-is budget t w a x e ∙ ap (answerTo s budget) q in (
         ap (λ (y : Answer). y .units) z,
         ap (λ (y : Answer). y .text) z,
-        units (s .clauses) (s .goal) .due budget .0 q budget (omega arith),
+        units (rulesOf s) (s .goal) .due budget .0 q budget (omega arith),
       )
 
   -- A proved run has followed the steps of CS-1992-17, and the text spells them.
   proved-follows : (budget t w a : ℕ) (x : Answer) → engineRun bytes budget t w a ≡ answered x → x .outcome ≡ reportedProved
       → DerivesText s (x .units) (x .text)
   unfolding answerTo
-  proved-follows budget t w a x e h = go (search budget (s .clauses) (s .goal)) refl (answer-is budget t w a x e)
+  proved-follows budget t w a x e h = go (search budget (rulesOf s) (s .goal)) refl (answer-is budget t w a x e)
     where
-      go : (o : SearchOutcome) → search budget (s .clauses) (s .goal) ≡ o → x ≡ answerTo s budget o → DerivesText s (x .units) (x .text)
+      go : (o : SearchOutcome) → search budget (rulesOf s) (s .goal) ≡ o → x ≡ answerTo s budget o → DerivesText s (x .units) (x .text)
       go (ends (proved store path) n) q z =
           subst (λ (y : Answer). DerivesText s (y .units) (y .text)) (sym z) (textFollows s budget n store path q)
       go (ends noProof n) q z =
@@ -157,18 +157,18 @@ module _ (bytes : List ℕ) (s : Sheet) (read : readSheet bytes ≡ sheet s) (cl
   pub demand3 : Demand3 bytes s
   demand3 = record {
     neverNo = λ e d budget t w a x q h.
-        let r = says-no budget (search budget (s .clauses) (s .goal)) x (answer-is budget t w a x q) h in
-        completeness (s .clauses) (s .goal) e closed names d budget (r .0) (r .1);
+        let r = says-no budget (search budget (rulesOf s) (s .goal)) x (answer-is budget t w a x q) h in
+        completeness (rulesOf s) (s .goal) e closed names d budget (r .0) (r .1);
     comesTo = λ budget t w a x q h.
-        let r = tells budget (search budget (s .clauses) (s .goal)) x refl (answer-is budget t w a x q) h in
+        let r = tells budget (search budget (rulesOf s) (s .goal)) x refl (answer-is budget t w a x q) h in
         (r .0, r .1, r .2);
     same = same-answer;
     retry = told-retry;
     spends = λ budget t w a x q. (
-      (λ h. units (s .clauses) (s .goal) .spends budget .0
-          (says-spent budget (search budget (s .clauses) (s .goal)) x (answer-is budget t w a x q) h)),
-      (λ h. spent-says budget (search budget (s .clauses) (s .goal)) x (answer-is budget t w a x q)
-          (units (s .clauses) (s .goal) .spends budget .1 h)),
+      (λ h. units (rulesOf s) (s .goal) .spends budget .0
+          (says-spent budget (search budget (rulesOf s) (s .goal)) x (answer-is budget t w a x q) h)),
+      (λ h. spent-says budget (search budget (rulesOf s) (s .goal)) x (answer-is budget t w a x q)
+          (units (rulesOf s) (s .goal) .spends budget .1 h)),
     );
   }
 

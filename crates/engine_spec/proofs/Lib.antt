@@ -5,3 +5,4 @@ pub mod Demand3
 pub mod Buffers
 pub mod Callers
 pub mod Promises
+pub mod Orders

@@ -8,7 +8,7 @@ use Rattle.sequents.specs.Sequents.{Line}
 use Rattle.unification.specs.Store.{Leaf, Store}
 use Rattle.search.specs.Search.{SearchOutcome, ends, spent, proved, noProof, search}
 use Rattle.sheet_format.specs.Limits.{maxTextBytes}
-use Rattle.sheet_format.specs.Sheets.{Sheet, sheet, readSheet}
+use Rattle.sheet_format.specs.Sheets.{Sheet, rulesOf, sheet, readSheet}
 use Rattle.sheet_format.proofs.Good.{good}
 use Rattle.sheet_format.specs.FormerLines.{WithoutNumberLines}
 use Rattle.sheet_format.proofs.FormerNames.{readsAsBefore}
@@ -28,9 +28,9 @@ use Rattle.engine_spec.proofs.Callers.{proved-told, callers-told, told-
 
 -- What holds of the text of a proved search holds of the text of an answer that tells proved.
 proved-text : (P : List ℕ → Type 0) (s : Sheet) (budget : ℕ) (o : SearchOutcome) (x : Answer)
-    → ((n : ℕ) (store : Store) (path : List (Line Leaf)) → search budget (s .clauses) (s .goal) ≡ ends (proved store path) n
+    → ((n : ℕ) (store : Store) (path : List (Line Leaf)) → search budget (rulesOf s) (s .goal) ≡ ends (proved store path) n
     → length (searchText s store path n) ≤ maxTextBytes → P (searchText s store path n))
-    → search budget (s .clauses) (s .goal) ≡ o → x ≡ answerTo s budget o → x .outcome ≡ reportedProved → length (x .text) ≤ maxTextBytes
+    → search budget (rulesOf s) (s .goal) ≡ o → x ≡ answerTo s budget o → x .outcome ≡ reportedProved → length (x .text) ≤ maxTextBytes
     → P (x .text)
 unfolding answerTo
 proved-text P s budget (ends (proved store path) n) x f q e h short =
@@ -48,7 +48,7 @@ runSound bytes budget t w a x e h =
     let s = r .s in (
       s,
       r .read,
-      proved-text (SpellsAsDeclared s) s budget (search budget (s .clauses) (s .goal)) x
+      proved-text (SpellsAsDeclared s) s budget (search budget (rulesOf s) (s .goal)) x
           (λ n store path q short. textSound bytes s (r .read) budget n store path (r .passed .most) q short) refl (r .is) h (r .textFits),
     )
 
@@ -80,7 +80,7 @@ run-before bytes free budget t w a x e h =
     let s = r .s in (
       s,
       r .read,
-      proved-text (SpellsBefore (λ b c. b ≡ c) s) s budget (search budget (s .clauses) (s .goal)) x
+      proved-text (SpellsBefore (λ b c. b ≡ c) s) s budget (search budget (rulesOf s) (s .goal)) x
           (λ n store path q short. textAsBefore bytes s (r .read) free budget n store path (r .passed .most) q short) refl (r .is) h
           (r .textFits),
     )

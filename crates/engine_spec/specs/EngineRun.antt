@@ -8,7 +8,7 @@ use lib.ListN.{length, drop}
 use Rattle.search.specs.Search.{SearchOutcome, ends, spent, proved, noProof, search}
 use Rattle.sheet_format.specs.Limits.{maxSheetBytes, tableNumbers, maxBudget, maxTextBytes}
 use Rattle.sheet_format.specs.Buffers.{demanded, zeroed}
-use Rattle.sheet_format.specs.Sheets.{Sheet, Refusal, refusal, turnBackIf, Read, sheet, refused, readSheet}
+use Rattle.sheet_format.specs.Sheets.{Sheet, rulesOf, Refusal, refusal, turnBackIf, Read, sheet, refused, readSheet}
 use Rattle.answer_texts.specs.Spelling.{noText, spentText}
 use Rattle.answer_texts.specs.Promises.{searchText}
 
@@ -40,7 +40,7 @@ fit answerLength a =
 -- Refusals 6 to 11 come first, then the search.
 unfoldable pub runSheet : ℕ → ℕ → Read → Result
 runSheet budget answerLength (refused r) = turnedBack r
-runSheet budget answerLength (sheet s) = fit answerLength (answerTo s budget (search budget (s .clauses) (s .goal)))
+runSheet budget answerLength (sheet s) = fit answerLength (answerTo s budget (search budget (rulesOf s) (s .goal)))
 
 -- How sheets are read, the sheet's bytes, the budget, the lengths of table, work buffer and answer buffer.
 unfoldable pub engineRunBy : (List ℕ → Read) → List ℕ → ℕ → ℕ → ℕ → ℕ → Result

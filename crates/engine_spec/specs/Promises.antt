@@ -13,7 +13,7 @@ use Rattle.search.specs.Search.{after, Verdict, proved, noProof, verdictOf, Com
 use Rattle.search.specs.Promises.{WellFormed, FollowsSteps}
 use Rattle.sheet_format.specs.Limits.{tableNumbers, maxBudget}
 use Rattle.sheet_format.specs.Buffers.{demanded}
-use Rattle.sheet_format.specs.Sheets.{Sheet, Refusal, Read, sheet, readSheetBy, readSheet}
+use Rattle.sheet_format.specs.Sheets.{Sheet, rulesOf, Refusal, Read, sheet, readSheetBy, readSheet}
 use Rattle.sheet_format.specs.FormerNames.{formerForm, NamesInSmallLetters}
 use Rattle.sheet_format.specs.FormerLines.{formWithoutNumbers, WithoutNumberLines}
 use Rattle.answer_texts.specs.Spelling.{spentText}
@@ -88,7 +88,7 @@ pub record Demand2 (bytes : List ℕ) (s : Sheet) : Type 0 where
   pub follows : (budget t w a : ℕ) (x : Answer) → engineRun bytes budget t w a ≡ answered x → x .outcome ≡ reportedProved
       → DerivesText s (x .units) (x .text)
   pub spent : (budget t w a : ℕ) (x : Answer) → engineRun bytes budget t w a ≡ answered x → x .outcome ≡ reportedSpent
-      → (x .units ≡ budget) × (x .text ≡ spentText budget) × (verdictOf (after (s .clauses) (s .goal) budget) ≡ none)
+      → (x .units ≡ budget) × (x .text ≡ spentText budget) × (verdictOf (after (rulesOf s) (s .goal) budget) ≡ none)
 
 abbrev pub AllDemand2 : Type 0
 AllDemand2 = (bytes : List ℕ) (s : Sheet) → readSheet bytes ≡ sheet s → Demand2 bytes s
@@ -97,11 +97,11 @@ AllDemand2 = (bytes : List ℕ) (s : Sheet) → readSheet bytes ≡ sheet s → 
 pub record Demand3 (bytes : List ℕ) (s : Sheet) : Type 0 where
   -- "whoever holds a sequent derivation of some instance of the goal, its free variables replaced by terms of level 0, is never
   -- told no"
-  pub neverNo : (e : Environment Symbol) → InstanceDerivation (s .clauses) (s .goal) e
+  pub neverNo : (e : Environment Symbol) → InstanceDerivation (rulesOf s) (s .goal) e
       → (budget t w a : ℕ) (x : Answer) → engineRun bytes budget t w a ≡ answered x → x .outcome ≡ reportedNo → ⊥
   -- "Whoever is told proved or no is told what the walk of document 01 comes to, with its units and its text"
   pub comesTo : (budget t w a : ℕ) (x : Answer) → engineRun bytes budget t w a ≡ answered x → (x .outcome ≡ reportedSpent → ⊥)
-      → (v : Verdict) × ComesTo (s .clauses) (s .goal) (x .units) v × (x ≡ answerTo s budget (ends v (x .units)))
+      → (v : Verdict) × ComesTo (rulesOf s) (s .goal) (x .units) v × (x ≡ answerTo s budget (ends v (x .units)))
   -- "and is told the same under every larger permitted budget with the buffers for it": these are any for which refusals 2, 5
   -- and 12 do not arise.
   pub same : (budget t w a : ℕ) (x : Answer) → engineRun bytes budget t w a ≡ answered x → (x .outcome ≡ reportedSpent → ⊥)
@@ -114,7 +114,7 @@ pub record Demand3 (bytes : List ℕ) (s : Sheet) : Type 0 where
       → engineRun bytes larger t′ w′ a′ ≡ answered x
   -- "Whoever is told an outcome is told spent exactly if the walk needs more units than the budget."
   pub spends : (budget t w a : ℕ) (x : Answer) → engineRun bytes budget t w a ≡ answered x
-      → (x .outcome ≡ reportedSpent) ↔ ((n : ℕ) (v : Verdict) → ComesTo (s .clauses) (s .goal) n v → budget < n)
+      → (x .outcome ≡ reportedSpent) ↔ ((n : ℕ) (v : Verdict) → ComesTo (rulesOf s) (s .goal) n v → budget < n)
 
 abbrev pub AllDemand3 : Type 0
 AllDemand3 = (bytes : List ℕ) (s : Sheet) → readSheet bytes ≡ sheet s → Demand3 bytes s
@@ -142,21 +142,21 @@ pub record CallerTold (bytes : List ℕ) (budget : ℕ) (answer answer′ : List
   pub spells : (s : Sheet) → readSheet bytes ≡ sheet s → r .outcome ≡ 0 → SpellsAsDeclared s (take (r .length) answer′)
   -- If no is told, no instance of the goal has a derivation.
   pub neverNo : (s : Sheet) → readSheet bytes ≡ sheet s → r .outcome ≡ 1 → (e : Environment Symbol)
-      → InstanceDerivation (s .clauses) (s .goal) e → ⊥
+      → InstanceDerivation (rulesOf s) (s .goal) e → ⊥
   -- If proved or no is told, it is what the walk comes to, after as many units as are told, and the text is the walk's.
-  pub comesTo : (s : Sheet) → readSheet bytes ≡ sheet s → r .outcome ≤ 1 → (v : Verdict) × ComesTo (s .clauses) (s .goal) (r .units) v
+  pub comesTo : (s : Sheet) → readSheet bytes ≡ sheet s → r .outcome ≤ 1 → (v : Verdict) × ComesTo (rulesOf s) (s .goal) (r .units) v
       × (r .outcome ≡ reportedVerdict v) × (take (r .length) answer′ ≡ answerTo s budget (ends v (r .units)) .text)
   -- If spent is told, the budget and its text are told, and after as many acts another is due.
   pub spent : (s : Sheet) → readSheet bytes ≡ sheet s → r .outcome ≡ 2
-      → (r .units ≡ budget) × (take (r .length) answer′ ≡ spentText budget) × (verdictOf (after (s .clauses) (s .goal) budget) ≡ none)
+      → (r .units ≡ budget) × (take (r .length) answer′ ≡ spentText budget) × (verdictOf (after (rulesOf s) (s .goal) budget) ≡ none)
   -- If proved is told, the text is that of a derivation sequence of CS-1992-17.
   pub follows : (s : Sheet) → readSheet bytes ≡ sheet s → r .outcome ≡ 0 → DerivesText s (r .units) (take (r .length) answer′)
   -- Whatever is told, every state of the walk to that point is one of T4's, and its matches are T3's.
   pub walked : (s : Sheet) → readSheet bytes ≡ sheet s → r .outcome ≤ 2 → (n : ℕ) → n ≤ r .units
-      → All WellFormed (after (s .clauses) (s .goal) n) × All (FollowsSteps (s .clauses) (s .goal)) (after (s .clauses) (s .goal) n)
+      → All WellFormed (after (rulesOf s) (s .goal) n) × All (FollowsSteps (rulesOf s) (s .goal)) (after (rulesOf s) (s .goal) n)
   -- If an outcome is told, it is spent exactly if the walk needs more units than the budget.
   pub spends : (s : Sheet) → readSheet bytes ≡ sheet s → r .outcome ≤ 2 → (r .outcome ≡ 2)
-      ↔ ((n : ℕ) (v : Verdict) → ComesTo (s .clauses) (s .goal) n v → budget < n)
+      ↔ ((n : ℕ) (v : Verdict) → ComesTo (rulesOf s) (s .goal) n v → budget < n)
   -- The text lies in the answer buffer.
   pub fits : r .length ≤ length answer
 

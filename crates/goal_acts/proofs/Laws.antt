@@ -10,7 +10,7 @@ use Rattle.machine.specs.Goals.{takeAtom, takeTrue, takeAnd, takeOr, takeImplie
 
 -- The goal's kind.
 module _ (t : List ℕ) (c : ℕ) (w : List ℕ) (r : Registers) (k : ℕ) (o : Made) (ek : k ≡ kindOf t (r .node)) where
-  pub atom-due : k ≡ 2 → o ≡ takeAtom c w r → o ≡ takeGoal t c w r
+  pub atom-due : k ≡ 2 → o ≡ takeAtom t c w r → o ≡ takeGoal t c w r
   unfolding takeGoal
   atom-due z e = e ∙ rw (← ek, z)
 

@@ -2,6 +2,7 @@
 // Each function is a definition of the crate machine, and its contract says so.
 use machine::Registers;
 use machine::lines;
+use machine_memory::assumption_chains::put_chain;
 use machine_memory::records::put_assumption;
 use machine_memory::records::put_goal;
 use machine_memory::records::put_path;
@@ -51,7 +52,7 @@ pub fn take_or(t: &[u32], w: &mut [u32], r: Registers) -> Registers
     with_goal(s, child(t, r.node, 0), r.frame, r.program, r.level)
 }
 
-// >: the clause is assumed, in the goal's frame, in front of that goal's program.
+// >: the clause is assumed, in the goal's frame: it is the latest of that goal's assumptions.
 pub fn take_implies(t: &[u32], w: &mut [u32], r: Registers) -> Registers
     ensures { λ s. ⌜ made (now (w .exit)) s ≡ takeImplies (now (t .entry)) (now (w .entry)) r ⌝ }
 {
@@ -60,6 +61,7 @@ pub fn take_implies(t: &[u32], w: &mut [u32], r: Registers) -> Registers
     let goal = child(t, r.node, 1);
     put_path(w, act, r.path, r.line);
     put_assumption(w, act, clause, r.frame, r.program);
+    put_chain(w, act, r.program);
     let next = increment(act);
     let s = with_path(r, next, lines::ASSUME);
     with_goal(s, goal, r.frame, next, r.level)

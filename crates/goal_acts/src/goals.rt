@@ -1,5 +1,6 @@
 // The goal that is due, and goals that have no goal in them: true, and an atom, whose members are tried next.
 // Each function is a definition of the crate machine, and its contract says so.
+use super::trying_order::first_member;
 use machine::Registers;
 use machine::fields;
 use machine::lines;
@@ -8,7 +9,6 @@ use machine_memory::choice_points::failed;
 use machine_memory::records::put_path;
 use machine_memory::registers::with_goal;
 use machine_memory::registers::with_goals;
-use machine_memory::registers::with_member;
 use machine_memory::registers::with_mode;
 use machine_memory::registers::with_path;
 use machine_memory::words::increment;
@@ -62,11 +62,11 @@ pub fn try_from(c: u32, w: &mut [u32], r: Registers) -> Registers
     failed(w, r)
 }
 
-// An atom: members in turn, assumptions first, latest first, then the sheet's in order.
-pub fn take_atom(c: u32, w: &mut [u32], r: Registers) -> Registers
-    ensures { λ s. ⌜ made (now (w .exit)) s ≡ takeAtom c (now (w .entry)) r ⌝ }
+// An atom: members in turn.
+pub fn take_atom(t: &[u32], c: u32, w: &mut [u32], r: Registers) -> Registers
+    ensures { λ s. ⌜ made (now (w .exit)) s ≡ takeAtom (now (t .entry)) c (now (w .entry)) r ⌝ }
 {
-    try_from(c, w, with_member(r, r.program, 0, 0, 1))
+    try_from(c, w, first_member(t, c, w, r))
 }
 
 // Y: nothing.

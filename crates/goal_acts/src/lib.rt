@@ -2,6 +2,7 @@
 mod connectives;
 pub mod goals;
 mod quantifiers;
+pub mod trying_order;
 
 use connectives::take_and;
 use connectives::take_implies;
@@ -23,7 +24,7 @@ pub fn take_goal(t: &[u32], c: u32, w: &mut [u32], r: Registers) -> Registers
 {
     let sort = kind(t, r.node);
     match sort {
-        kinds::ATOM => take_atom(c, w, r),
+        kinds::ATOM => take_atom(t, c, w, r),
         kinds::AND => take_and(t, w, r),
         kinds::OR => take_or(t, w, r),
         kinds::IMPLIES => take_implies(t, w, r),

@@ -49,7 +49,8 @@ use Rattle.line_checking.specs.Sequents.{brokenStage}
 use Rattle.line_checking.specs.Bindings.{beginsWith, checkResultWith, checkUnits, checkResult, bindWith, bindTerm, bindsVariable}
 use Rattle.line_checking.specs.Bindings.{bindLine}
 use Rattle.line_checking.proofs.Lines.{bytes-result, bytes-binding, decimal-one, isWord, wordByte}
-use Rattle.line_checking.proofs.Representation.{Setting, folds, declared, sheetOf, Filled, names-of, HypothesesAt, SequentsAt, BindingAt}
+use Rattle.line_checking.proofs.Representation.{Setting, folds, declared, sheetOf, joinedAll, Filled, names-of, HypothesesAt}
+use Rattle.line_checking.proofs.Representation.{SequentsAt, BindingAt}
 use Rattle.line_checking.proofs.Representation.{Holds}
 use Rattle.line_checking.proofs.Results.{Result, is-wrong, either-side, begins-with, word-there, no-more, ReadsNumber}
 use Rattle.line_checking.proofs.Results.{number-there}
@@ -89,7 +90,7 @@ module _ (c : Setting) (filled : Filled c) where
   -- The goal is due where all its free variables have their terms.
   goal-due : (k : ℕ) (w : List ℕ) (r : Registers) (f : ℕ) (e : Environment Symbol) → f < k → Frame (declared c) (folds c) w f e (Before 8)
       → Holds c k w (withSequent r (c .goal) f 0 0 0) (boundStage (sheetOf c) [] e)
-  unfolding Holds boundStage withSequent SequentsAt HypothesesAt sheetOf decodeSheet instanceOf sheetProgram
+  unfolding Holds boundStage withSequent SequentsAt HypothesesAt sheetOf decodeSheet instanceOf sheetProgram joinedAll
   goal-due k w r f e l h = (
     refl,
     record {

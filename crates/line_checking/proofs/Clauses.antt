@@ -48,7 +48,7 @@ use Rattle.line_checking.specs.declared.Registers.{Registers}
 use Rattle.line_checking.specs.declared.Place.{Place}
 use Rattle.line_checking.specs.declared.Place.the-variants.{At, Nowhere}
 use Rattle.line_checking.specs.Sequents.{Made, made, broken, withSequent, brokenStage}
-use Rattle.line_checking.specs.Members.{hypothesisFrom}
+use Rattle.line_checking.specs.Members.{placeFrom}
 use Rattle.line_checking.specs.Bindings.{beginsWith}
 use Rattle.line_checking.specs.Clauses.{Read, prefixFrom, withBody, useMember, useTerms, useFound, usePlace, usePlaceAt, clauseFields}
 use Rattle.line_checking.specs.Clauses.{clauseLine}
@@ -174,7 +174,7 @@ module _ (c : Setting) (filled : Filled c) (q : ℕ) (w : List ℕ) (room : Room
       uses-none ts h = ap (λ (o : Option (Entry Symbol)). Uses o ts) is ∙ rw h
 
     -- An entry was found: it is member o of the clause at node h, in frame f.
-    module _ (h f o : ℕ) (E : EntryIs c q w (g .program) (k - 1) h f o) (nonzero : eqb k 0 ≡ false) where
+    module _ (h f o : ℕ) (E : EntryIs c q w (g .program .clauses) (k - 1) h f o) (nonzero : eqb k 0 ≡ false) where
       -- This is the member that was found.
       abbrev F : Found
       F = member t h o
@@ -427,12 +427,13 @@ module _ (c : Setting) (filled : Filled c) (q : ℕ) (w : List ℕ) (room : Room
     place-result =
         either-side R (eqb k 0) (broken w r) (usePlace (c .bytes) t (c .symbols) (c .text) w r q place j e)
         (λ z. no-entry (ap (λ (v : ℕ). entryAt v (entries (g .program))) (eqb-true k 0 z)))
-        (λ z. go z place (let u = at .older in place-is c filled q w (omega arith) (r .hypotheses) (k - 1) (g .program) (at .program)))
+        (λ z. let u = at .older in let y = eqb-false k 0 z in
+        go z place (place-is c filled q w (omega arith) (r .hypotheses) (k - 1) (g .program) (omega arith) (at .program)))
       where
         place : Place
-        place = hypothesisFrom (r .hypotheses) t (c .clauses) w (r .hypotheses) (k - 1)
+        place = placeFrom t (c .clauses) w (r .hypotheses) (k - 1)
 
-        go : eqb k 0 ≡ false → (p : Place) → PlaceIs c q w (g .program) (k - 1) p
+        go : eqb k 0 ≡ false → (p : Place) → PlaceIs c q w (g .program .clauses) (k - 1) p
             → R (usePlace (c .bytes) t (c .symbols) (c .text) w r q p j e)
         go z (At a f o) E = terms-result a f o E z
         go z Nowhere E =

@@ -40,6 +40,7 @@ pub decode-small : (b t : List ℕ) (symbols clauses goal : ℕ)
 unfolding decodeSheet smallSheet
 decode-small b t symbols clauses goal =
     ap (λ (ds : List Declaration). record {
+      order = decodeSheet b t symbols clauses goal .order;
       symbols = ds;
       clauses = decodeSheet b t symbols clauses goal .clauses;
       goal = decodeSheet b t symbols clauses goal .goal;

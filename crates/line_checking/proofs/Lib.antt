@@ -8,6 +8,7 @@ pub mod FoldedSheets
 pub mod Terms
 pub mod Bindings
 pub mod Derivations
+pub mod Starts
 pub mod Rules
 pub mod Programs
 pub mod PrefixTerms

@@ -58,6 +58,7 @@ module _ (c : Setting) (q : ℕ) (w w′ : List ℕ) (kept : Kept q w w′) wher
         hypothesis-keep k r a u (p .2),
         subst (λ (z : ℕ). HypothesesAt c r w′ z l) (sym (same r 23 (omega arith) (omega arith)))
             (hypotheses-keep r (field w r fields.hypothesisNext) l (omega arith) (p .3)),
+        same r 24 (omega arith) (omega arith) ∙ p .4,
       )
 
   -- A program below record q is kept when record q is written.
@@ -122,7 +123,7 @@ module _ (c : Setting) (w : List ℕ) where
   hypotheses-up : (k k′ h : ℕ) (l : List (Hypothesis Symbol)) → k ≤ k′ → HypothesesAt c k w h l → HypothesesAt c k′ w h l
   unfolding HypothesesAt
   hypotheses-up k k′ h [] u p = p
-  hypotheses-up k k′ h (a ∷ l) u p = (p .0, p .1, hypothesis-up k k′ (p .0) a u (p .2), p .3)
+  hypotheses-up k k′ h (a ∷ l) u p = (p .0, p .1, hypothesis-up k k′ (p .0) a u (p .2), p .3, p .4)
 
   -- A program below k is below every larger number.
   pub program-up : (k k′ h : ℕ) (P : Program Symbol) → k ≤ k′ → ProgramAt c k w h P → ProgramAt c k′ w h P

@@ -2,25 +2,27 @@
 use Prim.Native.Nat.{ℕ, suc, _+_, _<_}
 use mathlib.Core.Path.{_≡_}
 use mathlib.Core.Bool.{_&&_}
-use mathlib.Core.List.{List, [], _∷_, _++_}
+use mathlib.Core.List.{List, [], _∷_, map}
 use lib.Dec.{ltb}
+use lib.ListN.{length}
 use Rattle.formulas.specs.Formulas.{variableNames, freeG, freeC, freeFrom}
+use Rattle.formulas.specs.Rules.{Order, rules, joined}
 use Rattle.sequents.specs.Symbols.{Symbol}
-use Rattle.sequents.specs.Sequents.{Environment, Hypothesis, Program, Sequent}
-use Rattle.sequents.specs.Derivations.{sheetProgram}
+use Rattle.sequents.specs.Sequents.{Environment, Hypothesis, hypothesis, Program, entriesOf, Sequent}
 use Rattle.sheet_format.specs.Bytes.{foldedName}
 use Rattle.sheet_format.specs.Nodes.{Declaration}
 use Rattle.sheet_format.specs.Sheets.{Sheet}
 use Rattle.sheet_format.proofs.Names.{Names}
 use Rattle.sheet_format.proofs.Formed.{FormedGoal, FormedClause}
 use Rattle.sheet_format.proofs.Good.{Good}
-use Rattle.node_table.specs.Decoding.{goalAt, clauseAtNode, declarationsFrom, clausesFrom, decodeSheet}
+use Rattle.node_table.specs.Decoding.{goalAt, clauseAtNode, declarationsFrom, clausesFrom, orderOf, decodeSheet}
 use Rattle.node_table.specs.WellMade.{IsGoal, IsClause, WellMade}
 use Rattle.answer_texts.specs.Spelled.{Stage, opening, bindings, sequents}
 use Rattle.scanning.specs.Fields as fields
 use Rattle.scanning.proofs.InstanceSpelling.{Frame}
 use Rattle.line_checking.specs.declared.Registers.{Registers}
 use Rattle.line_checking.specs.Sequents.{sequentStage, doneStage, resultStage, bindingStage}
+use Rattle.line_checking.specs.Members.{sheetMembers, saturate}
 use Rattle.memory.specs.Records.{field}
 
 -- What is judged: the sheet's bytes, the table, and the text.
@@ -45,9 +47,14 @@ declared c = declarationsFrom (foldedName (c .bytes)) (c .table) (c .symbols) 0
 unfoldable pub sheetOf : Setting → Sheet
 sheetOf c = decodeSheet (foldedName (c .bytes)) (c .table) (c .symbols) (c .clauses) (c .goal)
 
--- Its clauses, as a program.
-abbrev pub programOf : Setting → Environment Symbol → Program Symbol
-programOf c e = sheetProgram (clausesFrom (c .table) (c .clauses) 0) e
+-- Its clauses, with an environment.
+abbrev pub sheetClauses : Setting → Environment Symbol → List (Hypothesis Symbol)
+sheetClauses c e = map (λ d. hypothesis d e) (clausesFrom (c .table) (c .clauses) 0)
+
+-- The clauses s with the assumptions l, of which the latest is the first, in an order (request W-207).
+unfoldable pub joinedAll : {A : Type 0} → Order → List A → List A → List A
+joinedAll o [] s = s
+joinedAll o (a ∷ l) s = joined o a (joinedAll o l s)
 
 -- The table is one that the reader fills.
 pub record Filled (c : Setting) : Type 0 where
@@ -71,16 +78,22 @@ module _ (c : Setting) where
     pub frame : Frame (declared c) (folds c) w (field w r fields.hypothesisFrame) (a .environment)
         (freeC (clauseAtNode (c .table) (field w r fields.hypothesisNode)))
 
-  -- The hypotheses from the pointer h on, the later ones in records further down.
+  -- How many members stand before those of a hypothesis that is made after l, in the default order (request W-207).
+  abbrev pub membersBefore : List (Hypothesis Symbol) → ℕ
+  membersBefore l = sheetMembers (c .clauses) (c .table) 0 + length (entriesOf l)
+
+  -- The hypotheses from the pointer h on, the later ones in records further down, each with its start.
   unfoldable pub HypothesesAt : ℕ → List ℕ → ℕ → List (Hypothesis Symbol) → Type 0
   HypothesesAt k w h [] = h ≡ 0
-  HypothesesAt k w h (a ∷ l) = (r : ℕ) × (h ≡ suc r) × HypothesisAt k w r a × HypothesesAt r w (field w r fields.hypothesisNext) l
+  HypothesesAt k w h (a ∷ l) =
+      (r : ℕ) × (h ≡ suc r) × HypothesisAt k w r a × HypothesesAt r w (field w r fields.hypothesisNext) l
+      × (field w r fields.hypothesisStart ≡ saturate (membersBefore l))
 
-  -- A program: hypotheses, then the sheet's clauses.
+  -- A program: the sheet's clauses and the hypotheses, in the order in force (request W-207).
   pub record ProgramAt (k : ℕ) (w : List ℕ) (h : ℕ) (P : Program Symbol) : Type 0 where
     pub hypotheses : List (Hypothesis Symbol)
     pub environment : Environment Symbol
-    pub is : P ≡ hypotheses ++ programOf c environment
+    pub is : P ≡ rules (orderOf (c .table)) (joinedAll (orderOf (c .table)) hypotheses (sheetClauses c environment))
     pub at : HypothesesAt k w h hypotheses
 
   -- A sequent with the goal's node n, the frame f, the hypotheses h and the level i.

@@ -13,6 +13,7 @@ use Rattle.terms.specs.Lists.{update}
 use Rattle.terms.proofs.Lists.{length-map}
 use Rattle.terms.specs.Terms.{leaf, app, count, levelBy}
 use Rattle.formulas.specs.Formulas.{Goal, truth, and, or, implies, exists, forall, Clause, freeG, freeC}
+use Rattle.formulas.specs.Rules.{assume}
 use Rattle.formulas.proofs.Free.{or-left, or-right}
 use Rattle.sequents.specs.Symbols.{Symbol, made, leftover, symbolLevel, Ground, level}
 use Rattle.sequents.specs.Sequents.{Environment, hypothesis, Program, Sequent, sequent, Dtrue, Dand, Dleft, Dright, Dassume, Line, plain}
@@ -46,13 +47,15 @@ use Rattle.scanning.proofs.Records.{Room, Kept, kept-self, puts-kept, bind-kept
 use Rattle.scanning.proofs.Frames.{frame-kept, frame-bind}
 use Rattle.line_checking.specs.declared.Registers.{Registers}
 use Rattle.line_checking.specs.Sequents.{Made, made as left, broken, withSequent, putSequent, nextSequent, putHypothesis}
+use Rattle.line_checking.specs.Members.{startAfter}
 use Rattle.line_checking.specs.Bindings.{beginsWith, isLine}
 use Rattle.line_checking.specs.Rules.{withChild, trueLine, andLine, orLine, assumeLine, bindGoal, someWith, someTerm, someLine}
 use Rattle.line_checking.specs.Rules.{allWith, allConstant, allLine}
 use Rattle.line_checking.proofs.Lines.{isWord, wordByte, bytes-some, bytes-all}
-use Rattle.line_checking.proofs.Representation.{Setting, folds, declared, Filled, names-of, HypothesisAt, HypothesesAt, ProgramAt}
-use Rattle.line_checking.proofs.Representation.{SequentAt, SequentsAt, Holds}
+use Rattle.line_checking.proofs.Representation.{Setting, folds, declared, joinedAll, Filled, names-of, HypothesisAt, HypothesesAt}
+use Rattle.line_checking.proofs.Representation.{ProgramAt, SequentAt, SequentsAt, Holds}
 use Rattle.line_checking.proofs.Preservation.{program-on, hypotheses-keep, sequents-on}
+use Rattle.line_checking.proofs.Starts.{start-is}
 use Rattle.line_checking.proofs.Results.{Result, either-side}
 use Rattle.line_checking.proofs.FoldedLines.{LineAt, isExact, part-there, word-folded, word-missing, line-folded, line-missing}
 use Rattle.line_checking.proofs.Terms.{scanAt, TermCase, is-term, no-term, term-case}
@@ -286,9 +289,9 @@ module _ (c : Setting) (filled : Filled c) (q : ℕ) (w : List ℕ) (room : Room
       unfit b a (Dclause j us) p y = refl
 
   -- ">: the clause is assumed"
-  pub assume-result : kindOf t n ≡ impliesKind → R (assumeLine t (c .text) w r q i e)
+  pub assume-result : kindOf t n ≡ impliesKind → R (assumeLine t (c .clauses) (c .text) w r q i e)
   unfolding assumeLine putHypothesis puts withSequent infer isPlain sameWord wordNumber WritableLine textFields lineFields spellWord join
-      ascii isWord wordByte isExact smallFrom isLetter isSmall isCapital Holds HypothesesAt FormedGoal freeG
+      ascii isWord wordByte isExact smallFrom isLetter isSmall isCapital Holds HypothesesAt joinedAll FormedGoal freeG
   assume-result k =
       either-side R (isLine (ascii "D\tassume") (c .text) i e) _ (broken w r)
       (λ b. right-line c q l g gs G goal r (left w′ regs) (plain Dassume) _
@@ -311,7 +314,7 @@ module _ (c : Setting) (filled : Filled c) (q : ℕ) (w : List ℕ) (room : Room
       goal = at .goal ∙ tree
 
       values : List ℕ
-      values = childOf t n 0 ∷ r .frame ∷ r .hypotheses ∷ []
+      values = childOf t n 0 ∷ r .frame ∷ r .hypotheses ∷ startAfter t (c .clauses) w (r .hypotheses) ∷ []
 
       w′ : List ℕ
       w′ = puts values w q fields.hypothesisNode
@@ -352,32 +355,35 @@ module _ (c : Setting) (filled : Filled c) (q : ℕ) (w : List ℕ) (room : Room
             frame = rw (a, b) (frame (freeC C) (λ v f. or-left (freeC C v) (freeG B v) f));
           }
 
-      program : ProgramAt c (suc q) w′ (q + 1) (hypothesis C (g .environment) ∷ g .program)
+      program : ProgramAt c (suc q) w′ (q + 1) (assume (hypothesis C (g .environment)) (g .program))
       program =
           let p = at .program in
           let z : field w′ q fields.hypothesisNext ≡ r .hypotheses =
           puts-at values w q fields.hypothesisNode 2 (omega arith) (omega arith) (omega arith) in
+          let s : field w′ q fields.hypothesisStart ≡ startAfter t (c .clauses) w (r .hypotheses) =
+          puts-at values w q fields.hypothesisNode 3 (omega arith) (omega arith) (omega arith) in
           record {
             hypotheses = hypothesis C (g .environment) ∷ p .hypotheses;
             environment = p .environment;
-            is = ap (hypothesis C (g .environment) ∷_) (p .is);
+            is = ap (assume (hypothesis C (g .environment))) (p .is);
             at = (
               q,
               add-one q,
               assumed,
               subst (λ (h : ℕ). HypothesesAt c q w′ h (p .hypotheses)) (sym z)
                   (hypotheses-keep c q w w′ kept q (r .hypotheses) (p .hypotheses) (omega arith) (p .at)),
+              s ∙ start-is c filled w (p .hypotheses) q (r .hypotheses) (p .at),
             );
           }
 
       holds : Holds c (suc q) w′ regs
-          (sequents ((sequent B (g .environment) (hypothesis C (g .environment) ∷ g .program) (g .level) ∷ []) ++ gs))
+          (sequents ((sequent B (g .environment) (assume (hypothesis C (g .environment)) (g .program)) (g .level) ∷ []) ++ gs))
       holds =
           let m = node .implies k in
           let o = at .older in (
             refl,
-            part w′ (childOf t n 1) (r .frame) (q + 1) (r .level) (g .environment) (hypothesis C (g .environment) ∷ g .program) (g .level)
-                (m .2) (m .3) (formed .1) (omega arith)
+            part w′ (childOf t n 1) (r .frame) (q + 1) (r .level) (g .environment) (assume (hypothesis C (g .environment)) (g .program))
+                (g .level) (m .2) (m .3) (formed .1) (omega arith)
                 (frame (freeG B) (λ v f. or-right (freeC C v) (freeG B v) f)) program (at .level),
             sequents-on c q w w′ kept (r .rest) gs others,
           )

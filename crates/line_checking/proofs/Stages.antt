@@ -75,7 +75,7 @@ module _ (c : Setting) (filled : Filled c) (q : ℕ) (w : List ℕ) (room : Room
       go (implies-kind k) =
           rw (sequentLine, k) (
             assume-result c filled q w room r g gs at others l rest i e here end k,
-            assume-kept q w (c .bytes) t (c .symbols) (c .text) r i e,
+            assume-kept q w (c .bytes) t (c .symbols) (c .text) r i e (c .clauses),
           )
       go (exists-kind k) =
           rw (sequentLine, k) (

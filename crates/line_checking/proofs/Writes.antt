@@ -22,7 +22,7 @@ use Rattle.line_checking.specs.declared.Registers.{Registers}
 use Rattle.line_checking.specs.declared.Place.{Place}
 use Rattle.line_checking.specs.declared.Place.the-variants.{At, Nowhere}
 use Rattle.line_checking.specs.Sequents.{Made, broken, putSequent, putHypothesis}
-use Rattle.line_checking.specs.Members.{hypothesisFrom}
+use Rattle.line_checking.specs.Members.{startAfter, placeFrom}
 use Rattle.line_checking.specs.Bindings.{beginsWith, isLine, checkResultWith, checkUnits, checkResult, bindWith, bindTerm}
 use Rattle.line_checking.specs.Bindings.{bindsVariable, bindLine}
 use Rattle.line_checking.specs.Rules.{trueLine, andLine, orLine, assumeLine, bindGoal, someWith, someTerm, someLine, allWith}
@@ -98,11 +98,13 @@ module _ (q : ℕ) (w : List ℕ) where
         (side (isLine (ascii "D\tright") x i e) _ _ (kept-self q w) (none-written r))
 
     -- A `D assume` line writes only record q.
-    pub assume-kept : Kept q w (assumeLine t x w r q i e .memory)
+    pub assume-kept : (clauses : ℕ) → Kept q w (assumeLine t clauses x w r q i e .memory)
     unfolding assumeLine putHypothesis puts
-    assume-kept =
+    assume-kept clauses =
         side (isLine (ascii "D\tassume") x i e) _ _
-        (puts-kept (childOf t (r .node) 0 ∷ r .frame ∷ r .hypotheses ∷ []) w q fields.hypothesisNode (omega arith)) (none-written r)
+        (puts-kept (childOf t (r .node) 0 ∷ r .frame ∷ r .hypotheses ∷ startAfter t clauses w (r .hypotheses) ∷ []) w q
+        fields.hypothesisNode (omega arith))
+        (none-written r)
 
     -- Binding the goal's variable writes only record q.
     goal-kept : (s j k : ℕ) → labelOf t (r .node) < 8 → Kept q w (bindGoal t w r q s j k .memory)
@@ -153,6 +155,6 @@ module _ (q : ℕ) (w : List ℕ) where
     clause-kept clauses =
         side (beginsWith (ascii "D\tclause\t") x i) _ _
         (of-number (scanNumber x (i + 9)) (λ k j. usePlaceAt b t symbols clauses x w r q k j e) (broken w r)
-        (λ k j. side (eqb k 0) _ _ (none-written r) (place-kept (hypothesisFrom (r .hypotheses) t clauses w (r .hypotheses) (k - 1)) j))
+        (λ k j. side (eqb k 0) _ _ (none-written r) (place-kept (placeFrom t clauses w (r .hypotheses) (k - 1)) j))
         (none-written r))
         (none-written r)

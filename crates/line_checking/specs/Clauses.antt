@@ -19,7 +19,7 @@ use Rattle.line_checking.specs.declared.Registers.{Registers}
 use Rattle.line_checking.specs.declared.Place.{Place}
 use Rattle.line_checking.specs.declared.Place.the-variants.{At, Nowhere}
 use Rattle.line_checking.specs.Sequents.{Made, made, broken, withSequent, nextSequent}
-use Rattle.line_checking.specs.Members.{hypothesisFrom}
+use Rattle.line_checking.specs.Members.{placeFrom}
 use Rattle.line_checking.specs.Bindings.{beginsWith}
 use Rattle.clause_members.specs.declared.Found.{Found}
 use Rattle.clause_members.specs.Members.{member, headOf}
@@ -79,10 +79,10 @@ useFound b t symbols x w r q m f i e =
 unfoldable pub usePlace : List ℕ → List ℕ → ℕ → List ℕ → List ℕ → Registers → ℕ → Place → ℕ → ℕ → Made
 usePlace b t symbols x w r q p i e = elim p [ At n f k ↦ useFound b t symbols x w r q (member t n k) f i e | Nowhere ↦ broken w r ]
 
--- The place counts from 1.
+-- The place counts from 1, in the order in force (request W-207).
 unfoldable pub usePlaceAt : List ℕ → List ℕ → ℕ → ℕ → List ℕ → List ℕ → Registers → ℕ → ℕ → ℕ → ℕ → Made
 usePlaceAt b t symbols clauses x w r q k i e =
-    cond (eqb k 0) (broken w r) (usePlace b t symbols x w r q (hypothesisFrom (r .hypotheses) t clauses w (r .hypotheses) (k - 1)) i e)
+    cond (eqb k 0) (broken w r) (usePlace b t symbols x w r q (placeFrom t clauses w (r .hypotheses) (k - 1)) i e)
 
 -- This reads the place at position i, then the terms.
 unfoldable pub clauseFields : List ℕ → List ℕ → ℕ → ℕ → List ℕ → List ℕ → Registers → ℕ → ℕ → ℕ → Made

@@ -23,18 +23,18 @@ quantifierLine b t symbols x w r q i e =
     cond (eqb (kindOf t (r .node)) existsKind) (someLine b t symbols x w r q i e) (allLine t x w r q i e)
 
 -- This judges a D line for a goal that is neither an atom nor true.
-unfoldable pub connectiveLine : List ℕ → List ℕ → ℕ → List ℕ → List ℕ → Registers → ℕ → ℕ → ℕ → Made
-connectiveLine b t symbols x w r q i e =
+unfoldable pub connectiveLine : List ℕ → List ℕ → ℕ → ℕ → List ℕ → List ℕ → Registers → ℕ → ℕ → ℕ → Made
+connectiveLine b t symbols clauses x w r q i e =
     cond (eqb (kindOf t (r .node)) andKind) (andLine t x w r q i e)
     (cond (eqb (kindOf t (r .node)) orKind) (orLine t x w r i e)
-    (cond (eqb (kindOf t (r .node)) impliesKind) (assumeLine t x w r q i e)
+    (cond (eqb (kindOf t (r .node)) impliesKind) (assumeLine t clauses x w r q i e)
     (quantifierLine b t symbols x w r q i e)))
 
 -- This judges a D line for any goal.
 unfoldable pub sequentLine : List ℕ → List ℕ → ℕ → ℕ → List ℕ → List ℕ → Registers → ℕ → ℕ → ℕ → Made
 sequentLine b t symbols clauses x w r q i e =
     cond (eqb (kindOf t (r .node)) atomKind) (clauseLine b t symbols clauses x w r q i e)
-    (cond (eqb (kindOf t (r .node)) trueKind) (trueLine x w r i e) (connectiveLine b t symbols x w r q i e))
+    (cond (eqb (kindOf t (r .node)) trueKind) (trueLine x w r i e) (connectiveLine b t symbols clauses x w r q i e))
 
 -- A line, by the stage; where no line is due it is a surplus one.
 unfoldable pub stageLine : List ℕ → List ℕ → ℕ → ℕ → ℕ → List ℕ → List ℕ → Registers → ℕ → ℕ → ℕ → Made

@@ -11,6 +11,7 @@ use Rattle.scanning.specs.Scanning.{scanSymbol, scanTerm}
 use Rattle.scanning.specs.Frames.{bindFrame}
 use Rattle.line_checking.specs.declared.Registers.{Registers}
 use Rattle.line_checking.specs.Sequents.{Made, made, broken, withSequent, putSequent, nextSequent, putHypothesis}
+use Rattle.line_checking.specs.Members.{startAfter}
 use Rattle.line_checking.specs.Bindings.{beginsWith, isLine}
 
 -- Child j of the goal is due in the place of the goal.
@@ -35,11 +36,11 @@ orLine t x w r i e =
     cond (isLine (ascii "D\tleft") x i e) (made w (withChild t r 0))
     (cond (isLine (ascii "D\tright") x i e) (made w (withChild t r 1)) (broken w r))
 
--- The clause is the latest hypothesis.
-unfoldable pub assumeLine : List ℕ → List ℕ → List ℕ → Registers → ℕ → ℕ → ℕ → Made
-assumeLine t x w r q i e =
+-- The clause is the latest hypothesis, which starts after the others (request W-207).
+unfoldable pub assumeLine : List ℕ → ℕ → List ℕ → List ℕ → Registers → ℕ → ℕ → ℕ → Made
+assumeLine t clauses x w r q i e =
     cond (isLine (ascii "D\tassume") x i e)
-    (made (putHypothesis w q (childOf t (r .node) 0) (r .frame) (r .hypotheses))
+    (made (putHypothesis w q (childOf t (r .node) 0) (r .frame) (r .hypotheses) (startAfter t clauses w (r .hypotheses)))
     (withSequent r (childOf t (r .node) 1) (r .frame) (q + 1) (r .level) (r .rest)))
     (broken w r)
 

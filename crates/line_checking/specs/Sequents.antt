@@ -114,7 +114,8 @@ openSequent w r q =
 unfoldable pub nextSequent : List ℕ → Registers → Registers
 nextSequent w r = cond (eqb (r .rest) 0) (withStage r doneStage) (openSequent w r (r .rest - 1))
 
--- A hypothesis, in record q.
-unfoldable pub putHypothesis : List ℕ → ℕ → ℕ → ℕ → ℕ → List ℕ
-putHypothesis w q node frame next =
-    putField (putField (putField w q fields.hypothesisNode node) q fields.hypothesisFrame frame) q fields.hypothesisNext next
+-- A hypothesis, in record q, with its start (request W-207).
+unfoldable pub putHypothesis : List ℕ → ℕ → ℕ → ℕ → ℕ → ℕ → List ℕ
+putHypothesis w q node frame next start =
+    putField (putField (putField (putField w q fields.hypothesisNode node) q fields.hypothesisFrame frame) q fields.hypothesisNext next) q
+    fields.hypothesisStart start

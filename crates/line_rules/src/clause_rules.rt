@@ -6,7 +6,7 @@ use super::result_lines::begins_with;
 use checker_state::Line;
 use checker_state::Shape;
 use checker_state::open_sequents::next_sequent;
-use checker_state::places::hypothesis_from;
+use checker_state::places::place_from;
 use checker_state::registers::broken;
 use checker_state::registers::with_sequent;
 use clause_members::head_of;
@@ -30,7 +30,7 @@ ghost use Rattle.line_checking.specs.Sequents.{made};
 ghost use Rattle.line_checking.specs.Clauses.{withBody, useMember, clauseFields, clauseLine};
 ghost use mathlib.Core.Bool.{cond};
 ghost use lib.Dec.{eqb};
-ghost use Rattle.line_checking.specs.Members.{hypothesisFrom};
+ghost use Rattle.line_checking.specs.Members.{placeFrom};
 
 // The body of the member at node n, if any, is the new goal; its names stand for terms in frame q.
 pub fn with_body(t: &[u32], w: &[u32], r: Registers, q: u32, n: u32) -> Registers
@@ -69,14 +69,14 @@ pub fn use_member(
     broken(r)
 }
 
-// The member at place k, counted from 1: of the hypotheses from h on, then of the sheet's clauses.
+// The member at place k, counted from 1: of the hypotheses from h on and the sheet's clauses, in the order in force (request W-207).
 pub fn place_at(t: &[u32], clauses: u32, w: &[u32], h: u32, k: u32) -> Place
-    ensures { λ p. ⌜ p ≡ cond (eqb k 0) Place.Nowhere (hypothesisFrom h (now (t .entry)) clauses (now (w .entry)) h (k - 1)) ⌝ }
+    ensures { λ p. ⌜ p ≡ cond (eqb k 0) Place.Nowhere (placeFrom (now (t .entry)) clauses (now (w .entry)) h (k - 1)) ⌝ }
 {
     if k == 0 {
         return Place::Nowhere;
     }
-    hypothesis_from(h, t, clauses, w, h, k - 1)
+    place_from(t, clauses, w, h, k - 1)
 }
 
 // The place of a member, then the terms of its prefix; the line ends after the last one.

@@ -7,6 +7,7 @@ use checker_state::open_sequents::put_hypothesis;
 use checker_state::open_sequents::put_sequent;
 use checker_state::registers::broken;
 use checker_state::registers::with_sequent;
+use checker_state::starts::start_after;
 use line_checking::Registers;
 use node_table::child;
 ghost use mathlib.Core.Path.{_≡_};
@@ -68,17 +69,25 @@ pub fn or_line(t: &[u32], text: &[u8], r: Registers, line: Line) -> Registers
     broken(r)
 }
 
-// >: the clause is the latest hypothesis.
-pub fn assume_line(t: &[u32], text: &[u8], w: &mut [u32], r: Registers, line: Line) -> Registers
+// >: the clause is the latest hypothesis, which starts after the others (request W-207).
+pub fn assume_line(
+    t: &[u32],
+    clauses: u32,
+    text: &[u8],
+    w: &mut [u32],
+    r: Registers,
+    line: Line,
+) -> Registers
     requires { ⌜ line .number + 1 < 4294967296 ⌝ }
-    ensures { λ s. ⌜ made (now (w .exit)) s ≡ assumeLine (now (t .entry)) (now (text .entry)) (now (w .entry)) r (line .number) (line .at)
-        (line .end) ⌝ }
+    ensures { λ s. ⌜ made (now (w .exit)) s ≡ assumeLine (now (t .entry)) clauses (now (text .entry)) (now (w .entry)) r (line .number)
+        (line .at) (line .end) ⌝ }
 {
     if is_line(b"D\tassume", text, line) {
         let q = line.number;
         let clause = child(t, r.node, 0);
         let goal = child(t, r.node, 1);
-        put_hypothesis(w, q, clause, r.frame, r.hypotheses);
+        let start = start_after(t, clauses, w, r.hypotheses);
+        put_hypothesis(w, q, clause, r.frame, r.hypotheses, start);
         return with_sequent(r, goal, r.frame, q + 1, r.level, r.rest);
     }
     broken(r)

@@ -38,7 +38,7 @@ module _ (T : Table) where
       record {
         mode = h .mode;
         atom = h .atom;
-        position = position-same T n w r (withActs r x) (m ∷ ms) refl refl refl (h .position);
+        position = position-same T n w r (withActs r x) (m ∷ ms) refl refl refl refl (h .position);
         place = h .place;
         first = h .first;
         low = h .low;

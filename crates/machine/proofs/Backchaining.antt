@@ -18,7 +18,7 @@ use Rattle.search.specs.Configurations.{Branch, branch, Atom, Configuration, tr
 use Rattle.search.specs.Steps.{settle}
 use Rattle.search.specs.Steps as level1
 use Rattle.search.proofs.Invariant.{EnvironmentBelow, prefix-below}
-use Rattle.node_table.specs.Layout.{kindOf, labelOf, childOf, membersOf, impliesKind}
+use Rattle.node_table.specs.Layout.{orderNumber, kindOf, labelOf, childOf, membersOf, impliesKind}
 use Rattle.node_table.specs.Decoding.{argumentsAt, goalAt}
 use Rattle.machine.specs.declared.Registers.{Registers}
 use Rattle.machine.specs.Fields as fields
@@ -29,9 +29,11 @@ use Rattle.machine.specs.Words.{truncate, increment, environmentAt}
 use Rattle.machine.specs.Frames.{copyFrame, putFresh}
 use Rattle.machine.specs.Reading.{lineAt, variablesFrom}
 use Rattle.machine.specs.ChoicePoints.{saveChoice}
-use Rattle.machine.specs.Goals.{membersLeft, tryFrom}
+use Rattle.machine.specs.Goals.{membersLeft, tryFrom, afterSheet, fromClause, firstMember}
 use Rattle.machine.specs.Matching.{pairsFrom, duePairs}
-use Rattle.machine.specs.Backchaining.{clauseOf, clauseFrame, nextClause, nextMember, putPrefix, saveAlternative, putBody, putTry}
+use Rattle.machine.specs.AssumptionChains.{parentOf, oldestOf, laterOf}
+use Rattle.machine.specs.Backchaining.{clauseOf, clauseFrame, afterAssumption, nextClause, nextMember, putPrefix, saveAlternative}
+use Rattle.machine.specs.Backchaining.{putBody, putTry}
 use Rattle.machine.specs.Backchaining.{tried, tryMember}
 use Rattle.machine.proofs.Words.{truncate-small, increment-small}
 use Rattle.machine.proofs.MemoryOrder.{Extends, Grow, extends-22, grow-refl, grow-trans, grow-puts}
@@ -80,7 +82,7 @@ module _ (T : Table) where
         record {
           mode = refl;
           atom = at;
-          position = position-same T n w r (withMode r tryMode) (x ∷ xs) refl refl refl p;
+          position = position-same T n w r (withMode r tryMode) (x ∷ xs) refl refl refl refl p;
           place = pl;
           first = l;
           low = m;
@@ -91,20 +93,40 @@ module _ (T : Table) where
 
   -- The next member: only the position changes.
   pub next-is : (w : List ℕ) (r : Registers) → (h : ℕ) × (i : ℕ) × (k : ℕ)
-      × (nextMember (T .numbers) w r ≡ withMember r h i k (increment (r .place)))
-  unfolding nextMember nextClause
-  next-is w r = go (ltb (increment (r .member)) (membersOf (T .numbers) (clauseOf (T .numbers) w r))) (eqb (r .hypothesis) 0)
+      × (nextMember (T .numbers) (T .clauses) w r ≡ withMember r h i k (increment (r .place)))
+  unfolding nextMember nextClause fromClause afterSheet afterAssumption
+  next-is w r =
+      go (ltb (increment (r .member)) (membersOf (T .numbers) (clauseOf (T .numbers) w r))) (eqb (r .hypothesis) 0)
+      (ltb (increment (r .clause)) (T .clauses)) (eqb (orderNumber (T .numbers)) 0)
     where
       q : Registers
       q = withMember r (r .hypothesis) (r .clause) (increment (r .member)) (increment (r .place))
 
-      go : (b c : Bool) → (h : ℕ) × (i : ℕ) × (k : ℕ)
-          × (cond b q (cond c (withMember r 0 (increment (r .clause)) 0 (increment (r .place)))
-          (withMember r (field w (r .hypothesis - 1) fields.assumptionNext) 0 0 (increment (r .place)))) ≡ withMember r h i k
-          (increment (r .place)))
-      go true c = (r .hypothesis, r .clause, increment (r .member), refl)
-      go false true = (0, increment (r .clause), 0, refl)
-      go false false = (field w (r .hypothesis - 1) fields.assumptionNext, 0, 0, refl)
+      p : ℕ
+      p = increment (r .place)
+
+      go : (b c d o : Bool) → (h : ℕ) × (i : ℕ) × (k : ℕ)
+          × (cond b q (cond c (cond d (withMember r 0 (increment (r .clause)) 0 p)
+          (withMember r (cond o (oldestOf w (r .program)) 0) (T .clauses) 0 p))
+          (cond o (withMember r (laterOf w (r .program) (r .hypothesis)) (T .clauses) 0 p)
+          (withMember r (parentOf w (r .hypothesis)) 0 0 p))) ≡ withMember r h i k p)
+      go true c d o = (r .hypothesis, r .clause, increment (r .member), refl)
+      go false true true o = (0, increment (r .clause), 0, refl)
+      go false true false o = (cond o (oldestOf w (r .program)) 0, T .clauses, 0, refl)
+      go false false d true = (laterOf w (r .program) (r .hypothesis), T .clauses, 0, refl)
+      go false false d false = (parentOf w (r .hypothesis), 0, 0, refl)
+
+  -- The first member: only the position changes.
+  pub first-is : (w : List ℕ) (r : Registers) → (h : ℕ) × (i : ℕ) × (firstMember (T .numbers) (T .clauses) w r ≡ withMember r h i 0 1)
+  unfolding firstMember fromClause afterSheet
+  first-is w r = go (ltb 0 (T .clauses)) (eqb (orderNumber (T .numbers)) 0)
+    where
+      go : (d o : Bool) → (h : ℕ) × (i : ℕ)
+          × (cond o (cond d (withMember r 0 0 0 1) (withMember r (cond o (oldestOf w (r .program)) 0) (T .clauses) 0 1))
+          (withMember r (r .program) 0 0 1) ≡ withMember r h i 0 1)
+      go true true = (0, 0, refl)
+      go false true = (oldestOf w (r .program), T .clauses, refl)
+      go d false = (r .program, 0, refl)
 
 -- Names and fresh variables.
 variables-are : (l : List ℕ) (x : ℕ) → variablesFrom (length l) x ≡ freshVariables l x
@@ -283,7 +305,7 @@ module _ (T : Table) (w : List ℕ) (r : Registers) (s : Store) (a : Atom) (k : 
             atom-up T u (s .next) w′ (r .node) (r .frame) (r .program) (r .level) a
             (atom-extends T u (s .next) w w′ (r .node) (r .frame) (r .program) (r .level) a e atom);
         position =
-            position-same T (suc u) w′ q (resumed r₀ q) (x ∷ xs) refl refl refl
+            position-same T (suc u) w′ q (resumed r₀ q) (x ∷ xs) refl refl refl refl
             (position-up T u w′ q (x ∷ xs) (position-extends T u w w′ q (x ∷ xs) e p));
         place = ap suc place;
         first = omega arith;
@@ -488,15 +510,16 @@ module _ (T : Table) (w : List ℕ) (r : Registers) (s : Store) (a : Atom) (k : 
       (cond (eqb (kindOf (T .numbers) (m .leaf)) impliesKind) v (r .goals))) (pairsFrom (T .numbers) w′ v 0))
 
   -- It is what the machine does.
-  outcome-is : tryMember (T .numbers) (T .clauses) w r m ≡ tryOutcome (putPrefix w r m) (r .next) (truncate (r .next + m .count))
-      (increment (r .acts)) (nextMember (T .numbers) w r)
+  outcome-is : tryMember (T .numbers) (T .clauses) w r m (nextMember (T .numbers) (T .clauses) w r)
+      ≡ tryOutcome (putPrefix w r m) (r .next) (truncate (r .next + m .count))
+      (increment (r .acts)) (nextMember (T .numbers) (T .clauses) w r)
   unfolding tryOutcome tryMember putTry saveAlternative putBody tried putUse putPath putGoal putPairs puts putsIf saveChoice putChoice
       putChosen putPosition saved
   outcome-is = refl
 
   -- The whole try.
-  pub try-member : nextMember (T .numbers) w r ≡ withMember r h i j (suc (r .place))
-      → ResultAt T (suc (r .acts)) (tryMember (T .numbers) (T .clauses) w r m)
+  pub try-member : nextMember (T .numbers) (T .clauses) w r ≡ withMember r h i j (suc (r .place))
+      → ResultAt T (suc (r .acts)) (tryMember (T .numbers) (T .clauses) w r m (nextMember (T .numbers) (T .clauses) w r))
       (level1.tryMember s a (entry (environmentAt w (clauseFrame w r)) (memberOf (T .numbers) m)) k
       b ++ (level1.tryFrom s a others (suc k) b ++ ds))
   unfolding tryOutcome level1.tryMember putPrefix
@@ -510,12 +533,14 @@ module _ (T : Table) (w : List ℕ) (r : Registers) (s : Store) (a : Atom) (k : 
       let pn : truncate (r .next + m .count) ≡ s .next + m .count = ap (λ (x : ℕ). truncate (x + m .count)) (shared .next)
       ∙ truncate-small (s .next + m .count) (omega arith) in
       subst (λ (z : Made). ResultAt T (suc u) z L) (sym outcome-is)
-      (subst (λ (z : List ℕ). ResultAt T (suc u) (tryOutcome z (r .next) (truncate (r .next + m .count)) (increment u) (nextMember t w r))
+      (subst (λ (z : List ℕ). ResultAt T (suc u) (tryOutcome z (r .next) (truncate (r .next + m .count)) (increment u)
+      (nextMember t (T .clauses) w r))
       L) (sym p₂)
-      (subst (λ (z : ℕ). ResultAt T (suc u) (tryOutcome w₂ z (truncate (r .next + m .count)) (increment u) (nextMember t w r)) L)
+      (subst (λ (z : ℕ). ResultAt T (suc u) (tryOutcome w₂ z (truncate (r .next + m .count)) (increment u)
+      (nextMember t (T .clauses) w r)) L)
       (sym (shared .next))
-      (subst (λ (z : ℕ). ResultAt T (suc u) (tryOutcome w₂ (s .next) z (increment u) (nextMember t w r)) L) (sym pn)
-      (subst (λ (z : ℕ). ResultAt T (suc u) (tryOutcome w₂ (s .next) (s .next + m .count) z (nextMember t w r)) L)
+      (subst (λ (z : ℕ). ResultAt T (suc u) (tryOutcome w₂ (s .next) z (increment u) (nextMember t (T .clauses) w r)) L) (sym pn)
+      (subst (λ (z : ℕ). ResultAt T (suc u) (tryOutcome w₂ (s .next) (s .next + m .count) z (nextMember t (T .clauses) w r)) L)
       (sym (increment-small u (omega arith)))
       (subst (λ (z : Registers). ResultAt T (suc u) (tryOutcome w₂ (s .next) (s .next + m .count) (suc u) z) L) (sym e)
       (try-held w₁ w₂ _ refl refl refl))))))

@@ -31,7 +31,7 @@ use Rattle.machine.proofs.Branches.{SequentAt, sequent-up, BranchAt, br
 use Rattle.machine.proofs.Configurations.{storeOf, atom-up, position-up, ConfigurationAt}
 use Rattle.machine.proofs.ChoicePoints.{SharedAt, shared-up, StateAt, ResultAt}
 use Rattle.machine.proofs.MembersLeft.{MembersAt, some-left, none-left, program-members, position-first}
-use Rattle.machine.proofs.Backchaining.{try-from, next-is, try-member}
+use Rattle.machine.proofs.Backchaining.{first-is, try-from, next-is, try-member}
 use Rattle.clause_members.specs.declared.Found.{Found}
 use Rattle.clause_members.specs.Members.{member, headOf}
 use Rattle.clause_members.proofs.Prefixes.{Prefix}
@@ -80,7 +80,7 @@ module _ (T : Table) (w : List ℕ) (r : Registers) (b : Branch) (ds : List Conf
   -- The member m that was found, with the position of the next.
   tried-found : (s : Store) (a : Atom) (x : Entry Leaf) (xs others : List (Entry Leaf)) (k h i j : ℕ) (m : Found) → Formed s
       → StateAt T (r .acts) w r (try s a x xs k b) ds → FrameIn (r .acts) (s .next) w (clauseFrame w r)
-      → LeafOf T (m .leaf) → Prefix m → nextMember (T .numbers) w r ≡ withMember r h i j (suc (r .place))
+      → LeafOf T (m .leaf) → Prefix m → nextMember (T .numbers) (T .clauses) w r ≡ withMember r h i j (suc (r .place))
       → MembersAt T (r .acts) w (withMember r h i j (suc (r .place))) others
       → ResultAt T (suc (r .acts)) (tryFound (T .numbers) (T .clauses) w r m)
       ((cond (eqb (a .predicate) (memberOf (T .numbers) m .predicate))
@@ -99,11 +99,13 @@ module _ (T : Table) (w : List ℕ) (r : Registers) (b : Branch) (ds : List Conf
       B = level1.tryFrom s a others (suc k) b
 
       go : (c : Bool) → eqb (labelOf t (r .node)) (labelOf t (headOf t (m .leaf))) ≡ c
-          → ResultAt T (suc (r .acts)) (cond c (tryMember t (T .clauses) w r m) (tryFrom (T .clauses) w (nextMember t w r)))
+          → ResultAt T (suc (r .acts)) (cond c (tryMember t (T .clauses) w r m (nextMember t (T .clauses) w r))
+          (tryFrom (T .clauses) w (nextMember t (T .clauses) w r)))
           ((cond c A [] ++ B) ++ ds)
       go true e =
           let f = st .front in
-          subst (λ (z : List Configuration). ResultAt T (suc (r .acts)) (tryMember t (T .clauses) w r m) z) (sym (append-assoc A B ds))
+          subst (λ (z : List Configuration). ResultAt T (suc (r .acts))
+          (tryMember t (T .clauses) w r m (nextMember t (T .clauses) w r)) z) (sym (append-assoc A B ds))
           (try-member T w r s a k b ds room small (f .atom) (f .place) (f .first) (f .low) (f .branch) (st .shared) fm fr m lf pk
           (eqb-true (labelOf t (r .node)) (labelOf t (headOf t (m .leaf))) e) h i j others left Q)
       go false e =
@@ -122,7 +124,7 @@ module _ (T : Table) (w : List ℕ) (r : Registers) (b : Branch) (ds : List Conf
       let p = f .place in
       let l = f .low in
       let m = member t (clauseOf t w r) (r .member) in
-      let Q : nextMember t w r ≡ withMember r (N .0) (N .1) (N .2) (suc (r .place)) = N .3
+      let Q : nextMember t (T .clauses) w r ≡ withMember r (N .0) (N .1) (N .2) (suc (r .place)) = N .3
       ∙ ap (withMember r (N .0) (N .1) (N .2)) (increment-small (r .place) (omega arith)) in
       let X : x ≡ entry (environmentAt w (clauseFrame w r)) (memberOf (T .numbers) m) =
       head-is x (entry (environmentAt w (clauseFrame w r)) (memberOf (T .numbers) m)) xs (F .others) (F .are) in
@@ -143,22 +145,24 @@ module _ (T : Table) (w : List ℕ) (r : Registers) (b : Branch) (ds : List Conf
       → SequentAt T (r .acts) w (r .node) (r .frame) (r .program) (r .level) g → EnvironmentBelow (s .next) (g .environment)
       → BranchAt T (r .acts) (s .next) w (r .goals) (r .path) (r .line) b
       → SharedAt T (r .acts) w (r .next) (r .trail) (r .choice) s ds
-      → ResultAt T (suc (r .acts)) (takeAtom (T .clauses) w r)
+      → ResultAt T (suc (r .acts)) (takeAtom (T .numbers) (T .clauses) w r)
       (level1.takeGoal (r .acts) s (g .goal) (g .environment) (g .program) (g .level) b ++ ds)
   unfolding takeAtom level1.takeGoal withMember
   take-atom s g k sq bl br sh =
       let u = r .acts in
       let n = sq .node .0 in
       let Q = sequent-up T u w (r .node) (r .frame) (r .program) (r .level) g sq in
-      rw (← sq .goal, goal-atom t (T .nodes) (nodes-are T) (r .node) n k)
-      (try-from T (suc u) w (withMember r (r .program) 0 0 1) s
+      let F = first-is T w r in
+      rw (← sq .goal, goal-atom t (T .nodes) (nodes-are T) (r .node) n k, F .2)
+      (try-from T (suc u) w (withMember r (F .0) (F .1) 0 1) s
       (record {
         predicate = labelOf t (r .node);
         arguments = substitutes (argumentsAt t (r .node)) (g .environment);
         program = g .program;
         level = g .level;
       }) (entries (g .program)) 1 b ds
-      (program-members T (suc u) w r 1 (Q .program)) (record {
+      (subst (λ (z : Registers). MembersAt T (suc u) w z (entries (g .program))) (F .2) (program-members T (suc u) w r (Q .program)))
+      (record {
         node = (n, T .made .goalNode (r .node) n (sq .node .1) .atom k);
         predicate = refl;
         frame = record { frame = Q .frame; below = subst (EnvironmentBelow (s .next)) (sym (Q .environment)) bl };

@@ -1,25 +1,31 @@
 -- Programs, open goals and the path in memory, and that they stay.
-use Prim.Native.Nat.{ℕ, zero, suc, _+_, _-_, _≤_, _<_}
+use Prim.Native.Nat.{ℕ, zero, suc, _+_, _-_, _*_, _≤_, _<_}
 use native.Mathlib.Omega.{arith}
 use mathlib.Core.Bool.{Bool, true, false, cond}
 use mathlib.Core.Path.{_≡_, refl, sym, ap, ap₂, _∙_, fun-ext, subst}
-use mathlib.Core.List.{List, [], _∷_}
+use mathlib.Core.List.{List, [], _∷_, _++_, map}
+use mathlib.Core.Logic.{inl}
 use lib.Dec.{ltb}
+use lib.ListN.{length}
 use borrow.Author.Tests.{ltb-true, ne-eqb}
 use Rattle.terms.specs.Terms.{sheetSymbol, leaf, app, nil}
 use Rattle.formulas.specs.Formulas.{Clause}
-use Rattle.sequents.specs.Sequents.{Environment, Program, hypothesis, Sequent, Line}
-use Rattle.sequents.specs.Derivations.{sheetProgram}
+use Rattle.formulas.specs.Rules.{rules, assume}
+use Rattle.sequents.specs.Sequents.{Environment, Program, Hypothesis, hypothesis, Sequent, Line}
 use Rattle.unification.specs.Store.{Leaf, var}
 use Rattle.search.specs.Configurations.{Branch}
 use Rattle.search.specs.Search.{startEnvironment}
-use Rattle.node_table.specs.Decoding.{goalAt, clauseAtNode, clausesFrom}
+use Rattle.sheet_format.specs.Limits.{numbersPerUnit}
+use Rattle.node_table.specs.Decoding.{goalAt, clauseAtNode, clausesFrom, orderOf}
 use Rattle.node_table.specs.WellMade.{IsGoal, IsClause}
 use Rattle.machine.specs.Fields as fields
 use Rattle.machine.specs.Words.{slotOf, leafOf, environmentAt, variableWord}
+use Rattle.machine.specs.AssumptionChains.{putChain}
+use Rattle.machine.specs.LinkedChains.{Linked}
 use Rattle.machine.specs.Reading.{lineAt, pathFrom}
 use Rattle.machine.proofs.Words.{variable-small}
-use Rattle.machine.proofs.MemoryOrder.{Extends}
+use Rattle.machine.proofs.MemoryOrder.{Extends, extends-back}
+use Rattle.machine.proofs.LinkedChains.{linked-extends, chain-other, extends-chain, linked-chain}
 use Rattle.machine.proofs.Tables.{Table}
 use Rattle.machine.proofs.Terms.{FrameAt, frame-up, frame-extends, environment-extends, variable-leaf}
 use Rattle.memory.specs.Records.{field}
@@ -122,6 +128,12 @@ path-read (suc f) n x (y ∷ ls) w (suc r) k h c =
     rw (pathFrom, ne-eqb (suc r) 0 (λ q. omega arith), e)
     (ap₂ _∷_ (c .1) (path-read f r x ls w (field w r fields.pathBefore) (field w r fields.pathLine) (omega arith) (c .3)))
 
+-- The first k of a list, from the k-th back to the first.
+unfoldable pub backwards : {A : Type 0} → ℕ → List A → List A
+backwards zero l = []
+backwards (suc k) [] = []
+backwards (suc k) (a ∷ l) = backwards k l ++ (a ∷ [])
+
 -- Nothing more is known of a clause.
 abbrev pub Anything : Clause → Type 0
 Anything c = Unit {0}
@@ -142,42 +154,101 @@ module _ (T : Table) where
   abbrev pub FoundOf : ℕ → ℕ → Found → Type 0
   FoundOf n k m = FoundAt (T .numbers) (T .nodes) Anything n k m
 
-  -- The sheet's clauses from the i-th on, c of them, as a program.
-  abbrev pub sheetFrom : ℕ → ℕ → Program Leaf
-  sheetFrom c i = sheetProgram (clausesFrom (T .numbers) c i) startEnvironment
+  -- The sheet's clauses from the i-th on, c of them.
+  abbrev pub sheetFrom : ℕ → ℕ → List (Hypothesis Leaf)
+  sheetFrom c i = map (λ d. hypothesis d startEnvironment) (clausesFrom (T .numbers) c i)
 
-  -- A program: assumptions, each in an earlier record than the one before it, then the sheet's clauses.
-  pub data ProgramAt (n : ℕ) (w : List ℕ) : ℕ → Program Leaf → Type 0 where
-    program-sheet : ProgramAt n w zero (sheetFrom (T .clauses) 0)
-    program-more : {c : Clause} {e : Environment Leaf} {P : Program Leaf} (r : ℕ) → r < n → ClauseOf (field w r fields.assumptionNode)
-        → FrameAt n w (field w r fields.assumptionFrame)
+  -- The program of the sheet, in the order in force, with the assumptions l, latest first.
+  unfoldable pub assuming : List (Hypothesis Leaf) → Program Leaf
+  assuming [] = rules (orderOf (T .numbers)) (sheetFrom (T .clauses) 0)
+  assuming (h ∷ l) = assume h (assuming l)
+
+  -- Assumptions, latest first, each in an earlier record than the one before it.
+  pub data AssumedAt (n : ℕ) (w : List ℕ) : ℕ → List (Hypothesis Leaf) → Type 0 where
+    assumed-none : AssumedAt n w zero []
+    assumed-more : {c : Clause} {e : Environment Leaf} {l : List (Hypothesis Leaf)} (r : ℕ) → r < n
+        → ClauseOf (field w r fields.assumptionNode) → FrameAt n w (field w r fields.assumptionFrame)
         → clauseAtNode (T .numbers) (field w r fields.assumptionNode) ≡ c → environmentAt w (field w r fields.assumptionFrame) ≡ e
-        → ProgramAt n w (field w r fields.assumptionNext) P → field w r fields.assumptionNext ≤ r
-        → ProgramAt n w (suc r) (hypothesis c e ∷ P)
+        → AssumedAt n w (field w r fields.assumptionNext) l → field w r fields.assumptionNext ≤ r
+        → AssumedAt n w (suc r) (hypothesis c e ∷ l)
+
+  -- A program: the chain of its assumptions is linked, so that each is found from the oldest end.
+  pub record ProgramAt (n : ℕ) (w : List ℕ) (h : ℕ) (P : Program Leaf) : Type 0 where
+    pub assumptions : List (Hypothesis Leaf)
+    pub at : AssumedAt n w h assumptions
+    pub linked : Linked (length assumptions) w h
+    pub is : P ≡ assuming assumptions
+
+  -- Assumptions stay in an extended memory.
+  pub assumed-extends : (n : ℕ) (w w′ : List ℕ) {h : ℕ} {l : List (Hypothesis Leaf)} → Extends fields.constantLevel n w w′
+      → AssumedAt n w h l → AssumedAt n w′ h l
+  assumed-extends n w w′ e assumed-none = assumed-none
+  assumed-extends n w w′ e (assumed-more {l = l} r b c f i j p a) =
+      let e₁ = e .old r fields.assumptionNode b (omega arith) (omega arith) in
+      let e₂ = e .old r fields.assumptionFrame b (omega arith) (omega arith) in
+      let e₃ = e .old r fields.assumptionNext b (omega arith) (omega arith) in
+      assumed-more r b (rw e₁ c) (rw e₂ (frame-extends n w w′ (field w r fields.assumptionFrame) e f)) (ap (clauseAtNode (T .numbers)) e₁
+      ∙ i)
+      (ap (environmentAt w′) e₂ ∙ environment-extends n w w′ (field w r fields.assumptionFrame) e f ∙ j)
+      (subst (λ (x : ℕ). AssumedAt n w′ x l) (sym e₃) (assumed-extends n w w′ e p)) (rw e₃ a)
+
+  -- Assumptions stay one act later.
+  pub assumed-up : (n : ℕ) (w : List ℕ) {h : ℕ} {l : List (Hypothesis Leaf)} → AssumedAt n w h l → AssumedAt (suc n) w h l
+  assumed-up n w assumed-none = assumed-none
+  assumed-up n w (assumed-more r b c f i j p a) =
+      assumed-more r (omega arith) c (frame-up n w (field w r fields.assumptionFrame) f) i j (assumed-up n w p) a
+
+  -- Assumptions were made before.
+  pub assumed-le : (n : ℕ) (w : List ℕ) {h : ℕ} {l : List (Hypothesis Leaf)} → AssumedAt n w h l → h ≤ n
+  assumed-le n w assumed-none = omega arith
+  assumed-le n w (assumed-more r b c f i j p a) = omega arith
 
   -- A program stays in an extended memory.
   pub program-extends : (n : ℕ) (w w′ : List ℕ) {h : ℕ} {P : Program Leaf} → Extends fields.constantLevel n w w′ → ProgramAt n w h P
       → ProgramAt n w′ h P
-  program-extends n w w′ e program-sheet = program-sheet
-  program-extends n w w′ e (program-more {P = P} r l c f i j p b) =
-      let e₁ = e .old r fields.assumptionNode l (omega arith) (omega arith) in
-      let e₂ = e .old r fields.assumptionFrame l (omega arith) (omega arith) in
-      let e₃ = e .old r fields.assumptionNext l (omega arith) (omega arith) in
-      program-more r l (rw e₁ c) (rw e₂ (frame-extends n w w′ (field w r fields.assumptionFrame) e f)) (ap (clauseAtNode (T .numbers)) e₁
-      ∙ i)
-      (ap (environmentAt w′) e₂ ∙ environment-extends n w w′ (field w r fields.assumptionFrame) e f ∙ j)
-      (subst (λ (x : ℕ). ProgramAt n w′ x P) (sym e₃) (program-extends n w w′ e p)) (rw e₃ b)
+  program-extends n w w′ {h = h} e p = record {
+    assumptions = p .assumptions;
+    at = assumed-extends n w w′ e (p .at);
+    linked = linked-extends n w w′ e (length (p .assumptions)) h (assumed-le n w (p .at)) (p .linked);
+    is = p .is;
+  }
 
   -- A program stays one act later.
   pub program-up : (n : ℕ) (w : List ℕ) {h : ℕ} {P : Program Leaf} → ProgramAt n w h P → ProgramAt (suc n) w h P
-  program-up n w program-sheet = program-sheet
-  program-up n w (program-more r l c f i j p b) =
-      program-more r (omega arith) c (frame-up n w (field w r fields.assumptionFrame) f) i j (program-up n w p) b
+  program-up n w p = record { assumptions = p .assumptions; at = assumed-up n w (p .at); linked = p .linked; is = p .is }
 
-  -- Assumptions were made before.
+  -- The pointer of a program names a record made before, or none.
   pub program-le : (n : ℕ) (w : List ℕ) {h : ℕ} {P : Program Leaf} → ProgramAt n w h P → h ≤ n
-  program-le n w program-sheet = omega arith
-  program-le n w (program-more r l c f i j p b) = omega arith
+  program-le n w p = assumed-le n w (p .at)
+
+  -- The program of the sheet has no assumption.
+  pub program-sheet : (n : ℕ) (w : List ℕ) → ProgramAt n w 0 (rules (orderOf (T .numbers)) (sheetFrom (T .clauses) 0))
+  unfolding assuming Linked
+  program-sheet n w = record { assumptions = []; at = assumed-none; linked = refl; is = refl }
+
+  -- The record of act n, with its place in the chain, makes the program p longer by its clause.
+  pub program-assumed : (n : ℕ) (w : List ℕ) (p : ℕ) (P : Program Leaf) (c : Clause) (e : Environment Leaf)
+      → ProgramAt (suc n) (putChain w n p) p P → p ≤ n → n < 4294967295 → numbersPerUnit * suc n ≤ length w
+      → field w n fields.assumptionNext ≡ p → ClauseOf (field (putChain w n p) n fields.assumptionNode)
+      → FrameAt (suc n) (putChain w n p) (field (putChain w n p) n fields.assumptionFrame)
+      → clauseAtNode (T .numbers) (field (putChain w n p) n fields.assumptionNode) ≡ c
+      → environmentAt (putChain w n p) (field (putChain w n p) n fields.assumptionFrame) ≡ e
+      → ProgramAt (suc n) (putChain w n p) (suc n) (assume (hypothesis c e) P)
+  unfolding assuming
+  program-assumed n w p P c e h b s room z i f j k =
+      let l = h .assumptions in
+      let next : field (putChain w n p) n fields.assumptionNext ≡ p =
+      chain-other w n p n fields.assumptionNext (omega arith) (inl (omega arith)) ∙ z in
+      let before = linked-extends n (putChain w n p) w (extends-back n w (putChain w n p) (extends-chain n w n p (omega arith))) (length l)
+      p b (h .linked) in
+      record {
+        assumptions = hypothesis c e ∷ l;
+        at =
+            assumed-more n (omega arith) i f j k (subst (λ (x : ℕ). AssumedAt (suc n) (putChain w n p) x l) (sym next) (h .at))
+            (rw next b);
+        linked = linked-chain (length l) w n p before b s room z;
+        is = ap (assume (hypothesis c e)) (h .is);
+      }
 
   -- An open goal in four numbers.
   pub record SequentAt (n : ℕ) (w : List ℕ) (a f h i : ℕ) (g : Sequent Leaf) : Type 0 where

@@ -10,24 +10,29 @@ use lib.ListN.{length, drop}
 use borrow.Author.Tests.{ne-eqb}
 use Rattle.terms.specs.Terms.{Term, substitutes}
 use Rattle.formulas.specs.Members.{members}
-use Rattle.sequents.specs.Sequents.{Program, Entry, entry, entries}
+use Rattle.formulas.specs.Rules.{Order, oldest, latest}
+use Rattle.sequents.specs.Sequents.{Hypothesis, Entry, entry, entriesOf}
 use Rattle.unification.specs.Store.{Leaf, Store}
 use Rattle.unification.specs.Matching.{Pair, pairs, check, fail}
 use Rattle.search.specs.Configurations.{Branch, Atom, Configuration, take, try, match, done}
 use Rattle.search.specs.Search.{startStore}
 use Rattle.node_table.specs.Layout.{labelOf, clauseNode}
-use Rattle.node_table.specs.Decoding.{argumentsAt, clauseAtNode}
+use Rattle.node_table.specs.Decoding.{argumentsAt, clauseAtNode, orderOf}
 use Rattle.machine.specs.declared.Registers.{Registers}
 use Rattle.machine.specs.Fields as fields
 use Rattle.machine.specs.Records.{provedMode, takeMode, compareMode, checkMode, tryMode}
 use Rattle.machine.specs.Words.{environmentAt}
+use Rattle.machine.specs.LinkedChains.{climb, Linked}
 use Rattle.machine.specs.Backchaining.{clauseOf, clauseFrame}
 use Rattle.machine.proofs.MemoryOrder.{Extends}
+use Rattle.machine.proofs.AssumptionChains.{climb-small}
+use Rattle.machine.proofs.LinkedChains.{linked-extends, climb-extends}
 use Rattle.machine.proofs.Tables.{Table, Applied}
 use Rattle.machine.proofs.Terms.{FrameAt, frame-up, frame-extends, environment-extends, FrameIn, framed-extends, framed-up, WordAt}
 use Rattle.machine.proofs.Terms.{word-extends, word-up}
 use Rattle.machine.proofs.WaitingArguments.{PairsAt, NodesAt, pairs-extends, pairs-up, nodes-extends, nodes-up}
 use Rattle.machine.proofs.Branches.{PathAt, path-extends, path-up, ClauseOf, sheetFrom, ProgramAt, program-extends, program-up}
+use Rattle.machine.proofs.Branches.{AssumedAt, assumed-extends, assumed-up, assumed-le, backwards}
 use Rattle.machine.proofs.Branches.{SequentAt, sequent-extends, sequent-up, BranchAt, branch-extends, branch-up}
 use Rattle.memory.specs.Records.{field}
 
@@ -51,21 +56,39 @@ module _ (T : Table) where
     pub level : i ≡ a .level
     pub low : i ≤ n
 
-  -- The members of the clauses after the assumption h, or after the i-th of the sheet.
-  unfoldable pub RestAt : ℕ → List ℕ → ℕ → ℕ → List (Entry Leaf) → Type 0
-  RestAt n w zero i rest = (i < T .clauses) × (rest ≡ entries (sheetFrom T (T .clauses - suc i) (suc i)))
-  RestAt n w (suc r) i rest = (r < n) × (P : Program Leaf) × ProgramAt T n w (field w r fields.assumptionNext) P × (rest ≡ entries P)
-      × (field w r fields.assumptionNext ≤ r)
+  -- The clauses that are tried after the sheet's, the assumptions being l, latest first.
+  unfoldable pub behindSheet : Order → List (Hypothesis Leaf) → List (Hypothesis Leaf)
+  behindSheet oldest l = backwards (length l) l
+  behindSheet latest l = []
+
+  -- The clauses that are tried after the assumption after which k others were made.
+  unfoldable pub behindAssumption : Order → ℕ → List (Hypothesis Leaf) → List (Hypothesis Leaf)
+  behindAssumption oldest k l = backwards k l
+  behindAssumption latest k l = drop (suc k) l ++ sheetFrom T (T .clauses) 0
+
+  -- The clauses after the i-th of the sheet, or after the assumption that a pointer names.
+  unfoldable pub AfterAt : List ℕ → ℕ → ℕ → ℕ → List (Hypothesis Leaf) → List (Hypothesis Leaf) → Type 0
+  AfterAt w p zero i l rest =
+      (i < T .clauses) × (rest ≡ sheetFrom T (T .clauses - suc i) (suc i) ++ behindSheet (orderOf (T .numbers)) l)
+  AfterAt w p (suc q) i l rest =
+      (k : ℕ) × (k < length l) × (suc q ≡ climb k w p) × (rest ≡ behindAssumption (orderOf (T .numbers)) k l)
+
+  -- The clauses after a position in the program p.
+  pub record RestAt (n : ℕ) (w : List ℕ) (p h i : ℕ) (rest : List (Hypothesis Leaf)) : Type 0 where
+    pub assumptions : List (Hypothesis Leaf)
+    pub at : AssumedAt T n w p assumptions
+    pub linked : Linked (length assumptions) w p
+    pub after : AfterAt w p h i assumptions rest
 
   -- The members from the one that the registers name.
   pub record PositionAt (n : ℕ) (w : List ℕ) (r : Registers) (es : List (Entry Leaf)) : Type 0 where
     pub clause : ClauseOf T (clauseOf (T .numbers) w r)
     pub frame : FrameAt n w (clauseFrame w r)
     pub member : r .member < length (members (clauseAtNode (T .numbers) (clauseOf (T .numbers) w r)))
-    pub rest : List (Entry Leaf)
-    pub others : RestAt n w (r .hypothesis) (r .clause) rest
+    pub rest : List (Hypothesis Leaf)
+    pub others : RestAt n w (r .program) (r .hypothesis) (r .clause) rest
     pub are : es ≡ map (entry (environmentAt w (clauseFrame w r)))
-        (drop (r .member) (members (clauseAtNode (T .numbers) (clauseOf (T .numbers) w r)))) ++ rest
+        (drop (r .member) (members (clauseAtNode (T .numbers) (clauseOf (T .numbers) w r)))) ++ entriesOf rest
 
   pub record TryAt (n x : ℕ) (w : List ℕ) (r : Registers) (a : Atom) (es : List (Entry Leaf)) (k : ℕ) (b : Branch) : Type 0 where
     pub mode : r .mode ≡ tryMode
@@ -144,43 +167,57 @@ module _ (T : Table) where
     low = let l = c .low in omega arith;
   }
 
-  -- The members of the clauses after a position stay in an extended memory.
-  rest-extends : (n : ℕ) (w w′ : List ℕ) (h i : ℕ) (rest : List (Entry Leaf)) → Extends fields.constantLevel n w w′ → RestAt n w h i rest
-      → RestAt n w′ h i rest
-  unfolding RestAt
-  rest-extends n w w′ zero i rest e c = c
-  rest-extends n w w′ (suc r) i rest e c = (
-    c .0,
-    c .1,
-    subst (λ (x : ℕ). ProgramAt T n w′ x (c .1)) (sym (e .old r fields.assumptionNext (c .0) (omega arith) (omega arith)))
-        (program-extends T n w w′ e (c .2)),
-    c .3,
-    rw (e .old r fields.assumptionNext (c .0) (omega arith) (omega arith)) (c .4),
-  )
+  -- The clauses after a position stay in an extended memory.
+  rest-extends : (n : ℕ) (w w′ : List ℕ) (p h i : ℕ) (rest : List (Hypothesis Leaf)) → Extends fields.constantLevel n w w′
+      → RestAt n w p h i rest → RestAt n w′ p h i rest
+  unfolding AfterAt
+  rest-extends n w w′ p h i rest e c = record {
+    assumptions = c .assumptions;
+    at = assumed-extends T n w w′ e (c .at);
+    linked = linked-extends n w w′ e (length (c .assumptions)) p (assumed-le T n w (c .at)) (c .linked);
+    after = go h (c .after);
+  }
+    where
+      go : (h : ℕ) → AfterAt w p h i (c .assumptions) rest → AfterAt w′ p h i (c .assumptions) rest
+      go zero a = a
+      go (suc q) a =
+          let k = a .1 in
+          let le = assumed-le T n w (c .at) in
+          (a .0, a .1, a .2 ∙ sym (climb-extends n w w′ e (a .0) (length (c .assumptions)) p le (omega arith) (c .linked)), a .3)
 
-  -- The members of the clauses after a position stay one act later.
-  rest-up : (n : ℕ) (w : List ℕ) (h i : ℕ) (rest : List (Entry Leaf)) → RestAt n w h i rest → RestAt (suc n) w h i rest
-  unfolding RestAt
-  rest-up n w zero i rest c = c
-  rest-up n w (suc r) i rest c = (let l = c .0 in omega arith, c .1, program-up T n w (c .2), c .3, c .4)
+  -- The clauses after a position stay one act later.
+  rest-up : (n : ℕ) (w : List ℕ) (p h i : ℕ) (rest : List (Hypothesis Leaf)) → RestAt n w p h i rest → RestAt (suc n) w p h i rest
+  rest-up n w p h i rest c =
+      record { assumptions = c .assumptions; at = assumed-up T n w (c .at); linked = c .linked; after = c .after }
+
+  -- A position names a record made before, or none.
+  pub rest-le : (n : ℕ) (w : List ℕ) (p q i : ℕ) (rest : List (Hypothesis Leaf)) → RestAt n w p (suc q) i rest → q < n
+  unfolding AfterAt
+  rest-le n w p q i rest c =
+      let k = c .after .1 in
+      let z = c .after .2 in
+      let le = assumed-le T n w (c .at) in
+      let s = climb-small (c .after .0) (length (c .assumptions)) w p (omega arith) (c .linked) in
+      omega arith
 
   -- The node and the frame of the clause to try stay in an extended memory.
-  pub clause-extends : (n : ℕ) (w w′ : List ℕ) (r : Registers) (rest : List (Entry Leaf)) → Extends fields.constantLevel n w w′
-      → RestAt n w (r .hypothesis) (r .clause) rest
+  pub clause-extends : (n : ℕ) (w w′ : List ℕ) (r : Registers) (rest : List (Hypothesis Leaf)) → Extends fields.constantLevel n w w′
+      → RestAt n w (r .program) (r .hypothesis) (r .clause) rest
       → (clauseOf (T .numbers) w′ r ≡ clauseOf (T .numbers) w r) × (clauseFrame w′ r ≡ clauseFrame w r)
-  unfolding clauseOf clauseFrame RestAt
+  unfolding clauseOf clauseFrame
   clause-extends n w w′ r rest e c = go (r .hypothesis) c
     where
-      go : (h : ℕ) → RestAt n w h (r .clause) rest
+      go : (h : ℕ) → RestAt n w (r .program) h (r .clause) rest
           → (cond (eqb h 0) (clauseNode (T .numbers) (r .clause)) (field w′ (h - 1) fields.assumptionNode) ≡ cond (eqb h 0)
           (clauseNode (T .numbers) (r .clause)) (field w (h - 1) fields.assumptionNode))
           × (cond (eqb h 0) 0 (field w′ (h - 1) fields.assumptionFrame) ≡ cond (eqb h 0) 0 (field w (h - 1) fields.assumptionFrame))
       go zero c = (refl, refl)
       go (suc q) c =
           let z : suc q - 1 ≡ q = omega arith in
+          let l = rest-le n w (r .program) q (r .clause) rest c in
           rw (ne-eqb (suc q) 0 (λ x. omega arith), z) (
-            e .old q fields.assumptionNode (c .0) (omega arith) (omega arith),
-            e .old q fields.assumptionFrame (c .0) (omega arith) (omega arith),
+            e .old q fields.assumptionNode l (omega arith) (omega arith),
+            e .old q fields.assumptionFrame l (omega arith) (omega arith),
           )
 
   -- A position stays in an extended memory.
@@ -195,7 +232,7 @@ module _ (T : Table) where
         frame = rw z₁ (frame-extends n w w′ (clauseFrame w r) e (c .frame));
         member = rw z₀ (c .member);
         rest = c .rest;
-        others = rest-extends n w w′ (r .hypothesis) (r .clause) (c .rest) e (c .others);
+        others = rest-extends n w w′ (r .program) (r .hypothesis) (r .clause) (c .rest) e (c .others);
         are = rw (z₀, z₁, environment-extends n w w′ (clauseFrame w r) e (c .frame)) (c .are);
       }
 
@@ -206,20 +243,20 @@ module _ (T : Table) where
     frame = frame-up n w (clauseFrame w r) (c .frame);
     member = c .member;
     rest = c .rest;
-    others = rest-up n w (r .hypothesis) (r .clause) (c .rest) (c .others);
+    others = rest-up n w (r .program) (r .hypothesis) (r .clause) (c .rest) (c .others);
     are = c .are;
   }
 
-  -- A position reads three registers only.
+  -- A position reads four registers only.
   pub position-same : (n : ℕ) (w : List ℕ) (r q : Registers) (es : List (Entry Leaf)) → q .hypothesis ≡ r .hypothesis
-      → q .clause ≡ r .clause → q .member ≡ r .member → PositionAt n w r es → PositionAt n w q es
+      → q .clause ≡ r .clause → q .member ≡ r .member → q .program ≡ r .program → PositionAt n w r es → PositionAt n w q es
   unfolding clauseOf clauseFrame
-  position-same n w r q es e₀ e₁ e₂ c = record {
+  position-same n w r q es e₀ e₁ e₂ e₃ c = record {
     clause = rw (e₀, e₁) (c .clause);
     frame = rw e₀ (c .frame);
     member = rw (e₀, e₁, e₂) (c .member);
     rest = c .rest;
-    others = rw (e₀, e₁) (c .others);
+    others = rw (e₀, e₁, e₃) (c .others);
     are = rw (e₀, e₁, e₂) (c .are);
   }
 

@@ -7,8 +7,10 @@ use mathlib.Core.Logic.{_⊎_, inl, inr}
 use lib.ListN.{length, getD}
 use Rattle.terms.specs.Lists.{update}
 use Rattle.terms.specs.Terms.{leaf}
-use Rattle.formulas.specs.Formulas.{and, or, implies, exists, forall}
-use Rattle.sequents.specs.Sequents.{hypothesis, Sequent, sequent, Line, plain, Dtrue, Dand, Dleft, Dright, Dassume, Dsome, Dall, assign}
+use Rattle.formulas.specs.Formulas.{Clause, and, or, implies, exists, forall}
+use Rattle.formulas.specs.Rules.{assume}
+use Rattle.sequents.specs.Sequents.{Environment, hypothesis, Sequent, sequent, Line, plain, Dtrue, Dand, Dleft, Dright, Dassume}
+use Rattle.sequents.specs.Sequents.{Dsome, Dall, assign}
 use Rattle.unification.specs.Store.{Leaf, var, con, Store, fresh, past, freshLevels, freshVariables}
 use Rattle.unification.specs.Promises.{Formed}
 use Rattle.search.specs.Configurations.{Branch, branch, Configuration, take}
@@ -28,12 +30,15 @@ use Rattle.machine.specs.Frames.{copyFrame, putFresh}
 use Rattle.machine.specs.Reading.{lineAt}
 use Rattle.machine.specs.Goals.{proceed, takeTrue, takeAnd, rightBranch, takeOr, takeImplies, takeExists, putConstant, takeForall}
 use Rattle.machine.specs.ChoicePoints.{saveChoice}
+use Rattle.machine.specs.AssumptionChains.{putChain}
 use Rattle.machine.proofs.Words.{increment-small, constant-small}
 use Rattle.machine.proofs.MemoryOrder.{Extends, Grow, extends-22, grow-trans, grow-put, grow-puts}
 use Rattle.machine.proofs.Tables.{Table, nodes-are}
-use Rattle.machine.proofs.Terms.{constant-at, constant-leaf}
+use Rattle.machine.proofs.LinkedChains.{grow-chain, chain-other}
+use Rattle.machine.proofs.Terms.{FrameAt, constant-at, constant-leaf}
 use Rattle.machine.proofs.Stores.{store-up, store-grow}
-use Rattle.machine.proofs.Branches.{LineBelow, PathAt, path-extends, path-wider, GoalOf, ProgramAt, program-more, program-le}
+use Rattle.machine.proofs.Branches.{LineBelow, PathAt, path-extends, path-wider, GoalOf, ClauseOf, ProgramAt, program-le}
+use Rattle.machine.proofs.Branches.{program-assumed}
 use Rattle.machine.proofs.Branches.{SequentAt, sequent-extends, sequent-up, GoalsAt, goals-extends, goals-up, goals-le, BranchAt}
 use Rattle.machine.proofs.Configurations.{storeOf, ConfigurationAt}
 use Rattle.machine.proofs.ChoicePoints.{bounded-next, alternatives-wider, SharedAt, shared-grow, ResultAt}
@@ -186,32 +191,58 @@ module _ (T : Table) (w : List ℕ) (r : Registers) (s : Store) (g : Sequent Lea
       rw (← goal .goal, goal-and t (T .nodes) (nodes-are T) (r .node) (goal .node .0) (goal .node .1) k, increment-small u (omega arith))
       (and-held _ k refl)
 
+  -- The program of the goal at the right of >.
+  implies-program : (w₂ w′ : List ℕ) {c : Clause} {e : Environment Leaf} → w′ ≡ putChain w₂ (r .acts) (r .program)
+      → ProgramAt T (suc (r .acts)) w′ (r .program) (g .program) → numbersPerUnit * suc (r .acts) ≤ length w₂
+      → field w₂ (r .acts) fields.assumptionNext ≡ r .program → ClauseOf T (field w′ (r .acts) fields.assumptionNode)
+      → FrameAt (suc (r .acts)) w′ (field w′ (r .acts) fields.assumptionFrame)
+      → clauseAtNode (T .numbers) (field w′ (r .acts) fields.assumptionNode) ≡ c
+      → environmentAt w′ (field w′ (r .acts) fields.assumptionFrame) ≡ e
+      → ProgramAt T (suc (r .acts)) w′ (suc (r .acts)) (assume (hypothesis c e) (g .program))
+  implies-program w₂ w′ {c = c} {e = e} y p l f i fr j k =
+      let few = program-le T u w (goal .program) in
+      subst (λ (v : List ℕ). ProgramAt T (suc u) v (suc u) (assume (hypothesis c e) (g .program))) (sym y)
+      (program-assumed T u w₂ (r .program) (g .program) c e (subst (λ (v : List ℕ). ProgramAt T (suc u) v (r .program) (g .program)) y p)
+      few (omega arith) l f (subst (λ (v : List ℕ). ClauseOf T (field v u fields.assumptionNode)) y i)
+      (subst (λ (v : List ℕ). FrameAt (suc u) v (field v u fields.assumptionFrame)) y fr)
+      (subst (λ (v : List ℕ). clauseAtNode t (field v u fields.assumptionNode) ≡ c) y j)
+      (subst (λ (v : List ℕ). environmentAt v (field v u fields.assumptionFrame) ≡ e) y k))
+
   -- At >, the first child is assumed and the second is due.
-  implies-held : (w′ : List ℕ) → kindOf (T .numbers) (r .node) ≡ impliesKind
-      → w′ ≡ puts (childOf (T .numbers) (r .node) 0 ∷ r .frame ∷ r .program ∷ [])
+  implies-held : (w₂ w′ : List ℕ) → kindOf (T .numbers) (r .node) ≡ impliesKind
+      → w₂ ≡ puts (childOf (T .numbers) (r .node) 0 ∷ r .frame ∷ r .program ∷ [])
       (puts (r .path ∷ r .line ∷ []) w (r .acts) fields.pathBefore) (r .acts) fields.assumptionNode
+      → w′ ≡ putChain w₂ (r .acts) (r .program)
       → ResultAt T (suc (r .acts))
       (made w′ (withGoal (withPath r (suc (r .acts)) assumeLine) (childOf (T .numbers) (r .node) 1) (r .frame) (suc (r .acts)) (r .level)))
       (take s (sequent (goalAt (T .numbers) (childOf (T .numbers) (r .node) 1)) (g .environment)
-      (hypothesis (clauseAtNode (T .numbers) (childOf (T .numbers) (r .node) 0)) (g .environment) ∷ g .program) (g .level))
+      (assume (hypothesis (clauseAtNode (T .numbers) (childOf (T .numbers) (r .node) 0)) (g .environment)) (g .program)) (g .level))
       (branch (b .goals) (plain Dassume ∷ b .path)) ∷ ds)
   unfolding withPath withGoal lineAt ResultAt ConfigurationAt storeOf
-  implies-held w′ k z =
+  implies-held w₂ w′ k z y =
       let l₁ : List ℕ = r .path ∷ r .line ∷ [] in
       let l₂ : List ℕ = childOf t (r .node) 0 ∷ r .frame ∷ r .program ∷ [] in
-      let gr : Grow u (s .next) w w′ = rw z (two-grow w u (s .next) l₁ 39 l₂ 36 (omega arith) (omega arith) (omega arith) (omega arith)) in
+      let g₂ : Grow u (s .next) w w₂ = rw z (two-grow w u (s .next) l₁ 39 l₂ 36 (omega arith) (omega arith) (omega arith) (omega arith)) in
+      let gr : Grow u (s .next) w w′ = rw y (grow-trans u (s .next) w w₂ (putChain w₂ u (r .program)) g₂
+      (grow-chain u (s .next) w₂ u (r .program) (omega arith))) in
       let h = extends-22 u w w′ (gr .extends) in
+      let len = g₂ .extends .len in
+      let other : (f : ℕ) → f < fields.assumptionDepth → field w′ u f ≡ field w₂ u f =
+      λ f m. rw y (chain-other w₂ u (r .program) u f (omega arith) (inl m)) in
       let e : (i : ℕ) → i < 2 → field w′ u (fields.pathBefore + i) ≡ getD l₁ i 0 =
-      λ i m. rw z (first-at w u l₁ 39 l₂ 36 i (omega arith) (omega arith) room (inr (omega arith)) m) in
-      let f : (i : ℕ) → i < 3 → field w′ u (fields.assumptionNode + i) ≡ getD l₂ i 0 =
-      λ i m. rw z (second-at w u l₁ 39 l₂ 36 i (omega arith) room m) in
-      let f₀ : field w′ u fields.assumptionNode ≡ childOf t (r .node) 0 = f 0 (omega arith) in
-      let f₁ : field w′ u fields.assumptionFrame ≡ r .frame = f 1 (omega arith) in
-      let f₂ : field w′ u fields.assumptionNext ≡ r .program = f 2 (omega arith) in
+      λ i m. other (fields.pathBefore + i) (omega arith)
+      ∙ rw z (first-at w u l₁ 39 l₂ 36 i (omega arith) (omega arith) room (inr (omega arith)) m) in
+      let f₂ : field w₂ u fields.assumptionNext ≡ r .program = rw z (second-at w u l₁ 39 l₂ 36 2 (omega arith) room (omega arith)) in
+      let f₀ : field w′ u fields.assumptionNode ≡ childOf t (r .node) 0 =
+      other fields.assumptionNode (omega arith) ∙ rw z (second-at w u l₁ 39 l₂ 36 0 (omega arith) room (omega arith)) in
+      let f₁ : field w′ u fields.assumptionFrame ≡ r .frame =
+      other fields.assumptionFrame (omega arith) ∙ rw z (second-at w u l₁ 39 l₂ 36 1 (omega arith) room (omega arith)) in
       let a = goal-node .implies k in
       let n = goal .node .0 in
       let la = a .0 in
       let c = goal-later w′ (childOf t (r .node) 1) h (goal-child 1 (a .2) (a .3)) in
+      let clause : ClauseOf T (field w′ u fields.assumptionNode) = rw f₀ (omega arith, a .1) in
+      let frame : FrameAt (suc u) w′ (field w′ u fields.assumptionFrame) = rw f₁ (c .frame) in
       record {
         front = (
           refl,
@@ -220,10 +251,8 @@ module _ (T : Table) (w : List ℕ) (r : Registers) (s : Store) (g : Sequent Lea
             goal = refl;
             frame = c .frame;
             environment = c .environment;
-            program =
-                program-more u (omega arith) (rw f₀ (omega arith, a .1)) (rw f₁ (c .frame)) (ap (clauseAtNode t) f₀)
-                (ap (environmentAt w′) f₁ ∙ c .environment)
-                (subst (λ (x : ℕ). ProgramAt T (suc u) w′ x (g .program)) (sym f₂) (c .program)) (rw f₂ (program-le T u w (goal .program)));
+            program = implies-program w₂ w′ y (c .program) (omega arith) f₂ clause frame (ap (clauseAtNode t) f₀)
+                (ap (environmentAt w′) f₁ ∙ c .environment);
             level = c .level;
             low = c .low;
           },
@@ -247,7 +276,7 @@ module _ (T : Table) (w : List ℕ) (r : Registers) (s : Store) (g : Sequent Lea
         ← goal .goal,
         goal-implies t (T .nodes) (nodes-are T) (r .node) (goal .node .0) (goal .node .1) k,
         increment-small u (omega arith),
-      ) (implies-held _ k refl)
+      ) (implies-held _ _ k refl refl)
 
   -- `right` has the registers with which the right side of | is taken later.
   right : Registers

@@ -24,6 +24,7 @@ use Rattle.machine.specs.Backchaining.{nextMember, putPrefix, saveAltern
 use Rattle.machine.specs.Machine.{dueAct, act, runActs}
 use Rattle.machine.specs.Simulation.{KeepsLength}
 use Rattle.machine.proofs.Records.{length-cell, length-level}
+use Rattle.machine.proofs.LinkedChains.{length-chain}
 use Rattle.machine.proofs.SavedChoices.{saved, save-is}
 use Rattle.memory.proofs.Records.{length-put, puts, length-puts}
 use Rattle.memory.specs.Records.{field, putField}
@@ -165,10 +166,11 @@ length-tryFrom c w r = made-either (membersLeft c r) _ (failed w r) w refl (leng
 length-take : (t : List ℕ) (c : ℕ) (w : List ℕ) (r : Registers) → length (takeGoal t c w r .memory) ≡ length w
 unfolding takeGoal takeAtom takeTrue takeAnd takeOr takeImplies takeExists takeForall putConstant
 length-take t c w r =
-    made-either (eqb k 2) (takeAtom c w r) _ w (length-tryFrom c w _)
+    made-either (eqb k 2) (takeAtom t c w r) _ w (length-tryFrom c w _)
     (made-either (eqb k 4) (takeAnd t w r) _ w (length-goal path u _ _ _ _ _ ∙ path-kept)
     (made-either (eqb k 5) (takeOr t w r) _ w (length-choice path u _ ∙ path-kept)
-    (made-either (eqb k 6) (takeImplies t w r) _ w (length-assumption path u _ _ _ ∙ path-kept)
+    (made-either (eqb k 6) (takeImplies t w r) _ w
+    (length-chain (putAssumption path u _ _ _) u (r .program) ∙ length-assumption path u _ _ _ ∙ path-kept)
     (made-either (eqb k 7) (takeExists t w r) _ w (length-put (putPath x u (r .path) (r .line)) u fields.variables (r .next)
     ∙ length-path x u (r .path) (r .line) ∙ length-fresh 1 copy u (labelOf t (r .node)) (r .next) (r .level) ∙ copied)
     (made-either (eqb k 8) (takeForall t w r) (takeTrue w r) w (length-path y u (r .path) (r .line)
@@ -246,14 +248,15 @@ length-checkWord t w r x =
 length-tryFound : (t : List ℕ) (c : ℕ) (w : List ℕ) (r : Registers) (m : Found) → length (tryFound t c w r m .memory) ≡ length w
 unfolding tryFound tryMember putTry putBody saveAlternative putPrefix
 length-tryFound t c w r m =
-    made-either (eqb (labelOf t (r .node)) (labelOf t (headOf t (m .leaf)))) (tryMember t c w r m) (tryFrom c w (nextMember t w r)) w
-    (length-pairs (putTry t c (putPrefix w r m) r m (nextMember t w r)) u _ _ _ _ _
+    made-either (eqb (labelOf t (r .node)) (labelOf t (headOf t (m .leaf)))) (tryMember t c w r m (nextMember t c w r))
+    (tryFrom c w (nextMember t c w r)) w
+    (length-pairs (putTry t c (putPrefix w r m) r m (nextMember t c w r)) u _ _ _ _ _
     ∙ either (eqb (kindOf t (m .leaf)) impliesKind) _ others others (length-goal others u _ _ _ _ _) refl
-    ∙ either (membersLeft c (nextMember t w r)) _ used used (length-choice used u (nextMember t w r)) refl
+    ∙ either (membersLeft c (nextMember t c w r)) _ used used (length-choice used u (nextMember t c w r)) refl
     ∙ length-use (putPath (putPrefix w r m) u (r .path) (r .line)) u (r .place) (m .count) (r .next)
     ∙ length-path (putPrefix w r m) u (r .path) (r .line)
     ∙ length-fresh (m .count) _ u (m .names) (r .next) (r .level) ∙ length-copy 8 w u _ 0)
-    (length-tryFrom c w (nextMember t w r))
+    (length-tryFrom c w (nextMember t c w r))
   where
     u : ℕ
     u = r .acts
@@ -262,7 +265,7 @@ length-tryFound t c w r m =
     used = putUse (putPath (putPrefix w r m) u (r .path) (r .line)) u (r .place) (m .count) (r .next)
 
     others : List ℕ
-    others = saveAlternative c used u (nextMember t w r)
+    others = saveAlternative c used u (nextMember t c w r)
 
 -- Any act keeps the length.
 pub length-act : (t : List ℕ) (c : ℕ) (w : List ℕ) (r : Registers) → length (act t c w r .memory) ≡ length w

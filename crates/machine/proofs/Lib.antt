@@ -3,6 +3,8 @@ pub mod Records
 pub mod Words
 pub mod Tables
 pub mod MemoryOrder
+pub mod AssumptionChains
+pub mod LinkedChains
 pub mod Terms
 pub mod Trail
 pub mod Stores

@@ -31,6 +31,10 @@ extends-refl lo n w = record { len = refl; old = λ u f a b c. refl }
 pub extends-trans : (lo n : ℕ) (a b c : List ℕ) → Extends lo n a b → Extends lo n b c → Extends lo n a c
 extends-trans lo n a b c p q = record { len = q .len ∙ p .len; old = λ u f x y z. q .old u f x y z ∙ p .old u f x y z }
 
+-- What was changed is changed back.
+pub extends-back : (n : ℕ) (a b : List ℕ) → Extends fields.constantLevel n a b → Extends fields.constantLevel n b a
+extends-back n a b h = record { len = sym (h .len); old = λ u f x y z. sym (h .old u f x y z) }
+
 -- The trail may change as well.
 pub extends-22 : (n : ℕ) (a b : List ℕ) → Extends fields.entryLowered n a b → Extends fields.constantLevel n a b
 extends-22 n a b h = record { len = h .len; old = λ u f x y z. h .old u f x (omega arith) z }

@@ -13,7 +13,8 @@ use Rattle.search.proofs.Units.{allUnits}
 use Rattle.search.proofs.After.{proved-all, comes-least}
 use Rattle.search.proofs.Invariant.{Invariant, step-keeps, start-invariant}
 use Rattle.sheet_format.specs.Limits.{maxBudget, numbersPerUnit}
-use Rattle.node_table.specs.Decoding.{clausesFrom, goalAt}
+use Rattle.formulas.specs.Rules.{Rules, rules}
+use Rattle.node_table.specs.Decoding.{clausesFrom, goalAt, orderOf}
 use Rattle.machine.specs.Records.{Made}
 use Rattle.machine.specs.Machine.{startMemory, startRegisters, runMachine}
 use Rattle.machine.proofs.Tables.{Table}
@@ -34,11 +35,12 @@ pub record ProvedAt (T : Table) (m : Made) (s : Store) (ls : List (Line Leaf)) (
 -- Every proved search ends in such a state.
 pub proved-at : (T : Table) (budget : ℕ) → budget ≤ maxBudget → (w : List ℕ) → numbersPerUnit * budget ≤ length w
     → (s : Store) (ls : List (Line Leaf)) (n : ℕ)
-    → search budget (clausesFrom (T .numbers) (T .clauses) 0) (goalAt (T .numbers) (T .goal)) ≡ ends (proved s ls) n
+    → search budget (rules (orderOf (T .numbers)) (clausesFrom (T .numbers) (T .clauses) 0)) (goalAt (T .numbers) (T .goal))
+    ≡ ends (proved s ls) n
     → ProvedAt T (runMachine budget (T .numbers) (T .clauses) (T .goal) w) s ls n
 unfolding Told Invariant runMachine
 proved-at T budget b w l s ls n e =
-    let cs = clausesFrom (T .numbers) (T .clauses) 0 in
+    let cs = rules (orderOf (T .numbers)) (clausesFrom (T .numbers) (T .clauses) 0) in
     let g = goalAt (T .numbers) (T .goal) in
     let m = runMachine budget (T .numbers) (T .clauses) (T .goal) w in
     let h = subst (λ (o : SearchOutcome). Told T m o) e (told T budget b w l) in

@@ -2,27 +2,31 @@
 use Prim.Native.Nat.{ℕ, zero, suc, _+_, _-_, _*_, _/_, _%_, _≤_, _<_}
 use native.Mathlib.Omega.{arith}
 use mathlib.Core.Bool.{Bool, true, false, cond}
-use mathlib.Core.Path.{_≡_, refl, sym, ap, ap₂, _∙_}
-use mathlib.Core.List.{List, [], _∷_, _++_, map}
-use lib.Dec.{ltb}
+use mathlib.Core.Path.{_≡_, refl, sym, ap, ap₂, _∙_, subst}
+use mathlib.Core.List.{List, [], _∷_, _++_, map, append-nil}
+use lib.Dec.{eqb, ltb}
 use lib.ListN.{length, drop}
-use borrow.Author.Tests.{ltb-true, ne-eqb}
+use borrow.Author.Tests.{ltb-true, eq-eqb, ne-eqb}
 use Rattle.terms.specs.Terms.{Term}
+use Rattle.formulas.specs.Formulas.{Clause}
 use Rattle.formulas.specs.Members.{Member, members}
-use Rattle.sequents.specs.Sequents.{Program, Entry, entry, entries, Sequent}
-use Rattle.sequents.specs.Derivations.{sheetProgram}
+use Rattle.formulas.specs.Rules.{Order, oldest, latest, rules, assume}
+use Rattle.sequents.specs.Sequents.{Environment, Program, Hypothesis, hypothesis, Entry, entry, entriesOf, Sequent}
 use Rattle.unification.specs.Store.{Leaf}
 use Rattle.unification.specs.Matching.{Pair}
 use Rattle.search.specs.Configurations.{Branch, Atom}
 use Rattle.sheet_format.specs.Limits.{maxBudget}
 use Rattle.node_table.specs.Layout.{childCount}
-use Rattle.node_table.specs.Decoding.{clauseAtNode, clausesFrom}
+use Rattle.node_table.specs.Decoding.{clauseAtNode, clausesFrom, orderOf}
 use Rattle.machine.specs.declared.Registers.{Registers}
 use Rattle.machine.specs.Fields as fields
 use Rattle.machine.specs.Records.{made}
 use Rattle.machine.specs.Words.{environmentAt}
 use Rattle.machine.specs.Matching.{positionWord, pairsFrom, nodesFrom, pairsAfter, nodesAfter}
 use Rattle.machine.specs.Backchaining.{clauseOf, clauseFrame}
+use Rattle.machine.specs.AssumptionChains.{parentOf}
+use Rattle.machine.specs.LinkedChains.{climb, Linked}
+use Rattle.machine.specs.ReadingStates.{sheetClauses, assumptionAt, assumptionsFrom, assumptionsAfter, clausesLater}
 use Rattle.machine.specs.ReadingStates.{programFrom, sequentAt, goalsFrom, atomDue, membersDue, waitingPairs, pairsLeft}
 use Rattle.machine.specs.ReadingStates.{pairDue, pairsNext, waitingNodes, nodesLeft, nodeDue}
 use Rattle.machine.proofs.Words.{position-small, position-record, position-argument}
@@ -30,9 +34,13 @@ use Rattle.machine.proofs.Tables.{Table, few-arguments}
 use Rattle.machine.proofs.Terms.{word-term}
 use Rattle.machine.proofs.WaitingArguments.{pairs-from, nodes-from, PairsAt, NodesAt, pairs-before, nodes-before, position-word}
 use Rattle.machine.proofs.WaitingArguments.{pairs-after, nodes-after}
-use Rattle.machine.proofs.Branches.{first-environment, sheetFrom, ProgramAt, program-sheet, program-more, program-le, SequentAt}
+use Rattle.machine.proofs.AssumptionChains.{climb-linked, climb-small}
+use Rattle.machine.proofs.LinkedChains.{assumption-field}
+use Rattle.machine.proofs.Branches.{sheetFrom, backwards, assuming, AssumedAt, assumed-none, assumed-more, assumed-le}
+use Rattle.machine.proofs.Branches.{ProgramAt, SequentAt}
 use Rattle.machine.proofs.Branches.{GoalsAt}
-use Rattle.machine.proofs.Configurations.{AtomAt, RestAt, PositionAt, DueAt, PairAt}
+use Rattle.machine.proofs.Configurations.{AtomAt, behindSheet, behindAssumption, AfterAt, RestAt, PositionAt, DueAt, PairAt}
+use Rattle.machine.proofs.MembersLeft.{parent-last, climb-assumed}
 use Rattle.machine.proofs.MatchActs.{pair-words, due-word}
 use Rattle.memory.specs.Records.{field}
 
@@ -62,25 +70,47 @@ module _ (T : Table) where
   abbrev t : List ℕ
   t = T .numbers
 
+  -- An assumption is read back.
+  assumption-read : (w : List ℕ) (r : ℕ) (c : Clause) (e : Environment Leaf)
+      → clauseAtNode (T .numbers) (field w r fields.assumptionNode) ≡ c → environmentAt w (field w r fields.assumptionFrame) ≡ e
+      → assumptionAt (T .numbers) w (suc r) ≡ hypothesis c e
+  unfolding assumptionAt
+  assumption-read w r c e i j = let z : suc r - 1 ≡ r = omega arith in rw (z, i, j) refl
+
+  -- The sheet's clauses are read back.
+  sheet-read : (i : ℕ) → sheetClauses (T .numbers) (T .clauses) i ≡ sheetFrom T (T .clauses - i) i
+  unfolding sheetClauses
+  sheet-read i = refl
+
+  sheet-all : sheetClauses (T .numbers) (T .clauses) 0 ≡ sheetFrom T (T .clauses) 0
+  sheet-all = let z : T .clauses - 0 ≡ T .clauses = omega arith in sheet-read 0 ∙ ap (λ (c : ℕ). sheetFrom T c 0) z
+
   -- A program is read back.
-  program-read : (f n : ℕ) (w : List ℕ) {h : ℕ} {P : Program Leaf} → h ≤ f → ProgramAt T n w h P
-      → programFrom f (T .numbers) (T .clauses) w h 0 ≡ P
-  unfolding programFrom
-  program-read zero n w l program-sheet =
-      let e : T .clauses - 0 ≡ T .clauses = omega arith in ap (λ (c : ℕ). sheetFrom T c 0) e
-  program-read zero n w l (program-more r k a g i j p b) = absurd (omega arith)
-  program-read (suc f) n w l program-sheet =
-      let e : T .clauses - 0 ≡ T .clauses = omega arith in ap (λ (c : ℕ). sheetFrom T c 0) e
-  program-read (suc f) n w l (program-more r k a g i j p b) =
-      let e : suc r - 1 ≡ r = omega arith in
-      rw (programFrom, ne-eqb (suc r) 0 (λ q. omega arith), e, i, j) (ap₂ _∷_ refl (program-read f n w (omega arith) p))
+  assumed-read : (f n : ℕ) (w : List ℕ) {h : ℕ} {l : List (Hypothesis Leaf)} → h ≤ f → AssumedAt T n w h l
+      → programFrom f (T .numbers) (T .clauses) w h ≡ assuming T l
+  unfolding programFrom assuming
+  assumed-read zero n w b assumed-none = ap (rules (orderOf t)) sheet-all
+  assumed-read zero n w b (assumed-more r k a g i j p c) = absurd (omega arith)
+  assumed-read (suc f) n w b assumed-none = ap (rules (orderOf t)) sheet-all
+  assumed-read (suc f) n w b (assumed-more {c = c} {e = e} r k a g i j p d) =
+      rw (
+        programFrom,
+        ne-eqb (suc r) 0 (λ q. omega arith),
+        assumption-read w r c e i j,
+        assumption-field w r fields.assumptionNext,
+        assumed-read f n w (omega arith) p,
+      ) refl
+
+  program-read : (n : ℕ) (w : List ℕ) {h : ℕ} {P : Program Leaf} → ProgramAt T n w h P
+      → programFrom n (T .numbers) (T .clauses) w h ≡ P
+  program-read n w p = assumed-read n n w (assumed-le T n w (p .at)) (p .at) ∙ sym (p .is)
 
   -- An open goal is read back.
   pub sequent-read : (w : List ℕ) (r : Registers) (a f h i : ℕ) (g : Sequent Leaf) → SequentAt T (r .acts) w a f h i g
       → sequentAt (T .numbers) (T .clauses) (made w r) a f h i ≡ g
   unfolding sequentAt
   sequent-read w r a f h i g c =
-      rw (c .goal, c .environment, program-read (r .acts) (r .acts) w (program-le T (r .acts) w (c .program)) (c .program), c .level)
+      rw (c .goal, c .environment, program-read (r .acts) w (c .program), c .level)
 
   -- The goals that wait are read back.
   pub goals-read : (f : ℕ) (gs : List (Sequent Leaf)) (w : List ℕ) (r : Registers) (p : ℕ) → p ≤ f → GoalsAt T (r .acts) gs w p
@@ -108,43 +138,113 @@ module _ (T : Table) where
       rw (
         c .predicate,
         c .arguments,
-        program-read (r .acts) (r .acts) w (program-le T (r .acts) w (c .program)) (c .program),
+        program-read (r .acts) w (c .program),
         c .level,
       )
 
-  -- Where no assumption is left, the program is that of the sheet's clauses.
-  sheet-read : (n i : ℕ) (w : List ℕ) → programFrom n (T .numbers) (T .clauses) w 0 i ≡ sheetFrom T (T .clauses - i) i
-  unfolding programFrom
-  sheet-read zero i w = refl
-  sheet-read (suc n) i w = refl
+  -- Assumptions are read back, latest first.
+  older-read : (f n : ℕ) (w : List ℕ) {h : ℕ} {l : List (Hypothesis Leaf)} → h ≤ f → AssumedAt T n w h l
+      → assumptionsFrom f (T .numbers) w h ≡ l
+  unfolding assumptionsFrom
+  older-read zero n w b assumed-none = refl
+  older-read zero n w b (assumed-more r k a g i j p c) = absurd (omega arith)
+  older-read (suc f) n w b assumed-none = refl
+  older-read (suc f) n w b (assumed-more {c = c} {e = e} r k a g i j p d) =
+      rw (
+        assumptionsFrom,
+        ne-eqb (suc r) 0 (λ q. omega arith),
+        assumption-read w r c e i j,
+        assumption-field w r fields.assumptionNext,
+        older-read f n w (omega arith) p,
+      ) refl
 
-  -- The members of the clause that the registers name are read back, then those after it.
-  clauses-read : (n h : ℕ) (w : List ℕ) (r : Registers) (rest : List (Entry Leaf)) → r .hypothesis ≡ h → RestAt T n w h (r .clause) rest
-      → entries (programFrom n (T .numbers) (T .clauses) w h (r .clause)) ≡ map (entry (environmentAt w (clauseFrame w r)))
-      (members (clauseAtNode (T .numbers) (clauseOf (T .numbers) w r))) ++ rest
-  unfolding RestAt programFrom clauseFrame clauseOf entries sheetProgram clausesFrom
-  clauses-read n zero w r rest e o =
-      let l = o .0 in
-      let z : T .clauses - r .clause ≡ suc (T .clauses - suc (r .clause)) = omega arith in
-      rw (sheet-read n (r .clause) w, z, e, o .1, first-environment w)
-  clauses-read zero (suc q) w r rest e o = absurd (let l = o .0 in omega arith)
-  clauses-read (suc n) (suc q) w r rest e o =
-      let z : suc q - 1 ≡ q = omega arith in
-      let l = o .0 in
-      let b = o .4 in
-      rw (programFrom, e, ne-eqb (suc q) 0 (λ x. omega arith), z, o .3)
-      (ap (λ (P : Program Leaf). map (entry (environmentAt w (field w q fields.assumptionFrame)))
-      (members (clauseAtNode t (field w q fields.assumptionNode))) ++ entries P) (program-read n (suc n) w (omega arith) (o .2)))
+  -- Assumptions are read back, oldest first, from the one made after the one that k steps along the parents lead to.
+  later-read : (k f n : ℕ) (w : List ℕ) {h : ℕ} {l : List (Hypothesis Leaf)} → k ≤ length l → h ≤ f → Linked (length l) w h
+      → AssumedAt T n w h l → assumptionsAfter f (T .numbers) w h (climb k w h) ≡ backwards k l
+  unfolding assumptionsAfter climb backwards Linked
+  later-read zero zero n w a b s p = refl
+  later-read zero (suc f) n w {h = h} a b s p = rw (assumptionsAfter, eq-eqb h h refl) refl
+  later-read (suc k) f n w a b s assumed-none = absurd (omega arith)
+  later-read (suc k) zero n w a b s (assumed-more r m c g i j p d) = absurd (omega arith)
+  later-read (suc k) (suc f) n w a b s (assumed-more {c = c} {e = e} {l = l} r m x g i j p d) =
+      let z = assumption-field w r fields.assumptionNext in
+      let q : Linked (length l) w (field w r fields.assumptionNext) = subst (Linked (length l) w) z (s .1) in
+      let less = climb-small k (length l) w (field w r fields.assumptionNext) (omega arith) q in
+      let same : climb (suc k) w (suc r) ≡ climb k w (field w r fields.assumptionNext) = ap (climb k w) z in
+      rw (
+        assumptionsAfter,
+        ne-eqb (suc r) (climb (suc k) w (suc r)) (λ y. omega arith),
+        assumption-read w r c e i j,
+      )
+      (ap (_++ (hypothesis c e ∷ [])) (ap₂ (assumptionsAfter f t w) z same ∙ later-read k f n w (omega arith) (omega arith) q p))
+
+  -- Past the oldest assumption there is none.
+  chain-end : (n : ℕ) (w : List ℕ) (p : ℕ) → Linked n w p → climb n w p ≡ 0
+  unfolding Linked
+  chain-end n w p s =
+      let z : n - n ≡ 0 = omega arith in
+      subst (λ (m : ℕ). Linked m w (climb n w p)) z (climb-linked n n w p (omega arith) s)
+
+  -- The clauses after the one that the registers name are read back.
+  clauses-read : (n : ℕ) (w : List ℕ) (r : Registers) (rest : List (Hypothesis Leaf))
+      → RestAt T n w (r .program) (r .hypothesis) (r .clause) rest → clausesLater n (T .numbers) (T .clauses) w r ≡ rest
+  unfolding clausesLater AfterAt behindSheet behindAssumption
+  clauses-read n w r rest c = go (orderOf t) (r .hypothesis) refl (c .after)
+    where
+      l : List (Hypothesis Leaf)
+      l = c .assumptions
+
+      le : r .program ≤ n
+      le = assumed-le T n w (c .at)
+
+      go : (o : Order) (h : ℕ) → orderOf t ≡ o → AfterAt T w (r .program) h (r .clause) (c .assumptions) rest
+          → elim o [
+            | oldest ↦
+                elim (eqb h 0) [
+                  | true ↦ sheetClauses t (T .clauses) (suc (r .clause)) ++ assumptionsAfter n t w (r .program) 0
+                  | false ↦ assumptionsAfter n t w (r .program) h
+                ]
+            | latest ↦
+                elim (eqb h 0) [
+                  | true ↦ sheetClauses t (T .clauses) (suc (r .clause))
+                  | false ↦ assumptionsFrom n t w (parentOf w h) ++ sheetClauses t (T .clauses) 0
+                ]
+          ] ≡ rest
+      go oldest zero o a =
+          ap₂ _++_ (sheet-read (suc (r .clause)))
+          (ap (assumptionsAfter n t w (r .program)) (sym (chain-end (length (c .assumptions)) w (r .program) (c .linked)))
+          ∙ later-read (length (c .assumptions)) n n w (omega arith) le (c .linked) (c .at))
+          ∙ ap (λ (q : Order). sheetFrom T (T .clauses - suc (r .clause)) (suc (r .clause)) ++ behindSheet T q (c .assumptions)) (sym o)
+          ∙ sym (a .1)
+      go oldest (suc q) o a =
+          let b = a .1 in
+          rw (ne-eqb (suc q) 0 (λ x. omega arith), a .2)
+          (later-read (a .0) n n w (omega arith) le (c .linked) (c .at)
+          ∙ ap (λ (q : Order). behindAssumption T q (a .0) (c .assumptions)) (sym o) ∙ sym (a .3))
+      go latest zero o a =
+          sheet-read (suc (r .clause)) ∙ sym (append-nil (sheetFrom T (T .clauses - suc (r .clause)) (suc (r .clause))))
+          ∙ ap (λ (q : Order). sheetFrom T (T .clauses - suc (r .clause)) (suc (r .clause)) ++ behindSheet T q (c .assumptions)) (sym o)
+          ∙ sym (a .1)
+      go latest (suc q) o a =
+          let b = a .1 in
+          let z : parentOf w (suc q) ≡ climb (suc (a .0)) w (r .program) = ap (λ (x : ℕ). parentOf w x) (a .2)
+          ∙ sym (parent-last (a .0) w (r .program)) in
+          let older = climb-assumed (suc (a .0)) n w (omega arith) (c .at) in
+          rw (ne-eqb (suc q) 0 (λ x. omega arith), z)
+          (ap₂ _++_ (older-read n n w (assumed-le T n w older) older) sheet-all
+          ∙ ap (λ (q : Order). behindAssumption T q (a .0) (c .assumptions)) (sym o) ∙ sym (a .3))
 
   -- The members left to try are read back.
   pub position-read : (w : List ℕ) (r : Registers) (es : List (Entry Leaf)) → PositionAt T (r .acts) w r es
       → membersDue (T .numbers) (T .clauses) (made w r) ≡ es
-  unfolding membersDue
+  unfolding membersDue entriesOf
   position-read w r es c =
       let l = c .member in
-      ap (drop (r .member)) (clauses-read (r .acts) (r .hypothesis) w r (c .rest) refl (c .others))
-      ∙ drop-entries (entry (environmentAt w (clauseFrame w r))) (r .member) (members (clauseAtNode t (clauseOf t w r))) (c .rest)
-      (omega arith)
+      ap (λ (ds : List (Hypothesis Leaf)). drop (r .member) (entriesOf
+      (hypothesis (clauseAtNode t (clauseOf t w r)) (environmentAt w (clauseFrame w r)) ∷ ds)))
+      (clauses-read (r .acts) w r (c .rest) (c .others))
+      ∙ drop-entries (entry (environmentAt w (clauseFrame w r))) (r .member) (members (clauseAtNode t (clauseOf t w r)))
+      (entriesOf (c .rest)) (omega arith)
       ∙ sym (c .are)
 
   -- The pairs that wait are read back.

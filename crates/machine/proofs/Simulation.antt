@@ -16,7 +16,8 @@ use Rattle.search.specs.Steps.{step}
 use Rattle.search.specs.Search.{start, advance, after, verdictOf, proved, noProof, SearchOutcome, ends, spent, searchFrom, search}
 use Rattle.search.proofs.Invariant.{Invariant, step-keeps, start-invariant, after-invariant}
 use Rattle.sheet_format.specs.Limits.{maxBudget, numbersPerUnit}
-use Rattle.node_table.specs.Decoding.{clausesFrom, goalAt}
+use Rattle.formulas.specs.Rules.{Rules, rules}
+use Rattle.node_table.specs.Decoding.{clausesFrom, goalAt, orderOf}
 use Rattle.machine.specs.declared.Registers.{Registers}
 use Rattle.machine.specs.Records.{Made, made, noMode, provedMode}
 use Rattle.machine.specs.RegisterUpdates.{withActs}
@@ -137,8 +138,8 @@ module _ (T : Table) where
           (ended n w r c ds d (f .few) (f .result))
 
   -- The sheet that the table holds.
-  abbrev clauses : List Clause
-  clauses = clausesFrom (T .numbers) (T .clauses) 0
+  abbrev clauses : Rules Clause
+  clauses = rules (orderOf (T .numbers)) (clausesFrom (T .numbers) (T .clauses) 0)
 
   -- Its goal.
   abbrev goal : Goal
@@ -147,7 +148,7 @@ module _ (T : Table) where
   -- After n acts from the start the machine follows the search.
   pub following : (n : ℕ) (w : List ℕ) → n ≤ maxBudget → numbersPerUnit ≤ length w → numbersPerUnit * n ≤ length w
       → Following n (runMachine n (T .numbers) (T .clauses) (T .goal) w)
-      (after (clausesFrom (T .numbers) (T .clauses) 0) (goalAt (T .numbers) (T .goal)) n)
+      (after (rules (orderOf (T .numbers)) (clausesFrom (T .numbers) (T .clauses) 0)) (goalAt (T .numbers) (T .goal)) n)
   unfolding runMachine runActs after startRegisters
   following zero w b k l = record { result = start-result T w k; counted = λ q. refl; few = omega arith }
   following (suc n) w b k l =
@@ -232,7 +233,7 @@ module _ (T : Table) where
   -- From the start, the machine tells the outcome of the search.
   pub told : (budget : ℕ) → budget ≤ maxBudget → (w : List ℕ) → numbersPerUnit * budget ≤ length w
       → Told (runMachine budget (T .numbers) (T .clauses) (T .goal) w)
-      (search budget (clausesFrom (T .numbers) (T .clauses) 0) (goalAt (T .numbers) (T .goal)))
+      (search budget (rules (orderOf (T .numbers)) (clausesFrom (T .numbers) (T .clauses) 0)) (goalAt (T .numbers) (T .goal)))
   unfolding runMachine search runActs Told start verdictOf searchFrom startRegisters
   told zero b w l = omega arith
   told (suc f) b w l =
@@ -244,7 +245,8 @@ module _ (T : Table) where
 pub simulates : Simulates
 simulates t nodes clauses goal made budget b w l =
     let T : Table = record { numbers = t; nodes = nodes; clauses = clauses; goal = goal; made = made } in
-    told-tells T (runMachine budget t clauses goal w) (search budget (clausesFrom t clauses 0) (goalAt t goal)) (told T budget b w l)
+    told-tells T (runMachine budget t clauses goal w) (search budget (rules (orderOf t) (clausesFrom t clauses 0)) (goalAt t goal))
+    (told T budget b w l)
 
 -- After each number of acts.
 pub follows : Follows
@@ -253,4 +255,4 @@ follows t nodes clauses goal made n b w k l =
     let m = runMachine n t clauses goal w in
     let f = following T n w b k l in
     let few = f .few in
-    stands T (after (clausesFrom t clauses 0) (goalAt t goal) n) (m .memory) (m .registers) (omega arith) (f .result)
+    stands T (after (rules (orderOf t) (clausesFrom t clauses 0)) (goalAt t goal) n) (m .memory) (m .registers) (omega arith) (f .result)

@@ -7,11 +7,12 @@ use mathlib.Core.List.{List}
 use lib.Dec.{eqb}
 use lib.ListN.{length}
 use borrow.Author.Tests.{eqb-true, eqb-false}
-use Rattle.sequents.specs.Derivations.{instanceOf}
+use Rattle.sequents.specs.Derivations.{instanceOf, sheetProgram}
 use Rattle.unification.specs.Store.{binding}
 use Rattle.search.specs.Search.{startStore, startGoal, start}
 use Rattle.sheet_format.specs.Limits.{numbersPerUnit}
-use Rattle.node_table.specs.Decoding.{clausesFrom, goalAt}
+use Rattle.formulas.specs.Rules.{rules}
+use Rattle.node_table.specs.Decoding.{clausesFrom, goalAt, orderOf}
 use Rattle.machine.specs.Records.{cellOf, levelOf, putCell, made}
 use Rattle.machine.specs.Frames.{putVariable, putVariables}
 use Rattle.machine.specs.Machine.{startMemory, startRegisters}
@@ -61,8 +62,9 @@ variables-blank (suc n) w x y l b h k =
 -- The state at the start.
 pub start-result : (T : Table) (w : List ℕ) → numbersPerUnit ≤ length w
     → ResultAt T 0 (made (startMemory w) (startRegisters (T .goal)))
-    (start (clausesFrom (T .numbers) (T .clauses) 0) (goalAt (T .numbers) (T .goal)))
-unfolding startMemory startRegisters start startGoal startStore instanceOf ResultAt ConfigurationAt storeOf GoalsAt PathAt FrameAt binding
+    (start (rules (orderOf (T .numbers)) (clausesFrom (T .numbers) (T .clauses) 0)) (goalAt (T .numbers) (T .goal)))
+unfolding startMemory startRegisters start startGoal startStore instanceOf sheetProgram ResultAt ConfigurationAt storeOf GoalsAt PathAt
+    FrameAt binding
     CellAt
 start-result T w l =
     let blank : (y : ℕ) → y < 8 → Blank (putVariables 8 w 0) y =
@@ -75,7 +77,7 @@ start-result T w l =
           goal = refl;
           frame = tt;
           environment = first-environment (putVariables 8 w 0);
-          program = program-sheet;
+          program = program-sheet T 0 (putVariables 8 w 0);
           level = refl;
           low = omega arith;
         },

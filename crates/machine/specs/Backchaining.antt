@@ -4,7 +4,7 @@ use mathlib.Core.Bool.{cond}
 use mathlib.Core.List.{List}
 use lib.Dec.{eqb, ltb}
 use Rattle.sheet_format.specs.Limits.{maxNodes, variableNames}
-use Rattle.node_table.specs.Layout.{kindOf, labelOf, childOf, membersOf, clauseNode, impliesKind}
+use Rattle.node_table.specs.Layout.{kindOf, labelOf, childOf, membersOf, clauseNode, orderNumber, defaultOrder, impliesKind}
 use Rattle.machine.specs.declared.Registers.{Registers}
 use Rattle.machine.specs.Fields as fields
 use Rattle.machine.specs.Records.{Made, made, putGoal, putPath, putUse, putPairs, clauseLine}
@@ -12,7 +12,8 @@ use Rattle.machine.specs.RegisterUpdates.{withNext, withChoice, withGoal
 use Rattle.machine.specs.Words.{truncate, increment}
 use Rattle.machine.specs.Frames.{copyFrame, putFresh}
 use Rattle.machine.specs.ChoicePoints.{saveChoice}
-use Rattle.machine.specs.Goals.{membersLeft, tryFrom}
+use Rattle.machine.specs.AssumptionChains.{parentOf, laterOf}
+use Rattle.machine.specs.Goals.{membersLeft, tryFrom, fromClause}
 use Rattle.machine.specs.Matching.{pairsFrom, duePairs}
 use Rattle.memory.specs.Records.{field}
 use Rattle.clause_members.specs.declared.Found.{Found}
@@ -25,16 +26,23 @@ clauseOf t w r = cond (eqb (r .hypothesis) 0) (clauseNode t (r .clause)) (field 
 unfoldable pub clauseFrame : List ℕ → Registers → ℕ
 clauseFrame w r = cond (eqb (r .hypothesis) 0) 0 (field w (r .hypothesis - 1) fields.assumptionFrame)
 
--- The clause after it, and the member after it.
-unfoldable pub nextClause : List ℕ → Registers → Registers
-nextClause w r =
-    cond (eqb (r .hypothesis) 0) (withMember r 0 (increment (r .clause)) 0 (increment (r .place)))
-    (withMember r (field w (r .hypothesis - 1) fields.assumptionNext) 0 0 (increment (r .place)))
+-- After an assumption: by default the one made after it, with `O latest` the one made before it or else the sheet's first clause (request
+-- W-207); c is the number of the sheet's clauses, p the place of the member.
+unfoldable pub afterAssumption : List ℕ → ℕ → List ℕ → Registers → ℕ → Registers
+afterAssumption t c w r p =
+    cond (eqb (orderNumber t) defaultOrder) (withMember r (laterOf w (r .program) (r .hypothesis)) c 0 p)
+    (withMember r (parentOf w (r .hypothesis)) 0 0 p)
 
-unfoldable pub nextMember : List ℕ → List ℕ → Registers → Registers
-nextMember t w r =
+-- The clause after it, and the member after it.
+unfoldable pub nextClause : List ℕ → ℕ → List ℕ → Registers → Registers
+nextClause t c w r =
+    cond (eqb (r .hypothesis) 0) (fromClause t c w r (increment (r .clause)) (increment (r .place)))
+    (afterAssumption t c w r (increment (r .place)))
+
+unfoldable pub nextMember : List ℕ → ℕ → List ℕ → Registers → Registers
+nextMember t c w r =
     cond (ltb (increment (r .member)) (membersOf t (clauseOf t w r)))
-    (withMember r (r .hypothesis) (r .clause) (increment (r .member)) (increment (r .place))) (nextClause w r)
+    (withMember r (r .hypothesis) (r .clause) (increment (r .member)) (increment (r .place))) (nextClause t c w r)
 
 -- "The prefix gets fresh variables of level I."
 unfoldable pub putPrefix : List ℕ → Registers → Found → List ℕ
@@ -62,17 +70,17 @@ tried t c r m s =
     (cond (membersLeft c s) (increment (r .acts)) (r .choice)))
     (cond (eqb (kindOf t (m .leaf)) impliesKind) (increment (r .acts)) (r .goals))
 
--- The predicates agree: the argument pairs are due.
-unfoldable pub tryMember : List ℕ → ℕ → List ℕ → Registers → Found → Made
-tryMember t c w r m =
-    let s = nextMember t w r in
+-- The predicates agree: the argument pairs are due. s are the registers at the next member.
+unfoldable pub tryMember : List ℕ → ℕ → List ℕ → Registers → Found → Registers → Made
+tryMember t c w r m s =
     let w′ = putPairs (putTry t c (putPrefix w r m) r m s) (r .acts) (r .node) (r .frame) (headOf t (m .leaf)) (increment (r .acts)) 0 in
     made w′ (duePairs w′ (tried t c r m s) (pairsFrom t w′ (increment (r .acts)) 0))
 
 -- "Matching first compares predicates; if they differ the try fails."
 unfoldable pub tryFound : List ℕ → ℕ → List ℕ → Registers → Found → Made
 tryFound t c w r m =
-    cond (eqb (labelOf t (r .node)) (labelOf t (headOf t (m .leaf)))) (tryMember t c w r m) (tryFrom c w (nextMember t w r))
+    let s = nextMember t c w r in
+    cond (eqb (labelOf t (r .node)) (labelOf t (headOf t (m .leaf)))) (tryMember t c w r m s) (tryFrom c w s)
 
 -- One act.
 unfoldable pub tryNext : List ℕ → ℕ → List ℕ → Registers → Made

@@ -50,7 +50,8 @@ goalLevel = 34
 abbrev pub goalNext : ℕ
 goalNext = 35
 
--- Assumption: clause's node, frame, next assumption.
+-- Assumption: clause's node, frame, next assumption; depth and jump (AssumptionChains) have the numbers of `usePlace` and `useCount`,
+-- since no act both assumes a clause and uses a member (W-207).
 abbrev pub assumptionNode : ℕ
 assumptionNode = 36
 
@@ -59,6 +60,12 @@ assumptionFrame = 37
 
 abbrev pub assumptionNext : ℕ
 assumptionNext = 38
+
+abbrev pub assumptionDepth : ℕ
+assumptionDepth = 41
+
+abbrev pub assumptionJump : ℕ
+assumptionJump = 42
 
 -- Path: line before (pointer, then which line it is), place, number of names, number of variables before this act.
 abbrev pub pathBefore : ℕ

@@ -4,7 +4,8 @@ use mathlib.Core.Bool.{Bool, true, cond}
 use mathlib.Core.List.{List}
 use lib.Dec.{eqb, ltb}
 use Rattle.sheet_format.specs.Limits.{variableNames}
-use Rattle.node_table.specs.Layout.{kindOf, labelOf, childOf, existsKind, forallKind, impliesKind, orKind, andKind, atomKind}
+use Rattle.node_table.specs.Layout.{kindOf, labelOf, childOf, orderNumber, defaultOrder, existsKind, forallKind, impliesKind, orKind}
+use Rattle.node_table.specs.Layout.{andKind, atomKind}
 use Rattle.machine.specs.declared.Registers.{Registers}
 use Rattle.machine.specs.Fields as fields
 use Rattle.machine.specs.Records.{Made, made, putGoal, putAssumption, putPath, allLine, someLine, assumeLine, leftLine, rightLine}
@@ -13,6 +14,7 @@ use Rattle.machine.specs.RegisterUpdates.{withMode, withNext, withChoice
 use Rattle.machine.specs.Words.{increment, constantWord}
 use Rattle.machine.specs.Frames.{copyFrame, putFresh}
 use Rattle.machine.specs.ChoicePoints.{saveChoice, failed}
+use Rattle.machine.specs.AssumptionChains.{putChain, oldestOf}
 use Rattle.memory.specs.Records.{field, putField}
 
 -- The goal that waits in record q is due.
@@ -32,9 +34,23 @@ membersLeft c r = cond (eqb (r .hypothesis) 0) (ltb (r .clause) c) true
 unfoldable pub tryFrom : ℕ → List ℕ → Registers → Made
 tryFrom c w r = cond (membersLeft c r) (made w (withMode r tryMode)) (failed w r)
 
--- "atom: members are tried in turn, assumptions first, latest first, then the sheet's in order."
-unfoldable pub takeAtom : ℕ → List ℕ → Registers → Made
-takeAtom c w r = tryFrom c w (withMember r (r .program) 0 0 1)
+-- After the sheet's clauses, of which there are c: by default the oldest assumption, with `O latest` nothing (request W-207); p is the
+-- place of the member.
+unfoldable pub afterSheet : List ℕ → ℕ → List ℕ → Registers → ℕ → Registers
+afterSheet t c w r p = withMember r (cond (eqb (orderNumber t) defaultOrder) (oldestOf w (r .program)) 0) c 0 p
+
+-- The sheet's i-th clause, or what comes after the last.
+unfoldable pub fromClause : List ℕ → ℕ → List ℕ → Registers → ℕ → ℕ → Registers
+fromClause t c w r i p = cond (ltb i c) (withMember r 0 i 0 p) (afterSheet t c w r p)
+
+-- "The default trying order becomes the sheet's clauses in order, then the assumptions, oldest first": the first member. With `O latest`
+-- it is that of the latest assumption.
+unfoldable pub firstMember : List ℕ → ℕ → List ℕ → Registers → Registers
+firstMember t c w r = cond (eqb (orderNumber t) defaultOrder) (fromClause t c w r 0 1) (withMember r (r .program) 0 0 1)
+
+-- "atom: members are tried in turn"
+unfoldable pub takeAtom : List ℕ → ℕ → List ℕ → Registers → Made
+takeAtom t c w r = tryFrom c w (firstMember t c w r)
 
 -- "Y: nothing."
 unfoldable pub takeTrue : List ℕ → Registers → Made
@@ -60,10 +76,11 @@ takeOr t w r =
     (withGoal (withChoice (withPath r (increment (r .acts)) leftLine) (increment (r .acts))) (childOf t (r .node) 0) (r .frame)
     (r .program) (r .level))
 
--- ">: the clause is assumed in front of that goal's program."
+-- ">: the clause is assumed": it is the latest of that goal's assumptions.
 unfoldable pub takeImplies : List ℕ → List ℕ → Registers → Made
 takeImplies t w r =
-    made (putAssumption (putPath w (r .acts) (r .path) (r .line)) (r .acts) (childOf t (r .node) 0) (r .frame) (r .program))
+    made (putChain (putAssumption (putPath w (r .acts) (r .path) (r .line)) (r .acts) (childOf t (r .node) 0) (r .frame) (r .program))
+    (r .acts) (r .program))
     (withGoal (withPath r (increment (r .acts)) assumeLine) (childOf t (r .node) 1) (r .frame) (increment (r .acts)) (r .level))
 
 -- "E: a fresh variable of level I."
@@ -88,7 +105,7 @@ takeForall t w r =
 -- By the kind of the goal's node.
 unfoldable pub takeGoal : List ℕ → ℕ → List ℕ → Registers → Made
 takeGoal t c w r =
-    cond (eqb (kindOf t (r .node)) atomKind) (takeAtom c w r)
+    cond (eqb (kindOf t (r .node)) atomKind) (takeAtom t c w r)
     (cond (eqb (kindOf t (r .node)) andKind) (takeAnd t w r)
     (cond (eqb (kindOf t (r .node)) orKind) (takeOr t w r)
     (cond (eqb (kindOf t (r .node)) impliesKind) (takeImplies t w r)

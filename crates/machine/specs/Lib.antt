@@ -5,6 +5,8 @@ pub mod Fields
 pub mod Records
 pub mod RegisterUpdates
 pub mod Words
+pub mod AssumptionChains
+pub mod LinkedChains
 pub mod Trail
 pub mod Frames
 pub mod ChoicePoints

@@ -6,9 +6,10 @@ use mathlib.Core.List.{List}
 use lib.ListN.{length}
 use Rattle.search.specs.Search.{search, after}
 use Rattle.sheet_format.specs.Limits.{maxBudget, numbersPerUnit}
-use Rattle.sheet_format.specs.Sheets.{Sheet}
+use Rattle.sheet_format.specs.Sheets.{Sheet, rulesOf}
 use Rattle.node_table.specs.Decoding.{decodeSheet}
 use Rattle.node_table.specs.WellMade.{WellMade}
+use Rattle.machine.specs.LinkedChains.{Linked, Finds}
 use Rattle.machine.specs.Machine.{runMachine}
 use Rattle.machine.specs.Simulation.{Reports, Stands}
 
@@ -21,10 +22,14 @@ pub record StandsFor (bytes t : List ℕ) (symbols nodes clauses goal : ℕ) (s 
 abbrev pub MachineReports : Type 0
 MachineReports = (bytes t : List ℕ) (symbols nodes clauses goal : ℕ) (s : Sheet) → StandsFor bytes t symbols nodes clauses goal s
     → (budget : ℕ) → budget ≤ maxBudget → (work : List ℕ) → numbersPerUnit * budget ≤ length work
-    → Reports t (runMachine budget t clauses goal work) (search budget (s .clauses) (s .goal))
+    → Reports t (runMachine budget t clauses goal work) (search budget (rulesOf s) (s .goal))
 
 -- After each number of acts: the whole state of the search.
 abbrev pub MachineFollows : Type 0
 MachineFollows = (bytes t : List ℕ) (symbols nodes clauses goal : ℕ) (s : Sheet) → StandsFor bytes t symbols nodes clauses goal s
     → (n : ℕ) → n ≤ maxBudget → (work : List ℕ) → numbersPerUnit ≤ length work → numbersPerUnit * n ≤ length work
-    → Stands t clauses (runMachine n t clauses goal work) (after (s .clauses) (s .goal) n)
+    → Stands t clauses (runMachine n t clauses goal work) (after (rulesOf s) (s .goal) n)
+
+-- W-207: of every chain of n assumptions, the one that stands i-th from the oldest end is found by jumps.
+abbrev pub FindsAssumptions : Type 0
+FindsAssumptions = (n : ℕ) (w : List ℕ) (p : ℕ) → Linked n w p → Finds n w p

@@ -10,7 +10,8 @@ use Rattle.unification.specs.Matching.{Pair, pairs, check, fail}
 use Rattle.search.specs.Configurations.{Branch, branch, Configuration, take, try, match, done}
 use Rattle.search.specs.Search.{proved, noProof, SearchOutcome, ends, spent, search, after}
 use Rattle.sheet_format.specs.Limits.{maxBudget, numbersPerUnit}
-use Rattle.node_table.specs.Decoding.{clausesFrom, goalAt}
+use Rattle.formulas.specs.Rules.{rules}
+use Rattle.node_table.specs.Decoding.{clausesFrom, goalAt, orderOf}
 use Rattle.node_table.specs.WellMade.{WellMade}
 use Rattle.machine.specs.declared.Registers.{Registers}
 use Rattle.machine.specs.Records.{Made, provedMode, checkMode, compareMode, tryMode, takeMode, noMode}
@@ -66,7 +67,7 @@ abbrev pub Simulates : Type 0
 Simulates =
     (t : List ℕ) (nodes clauses goal : ℕ) → WellMade t nodes clauses goal → (budget : ℕ) → budget ≤ maxBudget → (w : List ℕ)
     → numbersPerUnit * budget ≤ length w
-    → Reports t (runMachine budget t clauses goal w) (search budget (clausesFrom t clauses 0) (goalAt t goal))
+    → Reports t (runMachine budget t clauses goal w) (search budget (rules (orderOf t) (clausesFrom t clauses 0)) (goalAt t goal))
 
 -- After each number n of acts, of those that the buffer has room for, it stands at the whole state of the search after n acts; n acts
 -- and then m are n + m acts.
@@ -74,7 +75,7 @@ abbrev pub Follows : Type 0
 Follows =
     (t : List ℕ) (nodes clauses goal : ℕ) → WellMade t nodes clauses goal → (n : ℕ) → n ≤ maxBudget → (w : List ℕ)
     → numbersPerUnit ≤ length w → numbersPerUnit * n ≤ length w
-    → Stands t clauses (runMachine n t clauses goal w) (after (clausesFrom t clauses 0) (goalAt t goal) n)
+    → Stands t clauses (runMachine n t clauses goal w) (after (rules (orderOf t) (clausesFrom t clauses 0)) (goalAt t goal) n)
 
 abbrev pub Resumes : Type 0
 Resumes =

@@ -36,6 +36,11 @@ pub const ASSUMPTION_FRAME: u32 = 37;
 
 pub const ASSUMPTION_NEXT: u32 = 38;
 
+// An assumption's record is no member's use, so these share numbers with the place and the count of one.
+pub const ASSUMPTION_DEPTH: u32 = 41;
+
+pub const ASSUMPTION_JUMP: u32 = 42;
+
 pub const PATH_BEFORE: u32 = 39;
 
 pub const PATH_LINE: u32 = 40;

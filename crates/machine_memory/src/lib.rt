@@ -1,4 +1,5 @@
-// The machine's work buffer: cells, words, records, the trail, frames, registers, choice points.
+// The machine's work buffer: chains of assumptions, cells, words, records, the trail, frames, registers, choice points.
+pub mod assumption_chains;
 pub mod cells;
 pub mod choice_points;
 pub mod frames;

@@ -6,11 +6,13 @@ use lib.Dec.{eqb, ltb}
 use lib.ListN.{take, drop}
 use Rattle.terms.specs.Terms.{Functor, sheetSymbol, numeral, Term, leaf, app, Terms, nil, cons}
 use Rattle.formulas.specs.Formulas.{Goal, atom, truth, and, or, implies, exists, forall, Clause, fact, rule, both, each}
+use Rattle.formulas.specs.Rules.{Order, oldest, latest}
 use Rattle.sheet_format.specs.Limits.{maxSymbols}
 use Rattle.sheet_format.specs.Nodes.{Declaration}
 use Rattle.sheet_format.specs.Sheets.{Sheet}
 use Rattle.node_table.specs.Layout.{kindOf, childCount, labelOf, childOf, isFunctionBit, nameStart, nameLength, arityOf, clauseNode}
-use Rattle.node_table.specs.Layout.{forallKind, impliesKind, andKind, existsKind, orKind, atomKind, variableKind}
+use Rattle.node_table.specs.Layout.{forallKind, impliesKind, andKind, existsKind, orKind, atomKind, variableKind, orderNumber}
+use Rattle.node_table.specs.Layout.{defaultOrder}
 
 -- The label of an application: a symbol by its number, which is below 256; the number n, a term of request W-204, as 256 + n.
 unfoldable pub functorOf : ℕ → Functor
@@ -104,7 +106,15 @@ unfoldable pub clausesFrom : List ℕ → ℕ → ℕ → List Clause
 clausesFrom t zero i = []
 clausesFrom t (suc c) i = clauseAtNode t (clauseNode t i) ∷ clausesFrom t c (suc i)
 
--- The sheet: so many symbols, so many clauses, the node of the goal.
+-- The order in force (request W-207): the default one for 0, else the former one.
+unfoldable pub orderOf : List ℕ → Order
+orderOf t = elim (eqb (orderNumber t) defaultOrder) [ true ↦ oldest | false ↦ latest ]
+
+-- The sheet: the order, so many symbols, so many clauses, the node of the goal.
 unfoldable pub decodeSheet : List ℕ → List ℕ → ℕ → ℕ → ℕ → Sheet
-decodeSheet bytes t symbols clauses goal =
-    record { symbols = declarationsFrom bytes t symbols 0; clauses = clausesFrom t clauses 0; goal = goalAt t goal }
+decodeSheet bytes t symbols clauses goal = record {
+  order = orderOf t;
+  symbols = declarationsFrom bytes t symbols 0;
+  clauses = clausesFrom t clauses 0;
+  goal = goalAt t goal;
+}

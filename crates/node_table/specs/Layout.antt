@@ -1,4 +1,4 @@
--- Where the table keeps what: 256 symbols of three numbers, 1,024 nodes of seven, 128 clauses of one; 8,064 in all.
+-- Where the table keeps what: 256 symbols of three numbers, 1,024 nodes of seven, 128 clauses of one, 8,064 in all; then the order.
 use Prim.Native.Nat.{ℕ, zero, suc, _+_, _*_, _/_, _%_}
 use mathlib.Core.List.{List}
 use lib.ListN.{getD}
@@ -15,6 +15,17 @@ firstNode = 768
 
 abbrev pub firstClause : ℕ
 firstClause = 7936
+
+-- Where the order in force is, and its numbers (request W-207: the order in force, 0 for the default, 1 for `O latest`). Symbols, nodes and
+-- clauses are all before it.
+abbrev pub orderAt : ℕ
+orderAt = 8064
+
+abbrev pub defaultOrder : ℕ
+defaultOrder = 0
+
+abbrev pub formerOrder : ℕ
+formerOrder = 1
 
 -- Fields of a symbol: where its name starts on the sheet, how long it is, and 2 * arity + 1 for a function symbol, 2 * arity for a
 -- predicate.
@@ -156,3 +167,7 @@ arityOf t i = getD t (symbolAt i arityField) 0 / 2
 
 unfoldable pub clauseNode : List ℕ → ℕ → ℕ
 clauseNode t i = getD t (clauseAt i) 0
+
+-- The number of the order in force (request W-207).
+unfoldable pub orderNumber : List ℕ → ℕ
+orderNumber t = getD t orderAt 0

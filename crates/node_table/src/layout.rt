@@ -9,6 +9,13 @@ pub const FIRST_NODE: usize = 768;
 
 pub const FIRST_CLAUSE: usize = 7936;
 
+// Where the order in force is (request W-207), and its numbers: the default order, and that of `O latest`.
+pub const ORDER: usize = 8064;
+
+pub const DEFAULT_ORDER: u32 = 0;
+
+pub const FORMER_ORDER: u32 = 1;
+
 // Fields of a symbol: where its name starts, how long it is, its arity with its sort.
 pub const NAME_START: usize = 0;
 

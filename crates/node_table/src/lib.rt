@@ -1,4 +1,4 @@
-// The lent table of 8,192 numbers: symbols, nodes and clauses, read field by field. A read past the end gives 0.
+// The lent table of 8,192 numbers: symbols, nodes, clauses and the order in force, read field by field. A read past the end gives 0.
 pub mod kinds;
 pub mod layout;
 
@@ -9,7 +9,7 @@ ghost use Prim.Native.Nat.{_+_, _*_, _<_, _≤_};
 ghost use lib.Dec.{eqb};
 ghost use lib.ListN.{getD};
 ghost use Rattle.node_table.specs.Layout.{symbolAt, nodeAt, kindOf, childCount, labelOf, childOf, infoOf, maskOf, bitOf, goalBit};
-ghost use Rattle.node_table.specs.Layout.{membersOf, sizeOf, nameStart, nameLength, isFunctionBit, arityOf, clauseNode};
+ghost use Rattle.node_table.specs.Layout.{membersOf, sizeOf, nameStart, nameLength, isFunctionBit, arityOf, clauseNode, orderNumber};
 
 // Field f of node n.
 fn node_field(t: &[u32], n: u32, f: usize) -> u32
@@ -127,6 +127,13 @@ pub fn clause_node(t: &[u32], i: u32) -> u32
 {
     let w = widen(i);
     get(t, layout::FIRST_CLAUSE + w)
+}
+
+// The order in force (request W-207): 0 for the default, 1 for `O latest`.
+pub fn order_number(t: &[u32]) -> u32
+    ensures { λ r. ⌜ r ≡ orderNumber (now (t .entry)) ⌝ }
+{
+    get(t, layout::ORDER)
 }
 
 // Bit v of a mask.

@@ -13,7 +13,8 @@ use Rattle.unification.specs.Promises.{Formed}
 use Rattle.search.specs.Configurations.{Configuration, done}
 use Rattle.search.specs.Search.{proved, ends, search}
 use Rattle.sheet_format.specs.Limits.{maxBudget, maxNodes, numbersPerUnit}
-use Rattle.node_table.specs.Decoding.{clausesFrom, goalAt}
+use Rattle.formulas.specs.Rules.{rules}
+use Rattle.node_table.specs.Decoding.{clausesFrom, goalAt, orderOf}
 use Rattle.node_table.specs.WellMade.{WellMade}
 use Rattle.machine.specs.Fields as fields
 use Rattle.machine.specs.Records.{cellOf, Made, provedMode}
@@ -126,7 +127,8 @@ module _ (T : Table) where
 -- A run that ends with a proof leaves an orderly memory.
 pub proved-orderly : (t : List ℕ) (nodes clauses goal : ℕ) → WellMade t nodes clauses goal → (budget : ℕ) → budget ≤ maxBudget
     → (w : List ℕ) → numbersPerUnit * budget ≤ length w
-    → (s : Store) (path : List (Line Leaf)) (n : ℕ) → search budget (clausesFrom t clauses 0) (goalAt t goal) ≡ ends (proved s path) n
+    → (s : Store) (path : List (Line Leaf)) (n : ℕ)
+    → search budget (rules (orderOf t) (clausesFrom t clauses 0)) (goalAt t goal) ≡ ends (proved s path) n
     → StandsAt t (runMachine budget t clauses goal w) provedMode s path × Orderly t nodes (runMachine budget t clauses goal w) s
 unfolding Reports
 proved-orderly t nodes clauses goal table budget few w room s path n e =

@@ -12,7 +12,8 @@ use Rattle.unification.specs.Promises.{Unbound, Formed}
 use Rattle.sheet_format.specs.Limits.{maxBudget, numbersPerUnit, variableNames}
 use Rattle.node_table.specs.Layout.{kindOf, applicationKind}
 use Rattle.search.specs.Search.{proved, ends, search}
-use Rattle.node_table.specs.Decoding.{clausesFrom, goalAt, decodeSheet}
+use Rattle.formulas.specs.Rules.{rules}
+use Rattle.node_table.specs.Decoding.{clausesFrom, goalAt, decodeSheet, orderOf}
 use Rattle.node_table.specs.WellMade.{IsTerm, WellMade, Named}
 use Rattle.machine.specs.Fields as fields
 use Rattle.machine.specs.Records.{cellOf, levelOf, Made, provedMode, someLine, clauseLine}
@@ -91,7 +92,8 @@ WritesProof = (sheet t : List ℕ) (symbols nodes clauses goal : ℕ) → WellMa
 abbrev pub WritesAnswer : Type 0
 WritesAnswer = (sheet t : List ℕ) (symbols nodes clauses goal : ℕ) → WellMade t nodes clauses goal → Named t nodes symbols
     → (budget : ℕ) → budget ≤ maxBudget → (w : List ℕ) → numbersPerUnit * budget ≤ length w
-    → (s : Store) (path : List (Line Leaf)) (n : ℕ) → search budget (clausesFrom t clauses 0) (goalAt t goal) ≡ ends (proved s path) n
+    → (s : Store) (path : List (Line Leaf)) (n : ℕ)
+    → search budget (rules (orderOf t) (clausesFrom t clauses 0)) (goalAt t goal) ≡ ends (proved s path) n
     → (out : List ℕ)
     → written (writeProof sheet t goal (runMachine budget t clauses goal w) n out .buffer)
     (writeProof sheet t goal (runMachine budget t clauses goal w) n out .length)

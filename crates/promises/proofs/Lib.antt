@@ -1,2 +1,3 @@
 pub mod Accepted
 pub mod Marked
+pub mod Orders

@@ -1,3 +1,4 @@
 -- What engine and checker promise together. Neither uses the other.
 pub mod Accepted
 pub mod Marked
+pub mod Orders

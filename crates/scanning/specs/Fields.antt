@@ -22,7 +22,7 @@ sequentLevel = 19
 abbrev pub sequentNext : ℕ
 sequentNext = 20
 
--- Hypothesis: clause's node, frame, next hypothesis.
+-- Hypothesis: clause's node, frame, next hypothesis, start: how many members stand before its own in the default order (request W-207).
 abbrev pub hypothesisNode : ℕ
 hypothesisNode = 21
 
@@ -31,3 +31,6 @@ hypothesisFrame = 22
 
 abbrev pub hypothesisNext : ℕ
 hypothesisNext = 23
+
+abbrev pub hypothesisStart : ℕ
+hypothesisStart = 24

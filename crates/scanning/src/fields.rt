@@ -17,3 +17,6 @@ pub const HYPOTHESIS_NODE: u32 = 21;
 pub const HYPOTHESIS_FRAME: u32 = 22;
 
 pub const HYPOTHESIS_NEXT: u32 = 23;
+
+// Request W-207: how many members stand before its own in the default order.
+pub const HYPOTHESIS_START: u32 = 24;

@@ -7,6 +7,7 @@ use native.Mathlib.Omega.{arith}
 use Rattle.terms.specs.Lists.{All}
 use Rattle.terms.proofs.Lists.{all-append, all-weaken}
 use Rattle.formulas.specs.Formulas.{Goal, Clause}
+use Rattle.formulas.specs.Rules.{Rules}
 use Rattle.sequents.specs.Sequents.{Line}
 use Rattle.unification.specs.Store.{Leaf, Store}
 use Rattle.search.specs.Configurations.{Configuration, take, try, match, done}
@@ -15,14 +16,14 @@ use Rattle.search.specs.Search.{start, advance, after, Verdict, proved, 
 use Rattle.search.proofs.Units.{allUnits}
 
 -- A property of states, with the number of acts done: true at the start and kept by an act, it is true after any number of acts.
-pub after-state : (cs : List Clause) (g : Goal) (S : ℕ → List Configuration → Type 0) → S 0 (start cs g)
+pub after-state : (cs : Rules Clause) (g : Goal) (S : ℕ → List Configuration → Type 0) → S 0 (start cs g)
     → ((u : ℕ) (ds : List Configuration) → S u ds → S (suc u) (advance u ds)) → (n : ℕ) → S n (after cs g n)
 unfolding after
 after-state cs g S first acts zero = first
 after-state cs g S first acts (suc n) = acts n (after cs g n) (after-state cs g S first acts n)
 
 -- So is, of every configuration, a property that a step carries on to what it gives, and that stays while it waits.
-pub after-all : (cs : List Clause) (g : Goal) (P : ℕ → Configuration → Type 0) → All (P 0) (start cs g)
+pub after-all : (cs : Rules Clause) (g : Goal) (P : ℕ → Configuration → Type 0) → All (P 0) (start cs g)
     → ((u : ℕ) (c : Configuration) → P u c → All (P (suc u)) (step u c))
     → ((u : ℕ) (c : Configuration) → P u c → P (suc u) c) → (n : ℕ) → All (P n) (after cs g n)
 unfolding advance
@@ -47,30 +48,30 @@ stands-at (match m b ∷ ds) v h = absurd (let z : _≡_ {A = ℕ} 0 1 = cc in o
 stands-at (done s ls ∷ ds) v h = let q : proved s ls ≡ v = cc in subst (λ (w : Verdict). Stands w (done s ls ∷ ds)) q (ds, refl)
 
 -- A search that comes to a verdict after n acts stands there after them.
-pub comes-stands : (cs : List Clause) (g : Goal) (n : ℕ) (v : Verdict) → ComesTo cs g n v → Stands v (after cs g n)
+pub comes-stands : (cs : Rules Clause) (g : Goal) (n : ℕ) (v : Verdict) → ComesTo cs g n v → Stands v (after cs g n)
 unfolding ComesTo
 comes-stands cs g n v h = stands-at (after cs g n) v (h .0)
 
 -- The first act is always due.
-pub comes-least : (cs : List Clause) (g : Goal) (n : ℕ) (v : Verdict) → ComesTo cs g n v → 1 ≤ n
+pub comes-least : (cs : Rules Clause) (g : Goal) (n : ℕ) (v : Verdict) → ComesTo cs g n v → 1 ≤ n
 unfolding ComesTo after start verdictOf
 comes-least cs g zero v h = absurd (let e = h .0 in let z : _≡_ {A = ℕ} 0 1 = cc in omega arith)
 comes-least cs g (suc n) v h = omega arith
 
 -- After its units, a proved search has its final configuration in front.
-pub proved-stands : (cs : List Clause) (g : Goal) (budget n : ℕ) (s : Store) (path : List (Line Leaf))
+pub proved-stands : (cs : Rules Clause) (g : Goal) (budget n : ℕ) (s : Store) (path : List (Line Leaf))
     → search budget cs g ≡ ends (proved s path) n → Stands (proved s path) (after cs g n)
 proved-stands cs g budget n s path e = comes-stands cs g n (proved s path) (allUnits cs g .tells budget n (proved s path) .0 e .0)
 
 -- What holds at the start and is kept by every step holds of the final configuration of a proved search.
-pub proved-all : (cs : List Clause) (g : Goal) (P : Configuration → Type 0) → All P (start cs g)
+pub proved-all : (cs : Rules Clause) (g : Goal) (P : Configuration → Type 0) → All P (start cs g)
     → ((u : ℕ) (c : Configuration) → P c → All P (step u c))
     → (budget n : ℕ) (s : Store) (path : List (Line Leaf)) → search budget cs g ≡ ends (proved s path) n → P (done s path)
 proved-all cs g P first acts budget n s path e =
     subst (All P) (proved-stands cs g budget n s path e .1) (after-all cs g (λ u. P) first acts (λ u c h. h) n) .0
 
 -- A search does not come to no if a property that every act keeps is false of the empty state.
-pub never-no : (cs : List Clause) (g : Goal) (S : List Configuration → Type 0) → S (start cs g)
+pub never-no : (cs : Rules Clause) (g : Goal) (S : List Configuration → Type 0) → S (start cs g)
     → ((u : ℕ) (ds : List Configuration) → S ds → S (advance u ds)) → (S [] → ⊥)
     → (budget n : ℕ) → search budget cs g ≡ ends noProof n → ⊥
 never-no cs g S first acts empty budget n e =

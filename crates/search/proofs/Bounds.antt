@@ -13,9 +13,11 @@ use Rattle.terms.specs.Terms.{leaf, substitutes}
 use Rattle.terms.proofs.Lists.{all-append, all-map}
 use Rattle.formulas.specs.Formulas.{Goal, atom, truth, and, or, implies, exists, forall, Clause}
 use Rattle.formulas.specs.Members.{members}
+use Rattle.formulas.specs.Rules.{Rules, assume}
+use Rattle.formulas.proofs.Rules.{joined-all}
 use Rattle.sequents.specs.Symbols.{Symbol}
-use Rattle.sequents.specs.Sequents.{Environment, Program, Hypothesis, hypothesis, Entry, entry, entries, Sequent, sequent, assign}
-use Rattle.sequents.specs.Sequents.{bodySequent, Line, putLine}
+use Rattle.sequents.specs.Sequents.{Environment, Program, Hypothesis, hypothesis, Entry, entry, entriesOf, entries, Sequent, sequent}
+use Rattle.sequents.specs.Sequents.{assign, bodySequent, Line, putLine}
 use Rattle.sequents.specs.Derivations.{sheetProgram, instanceOf}
 use Rattle.unification.specs.Store.{Leaf, var, con, Store, fresh, freshVariables}
 use Rattle.unification.specs.Matching.{Matching, pairs, check, fail, matchStep}
@@ -55,7 +57,7 @@ module _ (ok : Arities) (n : ℕ) where
   pub record SequentUpTo (g : Sequent Leaf) : Type 0 where
     pub goal : FormedGoal (g .goal) ok
     pub environment : EnvironmentUpTo (g .environment)
-    pub program : All HypothesisUpTo (g .program)
+    pub program : All HypothesisUpTo (g .program .clauses)
     pub level : g .level ≤ n
 
   -- A D line with its place.
@@ -69,7 +71,7 @@ module _ (ok : Arities) (n : ℕ) where
   -- An atom that is tried with the members ms, the first of which has place k.
   pub record TryUpTo (a : Atom) (ms : List (Entry Leaf)) (k : ℕ) : Type 0 where
     pub arguments : FormedTerms (a .arguments) ok (UpTo n)
-    pub program : All HypothesisUpTo (a .program)
+    pub program : All HypothesisUpTo (a .program .clauses)
     pub level : a .level ≤ n
     pub members : All EntryUpTo ms
     pub place : k ≤ n
@@ -82,18 +84,18 @@ module _ (ok : Arities) (n : ℕ) where
   ConfigurationUpTo (done s ls) = StoreUpTo ok n s × All LineUpTo ls
 
   -- The members of a program are within the bound if its clauses are.
-  entries-formed : (P : Program Leaf) → All HypothesisUpTo P → All EntryUpTo (entries P)
-  unfolding entries
+  entries-formed : (P : List (Hypothesis Leaf)) → All HypothesisUpTo P → All EntryUpTo (entriesOf P)
+  unfolding entriesOf
   entries-formed [] h = tt
   entries-formed (x ∷ P) h =
-      all-append EntryUpTo (map (entry (x .environment)) (members (x .clause))) (entries P)
+      all-append EntryUpTo (map (entry (x .environment)) (members (x .clause))) (entriesOf P)
       (all-map (entry (x .environment)) (FormedMember ok) EntryUpTo (λ m k. (k, h .0 .1)) (members (x .clause))
       (members-formed ok (x .clause) (h .0 .0)))
       (entries-formed P (h .1))
 
   -- The sequent of a body is within the bound if the body, its environment, program and level are.
   body-formed : (o : Option Goal) (e : Environment Leaf) (P : Program Leaf) (i : ℕ) → FormedBody ok o → EnvironmentUpTo e
-      → All HypothesisUpTo P → i ≤ n
+      → All HypothesisUpTo (P .clauses) → i ≤ n
       → All SequentUpTo (bodySequent o e P i)
   unfolding bodySequent FormedBody
   body-formed none e P i h k q l = tt
@@ -152,7 +154,7 @@ module _ (ok : Arities) (n : ℕ) where
     arguments = formed-substitutes ts e ok SheetName (UpTo n) (k .environment) (k .goal);
     program = k .program;
     level = k .level;
-    members = entries-formed P (k .program);
+    members = entries-formed (P .clauses) (k .program);
     place = omega arith;
   }) q
   takeGoal-formed u s truth e P i b h k q r = proceed-formed s (b .goals) _ h (q .0) (tt, q .1)
@@ -169,8 +171,9 @@ module _ (ok : Arities) (n : ℕ) where
       record { goal = k .goal .1; environment = k .environment; program = k .program; level = k .level } in
       ((h, left, (q .0, (tt, q .1))), ((h, right, (q .0, (tt, q .1))), tt))
   takeGoal-formed u s (implies c g) e P i b h k q r =
-      let new : SequentUpTo (sequent g e (hypothesis c e ∷ P) i) =
-      record { goal = k .goal .1; environment = k .environment; program = ((k .goal .0, k .environment), k .program); level = k .level } in
+      let program = joined-all HypothesisUpTo (P .order) (hypothesis c e) (P .clauses) (k .goal .0, k .environment) (k .program) in
+      let new : SequentUpTo (sequent g e (assume (hypothesis c e) P) i) =
+      record { goal = k .goal .1; environment = k .environment; program = program; level = k .level } in
       ((h, new, (q .0, (tt, q .1))), tt)
   takeGoal-formed u s (exists v g) e P i b h k q r =
       let new : SequentUpTo (sequent g (update e v (leaf (var (s .next)))) P i) =
@@ -211,7 +214,8 @@ module _ (ok : Arities) (n : ℕ) where
   startEnvironment-formed v l = rw (lt-ltb v 8 l) tt
 
   -- Every bound holds at the start.
-  start-formed : (cs : List Clause) (g : Goal) → All (λ c. FormedClause c ok) cs → FormedGoal g ok → All ConfigurationUpTo (start cs g)
+  start-formed : (cs : Rules Clause) (g : Goal) → All (λ c. FormedClause c ok) (cs .clauses) → FormedGoal g ok
+      → All ConfigurationUpTo (start cs g)
   unfolding start startGoal startStore instanceOf sheetProgram ConfigurationUpTo
   start-formed cs g h k = (
     (
@@ -220,7 +224,8 @@ module _ (ok : Arities) (n : ℕ) where
         goal = k;
         environment = startEnvironment-formed;
         program =
-            all-map (λ c. hypothesis c startEnvironment) (λ c. FormedClause c ok) HypothesisUpTo (λ c j. (j, startEnvironment-formed)) cs h;
+            all-map (λ c. hypothesis c startEnvironment) (λ c. FormedClause c ok) HypothesisUpTo (λ c j. (j, startEnvironment-formed))
+            (cs .clauses) h;
         level = omega arith;
       },
       (tt, tt),
@@ -260,8 +265,8 @@ room ok n (match m b) h = tt
 room ok n (done s ls) h = tt
 
 -- After u acts every bound from u on holds.
-bounded : (ok : Arities) (cs : List Clause) (g : Goal) → All (λ c. FormedClause c ok) cs → FormedGoal g ok → (u n : ℕ) → u ≤ n
-    → All (ConfigurationUpTo ok n) (after cs g u)
+bounded : (ok : Arities) (cs : Rules Clause) (g : Goal) → All (λ c. FormedClause c ok) (cs .clauses) → FormedGoal g ok → (u n : ℕ)
+    → u ≤ n → All (ConfigurationUpTo ok n) (after cs g u)
 unfolding advance
 bounded ok cs g h k u =
     after-state cs g (λ w ds. (n : ℕ) → w ≤ n → All (ConfigurationUpTo ok n) ds) (λ n l. start-formed ok n cs g h k) act u
@@ -281,7 +286,7 @@ pub record ShownUpTo (ok : Arities) (n : ℕ) (e : Environment Symbol) (ls : Lis
   pub lines : All (FormedLine ok (SymbolUpTo n) (λ k. k ≤ n)) ls
 
 -- It does so at its end.
-pub proved-bounds : (ok : Arities) (cs : List Clause) (g : Goal) → All (λ c. FormedClause c ok) cs → FormedGoal g ok
+pub proved-bounds : (ok : Arities) (cs : Rules Clause) (g : Goal) → All (λ c. FormedClause c ok) (cs .clauses) → FormedGoal g ok
     → (budget n : ℕ) (s : Store) (path : List (Line Leaf)) → search budget cs g ≡ ends (proved s path) n
     → ShownUpTo ok n (finalEnvironment s) (finalLines s path)
 unfolding ConfigurationUpTo
@@ -291,6 +296,6 @@ proved-bounds ok cs g h k budget n s path e =
     record { environment = finalEnvironment-formed ok n s (last .0); lines = finalLines-formed ok n s path (last .0) (last .1) }
 
 -- The first act is always due, so that a proved search has taken at least one.
-pub proved-least : (cs : List Clause) (g : Goal) (budget n : ℕ) (s : Store) (path : List (Line Leaf))
+pub proved-least : (cs : Rules Clause) (g : Goal) (budget n : ℕ) (s : Store) (path : List (Line Leaf))
     → search budget cs g ≡ ends (proved s path) n → 1 ≤ n
 proved-least cs g budget n s path e = comes-least cs g n (proved s path) (allUnits cs g .tells budget n (proved s path) .0 e .0)

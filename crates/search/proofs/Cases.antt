@@ -4,6 +4,7 @@ use mathlib.Core.Path.{_≡_, refl}
 use mathlib.Core.List.{List, [], _∷_}
 use Rattle.terms.specs.Terms.{sheetSymbol, Term, leaf, app, Terms, nil, cons}
 use Rattle.formulas.specs.Formulas.{Goal, atom, truth, and, or, implies, exists, forall, Clause, fact, rule, both, each}
+use Rattle.formulas.specs.Rules.{oldest, latest, rules}
 use Rattle.search.specs.Search.{SearchOutcome, ends, spent, proved, noProof}
 use Rattle.search.proofs.Computing.{computeSearch}
 
@@ -15,7 +16,11 @@ told spent = (3, 0)
 
 unfoldable outcome : ℕ → List Clause → Goal → ℕ × ℕ
 unfolding computeSearch
-outcome budget cs g = told (computeSearch budget cs g)
+outcome budget cs g = told (computeSearch budget (rules oldest cs) g)
+
+unfoldable outcome-latest : ℕ → List Clause → Goal → ℕ × ℕ
+unfolding computeSearch
+outcome-latest budget cs g = told (computeSearch budget (rules latest cs) g)
 
 abbrev pair : Term ℕ → Term ℕ → Terms ℕ
 pair a b = cons a (cons b nil)
@@ -82,3 +87,30 @@ again : outcome 256
     (exists 0 (and (atom 0 (one (leaf 0))) (atom 1 (one (leaf 0))))) ≡ (1, 21)
 unfolding outcome
 again = refl
+
+-- For p implies p with the clause p if p, the sheet's rule is tried first and used without end; with `O latest` the assumption is first.
+assumed : outcome 256 (rule (atom 0 nil) 0 nil ∷ []) (implies (fact 0 nil) (atom 0 nil)) ≡ (3, 0)
+unfolding outcome
+assumed = refl
+
+assumed-latest : outcome-latest 256 (rule (atom 0 nil) 0 nil ∷ []) (implies (fact 0 nil) (atom 0 nil)) ≡ (1, 3)
+unfolding outcome-latest
+assumed-latest = refl
+
+-- For (p if p) implies p with the clause p it is the other way round.
+supposed : outcome 256 (fact 0 nil ∷ []) (implies (rule (atom 0 nil) 0 nil) (atom 0 nil)) ≡ (1, 3)
+unfolding outcome
+supposed = refl
+
+supposed-latest : outcome-latest 256 (fact 0 nil ∷ []) (implies (rule (atom 0 nil) 0 nil) (atom 0 nil)) ≡ (3, 0)
+unfolding outcome-latest
+supposed-latest = refl
+
+-- For p implies (q implies p) with no clause of the sheet, the oldest assumption is tried first, and with `O latest` the latest.
+oldest-first : outcome 256 [] (implies (fact 0 nil) (implies (fact 1 nil) (atom 0 nil))) ≡ (1, 4)
+unfolding outcome
+oldest-first = refl
+
+latest-first : outcome-latest 256 [] (implies (fact 0 nil) (implies (fact 1 nil) (atom 0 nil))) ≡ (1, 5)
+unfolding outcome-latest
+latest-first = refl

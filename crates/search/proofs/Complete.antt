@@ -14,13 +14,16 @@ use Rattle.terms.specs.Terms.{sheetSymbol, leaf, app, nil, Terms, substitute, s
 use Rattle.terms.proofs.Lists.{all-append, all-weaken, update-all, Any, any-left, any-right, mem-nil}
 use Rattle.terms.proofs.Terms.{substitutes-substitutes}
 use Rattle.formulas.specs.Formulas.{Goal, atom, truth, and, or, implies, exists, forall, Clause, freeG}
+use Rattle.formulas.specs.Rules.{Rules, assume}
+use Rattle.formulas.proofs.Rules.{joined-all}
 use Rattle.sequents.specs.Symbols.{Symbol, made, symbolLevel, Ground, level}
-use Rattle.sequents.specs.Sequents.{Environment, Program, Entry, entries, Sequent, sequent, assign, bodySequent, Line, putEnvironment}
-use Rattle.sequents.specs.Sequents.{putProgram, putSequent}
+use Rattle.sequents.specs.Sequents.{Environment, Program, hypothesis, Entry, entries, Sequent, sequent, assign, bodySequent, Line}
+use Rattle.sequents.specs.Sequents.{putEnvironment, putProgram, putSequent}
 use Rattle.sequents.specs.Derivations.{Instantiates, Derivation, d-true, d-and, d-left, d-right, d-assume, d-some, d-all, d-clause}
 use Rattle.sequents.specs.Derivations.{BodyDerivation, b-some, Derivable, instanceOf, InstanceDerivation}
 use Rattle.sequents.specs.Promises.{AgreeOn, Closed}
-use Rattle.sequents.proofs.Sequents.{putEntry, entries-put, update-put, assign-put, assign-all, entries-all, instance-put, sheet-all}
+use Rattle.sequents.proofs.Sequents.{putEntry, entries-put, assume-put, update-put, assign-put, assign-all, entries-all}
+use Rattle.sequents.proofs.Sequents.{instance-put, sheet-all}
 use Rattle.sequents.proofs.Constants.{LowEnvironment, LowProgram, another-constant}
 use Rattle.sequents.proofs.Locality.{local}
 use Rattle.unification.specs.Store.{Leaf, var, con, Store, fresh, freshVariables}
@@ -97,7 +100,7 @@ goals-hold gs n σ τ b h k = subst (All Holds) (goals-agree gs n σ τ b h) k
 low-up : (i : ℕ) (P : Program Symbol) → LowProgram i P → LowProgram (suc i) P
 low-up i P h =
     all-weaken (λ x. LowEnvironment i (x .environment)) (λ x. LowEnvironment (suc i) (x .environment))
-    (λ x k v. let l = k v in omega arith) P h
+    (λ x k v. let l = k v in omega arith) (P .clauses) h
 
 -- The sequent of a body that has a derivation holds.
 body-holds : (o : Option Goal) (e : Environment Symbol) (P : Program Symbol) (i : ℕ) → LowEnvironment i e → LowProgram i P
@@ -183,10 +186,11 @@ takeGoal-complete u s (atom p ts) e P i b σ o v le lP (d-clause m h us l q k x)
     tryFrom-complete s _ (entries P) 1 b σ (record {
       solved = record { solves = v; goals = gs };
       program = lP;
-      members = subst (All (λ m. LowEnvironment i (m .environment))) (entries-put θ P) (entries-all (LowEnvironment i) (putProgram θ P) lP);
+      members = subst (All (λ m. LowEnvironment i (m .environment))) (entries-put θ (P .clauses))
+          (entries-all (LowEnvironment i) (putProgram θ P .clauses) lP);
       resolvable = record {
         member = m;
-        among = subst (Mem m) (entries-put θ P) h;
+        among = subst (Mem m) (entries-put θ (P .clauses)) h;
         resolves = record { terms = us; instantiates = l; predicate = q; arguments = substitutes-substitutes ts e θ ∙ k; body = x };
       };
     })
@@ -195,7 +199,14 @@ takeGoal-complete u s (and g h) e P i b σ o v le lP (d-and x y) gs =
     inl (σ, take-solved s _ _ σ v le lP x (record { environment = le; program = lP; derivable = y }, gs))
 takeGoal-complete u s (or g h) e P i b σ o v le lP (d-left x) gs = inl (σ, take-solved s _ _ σ v le lP x gs)
 takeGoal-complete u s (or g h) e P i b σ o v le lP (d-right x) gs = inr (inl (σ, take-solved s _ _ σ v le lP x gs))
-takeGoal-complete u s (implies c g) e P i b σ o v le lP (d-assume x) gs = inl (σ, take-solved s _ _ σ v le (le, lP) x gs)
+takeGoal-complete u s (implies c g) e P i b σ o v le lP (d-assume x) gs =
+    let f = putEnvironment (valued σ) e in
+    let Q = putProgram (valued σ) P in
+    let low : LowProgram i (assume (hypothesis c f) Q) =
+    joined-all (λ h. LowEnvironment i (h .environment)) (Q .order) (hypothesis c f) (Q .clauses) le lP in
+    let holds =
+    holds-same g f f _ _ i refl (sym (assume-put (valued σ) c e P)) (record { environment = le; program = low; derivable = x }) in
+    inl (σ, record { solves = v; goals = (holds, gs) })
 takeGoal-complete u s (exists v g) e P i b σ o w le lP (d-some t l x) gs =
     let below = o .extra in
     let r = extend (v ∷ []) (t ∷ []) i s σ (o .formed) w refl (l, tt) in
@@ -317,8 +328,8 @@ unfolding startValues startEnvironment substitute value
 startValues-agree g e n v h = rw (lt-ltb v 8 (n v h), h) refl
 
 -- The start is solvable if an instance of the goal has a derivation.
-start-complete : (cs : List Clause) (g : Goal) (e : Environment Symbol) → All Closed cs → SheetNames g → InstanceDerivation cs g e
-    → Alive (start cs g)
+start-complete : (cs : Rules Clause) (g : Goal) (e : Environment Symbol) → All Closed (cs .clauses) → SheetNames g
+    → InstanceDerivation cs g e → Alive (start cs g)
 unfolding start startGoal startStore instanceOf level symbols
 start-complete cs g e c n d =
     let σ = startValues g e in
@@ -341,6 +352,6 @@ start-complete cs g e c n d =
     )
 
 -- No search comes to no if an instance of the goal has a derivation.
-pub complete : (cs : List Clause) (g : Goal) (e : Environment Symbol) → All Closed cs → SheetNames g → InstanceDerivation cs g e
+pub complete : (cs : Rules Clause) (g : Goal) (e : Environment Symbol) → All Closed (cs .clauses) → SheetNames g → InstanceDerivation cs g e
     → (budget n : ℕ) → search budget cs g ≡ ends noProof n → ⊥
 complete cs g e c n d = never-no cs g Alive (start-complete cs g e c n d) advance-complete (λ h. h .1)

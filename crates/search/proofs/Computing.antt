@@ -1,20 +1,20 @@
 -- One name under which all that a search computes with unfolds.
 use Prim.Native.Nat.{ℕ}
-use mathlib.Core.List.{List}
+use Rattle.formulas.specs.Rules.{Rules, joined}
 use Rattle.terms.specs.Lists.{update, elem}
 use Rattle.terms.specs.Terms.{sameFunctor, substitute}
 use Rattle.formulas.specs.Formulas.{Goal, Clause, freeT, freeG, freeB}
 use Rattle.formulas.specs.Members.{members, quantify, standsFree}
-use Rattle.sequents.specs.Sequents.{entries, assign, bodySequent}
+use Rattle.sequents.specs.Sequents.{entriesOf, assign, bodySequent}
 use Rattle.sequents.specs.Derivations.{instanceOf, sheetProgram}
 use Rattle.unification.specs.Store.{binding, follow, lower, bind, fresh, freshLevels, past, freshVariables}
 use Rattle.unification.specs.Matching.{pushTerms, pushPairs, comparing, afterNode, visit, compareTerms, onPair, onNode, matchStep}
 use Rattle.search.specs.Steps.{proceed, settle, tryFrom, tryMember, takeGoal, step}
 use Rattle.search.specs.Search.{SearchOutcome, advance, verdictOf, start, startGoal, startStore, startEnvironment, search, searchFrom}
 
-unfoldable pub computeSearch : ℕ → List Clause → Goal → SearchOutcome
+unfoldable pub computeSearch : ℕ → Rules Clause → Goal → SearchOutcome
 unfolding search searchFrom verdictOf advance start startGoal startStore startEnvironment step takeGoal tryMember tryFrom settle proceed
     matchStep onPair onNode compareTerms sameFunctor visit afterNode comparing pushPairs pushTerms follow binding
     lower bind fresh freshLevels past freshVariables
-    instanceOf sheetProgram entries assign bodySequent members quantify standsFree freeT freeG freeB elem update substitute
+    instanceOf sheetProgram joined entriesOf assign bodySequent members quantify standsFree freeT freeG freeB elem update substitute
 computeSearch budget cs g = search budget cs g

@@ -12,7 +12,9 @@ use Rattle.terms.specs.Terms.{sheetSymbol, leaf, app, nil, Terms, substitutes, 
 use Rattle.terms.proofs.Lists.{all-append, all-weaken, update-all}
 use Rattle.terms.proofs.Terms.{leavesAll-weaken, leavesAll-any, leavesAll-substitutes}
 use Rattle.formulas.specs.Formulas.{Goal, atom, truth, and, or, implies, exists, forall, Clause}
-use Rattle.sequents.specs.Sequents.{Environment, Program, Entry, entries, Sequent, sequent, assign, bodySequent, Line}
+use Rattle.formulas.specs.Rules.{Rules}
+use Rattle.formulas.proofs.Rules.{joined-all}
+use Rattle.sequents.specs.Sequents.{Environment, Program, hypothesis, Entry, entries, Sequent, sequent, assign, bodySequent, Line}
 use Rattle.sequents.specs.Derivations.{instanceOf}
 use Rattle.sequents.proofs.Sequents.{assign-all, entries-all, sheet-all}
 use Rattle.unification.specs.Store.{Leaf, var, con, Store, past, fresh, freshVariables}
@@ -31,7 +33,7 @@ EnvironmentBelow n e = (v : ℕ) → Leaves (e v) (Below n)
 
 -- All variables in a program are numbered below n.
 abbrev pub ProgramBelow : ℕ → Program Leaf → Type 0
-ProgramBelow n P = All (λ h. EnvironmentBelow n (h .environment)) P
+ProgramBelow n P = All (λ h. EnvironmentBelow n (h .environment)) (P .clauses)
 
 -- All variables in members of a program are numbered below n.
 abbrev pub EntriesBelow : ℕ → List (Entry Leaf) → Type 0
@@ -67,7 +69,7 @@ environment-more n m e l h v = below-more (e v) n m l (h v)
 program-more : (n m : ℕ) (P : Program Leaf) → n ≤ m → ProgramBelow n P → ProgramBelow m P
 program-more n m P l h =
     all-weaken (λ x. EnvironmentBelow n (x .environment)) (λ x. EnvironmentBelow m (x .environment))
-    (λ x k. environment-more n m (x .environment) l k) P h
+    (λ x k. environment-more n m (x .environment) l k) (P .clauses) h
 
 -- Goals below n are below any larger number.
 goals-more : (n m : ℕ) (gs : List (Sequent Leaf)) → n ≤ m → GoalsBelow gs n → GoalsBelow gs m
@@ -170,13 +172,17 @@ takeGoal-keeps u s (atom p ts) e P i b o =
     tryFrom-keeps s _ (entries P) 1 b (good-also (GoalsBelow (sequent (atom p ts) e P i ∷ b .goals)) _ s o (record {
       arguments = substitutes-below ts e (s .next) (x .0 .0);
       program = x .0 .1;
-      members = entries-all (EnvironmentBelow (s .next)) P (x .0 .1);
+      members = entries-all (EnvironmentBelow (s .next)) (P .clauses) (x .0 .1);
       goals = x .1;
     }))
 takeGoal-keeps u s truth e P i b o = proceed-keeps s (b .goals) _ (good-also _ _ s o (o .extra .1))
 takeGoal-keeps u s (and g h) e P i b o = (good-also _ _ s o (o .extra .0, o .extra), tt)
 takeGoal-keeps u s (or g h) e P i b o = (good-also _ _ s o (o .extra), (good-also _ _ s o (o .extra), tt))
-takeGoal-keeps u s (implies c g) e P i b o = (good-also _ _ s o ((o .extra .0 .0, (o .extra .0 .0, o .extra .0 .1)), o .extra .1), tt)
+takeGoal-keeps u s (implies c g) e P i b o =
+    let x = o .extra in
+    let program =
+    joined-all (λ h. EnvironmentBelow (s .next) (h .environment)) (P .order) (hypothesis c e) (P .clauses) (x .0 .0) (x .0 .1) in
+    (good-also _ _ s o ((x .0 .0, program), x .1), tt)
 takeGoal-keeps u s (exists v g) e P i b o =
     let n = s .next in
     let l : n ≤ suc n = omega arith in
@@ -229,7 +235,7 @@ startEnvironment-below v = go (ltb v 8) refl
     go false e = tt
 
 -- The invariant holds at the start, where the store is empty.
-pub start-invariant : (cs : List Clause) (g : Goal) → All Invariant (start cs g)
+pub start-invariant : (cs : Rules Clause) (g : Goal) → All Invariant (start cs g)
 unfolding start startGoal startStore instanceOf Invariant
 start-invariant cs g = (
   record {
@@ -240,5 +246,5 @@ start-invariant cs g = (
 )
 
 -- The invariant holds of every configuration of a search.
-pub after-invariant : (cs : List Clause) (g : Goal) (n : ℕ) → All Invariant (after cs g n)
+pub after-invariant : (cs : Rules Clause) (g : Goal) (n : ℕ) → All Invariant (after cs g n)
 after-invariant cs g n = after-all cs g (λ u. Invariant) (start-invariant cs g) step-keeps (λ u c h. h) n

@@ -7,6 +7,7 @@ pub mod Values
 pub mod Answers
 pub mod Sound
 pub mod Complete
+pub mod Orders
 pub mod Formed
 pub mod FormedStores
 pub mod Bounds

@@ -7,8 +7,10 @@ use Rattle.terms.specs.Terms.{Term, leaf, Terms, substitute, substitutes}
 use Rattle.terms.proofs.Lists.{map-map, map-agree, update-map}
 use Rattle.terms.proofs.Terms.{substitute-substitute, substitutes-substitutes}
 use Rattle.formulas.specs.Formulas.{Goal, atom, truth, and, or, implies, exists, forall, Clause, fact, rule, both, each}
-use Rattle.sequents.specs.Sequents.{Environment, hypothesis, Program, putEnvironment, putHypothesis, putProgram, Sequent, sequent}
-use Rattle.sequents.specs.Sequents.{putSequent}
+use Rattle.formulas.specs.Rules.{Rules, rules, assume, mapRules}
+use Rattle.formulas.proofs.Rules.{assume-map}
+use Rattle.sequents.specs.Sequents.{Environment, Hypothesis, hypothesis, Program, putEnvironment, putHypothesis, putProgram}
+use Rattle.sequents.specs.Sequents.{Sequent, sequent, putSequent}
 use Rattle.unification.specs.Store.{Leaf, var, at, apply}
 use Rattle.unification.proofs.Substitution.{apply-fixed}
 use Rattle.search.specs.Paper.{name, Names, D, g-atom, g-and, g-or, g-implies, g-exists, g-forall, d-atom, d-implies, d-and, d-forall}
@@ -81,14 +83,26 @@ formulaG-bound g e v θ =
 -- Programs and sequents
 
 -- The list θ(𝒫) is the program's formulas with θ applied.
-abbrev pub formulasAt : (ℕ → Term Leaf) → Program Leaf → List D
-formulasAt θ P = map (λ d. applyD d θ) (formulasOf P)
+abbrev pub formulasAt : (ℕ → Term Leaf) → Program Leaf → Rules D
+formulasAt θ P = mapRules (λ d. applyD d θ) (formulasOf P)
 
 -- A program: θ goes to the environments of its clauses.
 pub formulas-apply : (P : Program Leaf) (θ : ℕ → Term Leaf) → formulasAt θ P ≡ formulasOf (putProgram (at θ) P)
 unfolding formulasOf
-formulas-apply [] θ = refl
-formulas-apply (h ∷ P) θ = ap₂ _∷_ (formulaD-apply (h .clause) (h .environment) θ) (formulas-apply P θ)
+formulas-apply P θ = ap (rules (P .order)) (each (P .clauses))
+  where
+    each : (l : List (Hypothesis Leaf)) → map (λ d. applyD d θ) (map (λ h. formulaD (h .clause) (names (h .environment))) l)
+        ≡ map (λ h. formulaD (h .clause) (names (h .environment))) (map (putHypothesis (at θ)) l)
+    each [] = refl
+    each (h ∷ l) = ap₂ _∷_ (formulaD-apply (h .clause) (h .environment) θ) (each l)
+
+-- In a program with one more assumption θ goes to it and to the other clauses.
+pub formulas-assume : (c : Clause) (e : Environment Leaf) (P : Program Leaf) (θ : ℕ → Term Leaf)
+    → formulasAt θ (assume (hypothesis c e) P) ≡ assume (applyD (formulaD c (names e)) θ) (formulasAt θ P)
+unfolding formulasOf
+formulas-assume c e P θ =
+    ap (mapRules (λ d. applyD d θ)) (assume-map (λ h. formulaD (h .clause) (names (h .environment))) (hypothesis c e) P)
+    ∙ assume-map (λ d. applyD d θ) (formulaD c (names e)) (formulasOf P)
 
 -- A sequent: θ goes to its environments.
 sequent-apply : (θ : ℕ → Term Leaf) (q : Sequent Leaf) → applySequent θ (paperOf q) ≡ paperOf (putSequent (at θ) q)
@@ -109,8 +123,9 @@ sequent-identity q =
 
     program : putProgram (at (λ x. leaf (var x))) (q .program) ≡ q .program
     program =
-        map-agree (putHypothesis (at (λ x. leaf (var x)))) (λ h. h) (λ h. ap (hypothesis (h .clause)) (same (h .environment))) (q .program)
-        ∙ map-id (q .program)
+        ap (rules (q .program .order))
+        (map-agree (putHypothesis (at (λ x. leaf (var x)))) (λ h. h) (λ h. ap (hypothesis (h .clause)) (same (h .environment)))
+        (q .program .clauses) ∙ map-id (q .program .clauses))
 
 -- S, and then σ, is S′ where it is so on terms.
 module _ (S σ S′ : ℕ → Term Leaf) (composed : (t : Term Leaf) → apply t S′ ≡ apply (apply t S) σ) where
@@ -127,10 +142,11 @@ module _ (S σ S′ : ℕ → Term Leaf) (composed : (t : Term Leaf) → apply t
 
       program : putProgram (at σ) (putProgram (at S) (q .program)) ≡ putProgram (at S′) (q .program)
       program =
-          map-map (putHypothesis (at S)) (putHypothesis (at σ)) (q .program)
+          ap (rules (q .program .order))
+          (map-map (putHypothesis (at S)) (putHypothesis (at σ)) (q .program .clauses)
           ∙ map-agree (λ h. putHypothesis (at σ) (putHypothesis (at S) h)) (putHypothesis (at S′))
           (λ h. ap (hypothesis (h .clause)) (same (h .environment)))
-          (q .program)
+          (q .program .clauses))
 
   -- A list of them.
   pub sequents-composed : (qs : List (Sequent Leaf))

@@ -11,11 +11,12 @@ use Rattle.terms.specs.Terms.{Term, leaf, substitutes}
 use Rattle.terms.proofs.Lists.{map-append, map-map, map-agree}
 use Rattle.formulas.specs.Formulas.{Clause, fact, rule, both, each, freeTs, freeB}
 use Rattle.formulas.specs.Members.{Member, members, quantify, standsFree}
+use Rattle.formulas.specs.Rules.{Rules}
 use Rattle.formulas.proofs.Free.{substitutes-free}
-use Rattle.sequents.specs.Sequents.{Program, putProgram, Entry, entry, entries}
+use Rattle.sequents.specs.Sequents.{Hypothesis, Program, putProgram, Entry, entry, entriesOf, entries}
 use Rattle.sequents.proofs.Sequents.{putEntry, entries-put}
 use Rattle.unification.specs.Store.{Leaf, at}
-use Rattle.search.specs.Paper.{name, Names, bound, formulaD, names, Elaborated, generalize, elab, elabs}
+use Rattle.search.specs.Paper.{name, Names, D, bound, formulaD, names, Elaborated, generalize, elab, elabs}
 use Rattle.search.specs.Procedure.{formulasOf}
 use Rattle.search.proofs.PaperApply.{formulasAt, formulas-apply}
 use Rattle.search.proofs.PaperReplace.{Tidy, tidy-names, tidy-bound}
@@ -123,18 +124,21 @@ abbrev pub formulaE : Entry Leaf → Elaborated
 formulaE m = formulaM (names (m .environment)) (m .member)
 
 -- The list elab(𝒫) is the members of its clauses, each as a formula.
-elabs-entries : (P : Program Leaf) → elabs (formulasOf P) ≡ map formulaE (entries P)
-unfolding elabs formulasOf entries
+elabs-entries : (P : List (Hypothesis Leaf))
+    → elabs (map (λ h. formulaD (h .clause) (names (h .environment))) P) ≡ map formulaE (entriesOf P)
+unfolding elabs entriesOf
 elabs-entries [] = refl
 elabs-entries (h ∷ P) =
     ap₂ _++_
     (elab-members (h .clause) (names (h .environment)) (tidy-names (h .environment))
     ∙ sym (map-map (entry (h .environment)) formulaE (members (h .clause))))
     (elabs-entries P)
-    ∙ sym (map-append formulaE (map (entry (h .environment)) (members (h .clause))) (entries P))
+    ∙ sym (map-append formulaE (map (entry (h .environment)) (members (h .clause))) (entriesOf P))
 
 -- The list elab(θ(𝒫)) is the members of the program's clauses with θ applied, each as a formula.
-pub elabs-apply : (P : Program Leaf) (θ : ℕ → Term Leaf) → elabs (formulasAt θ P) ≡ map (λ m. formulaE (putEntry (at θ) m)) (entries P)
+pub elabs-apply : (P : Program Leaf) (θ : ℕ → Term Leaf)
+    → elabs (formulasAt θ P .clauses) ≡ map (λ m. formulaE (putEntry (at θ) m)) (entries P)
+unfolding formulasOf
 elabs-apply P θ =
-    ap elabs (formulas-apply P θ) ∙ elabs-entries (putProgram (at θ) P) ∙ ap (map formulaE) (entries-put (at θ) P)
-    ∙ map-map (putEntry (at θ)) formulaE (entries P)
+    ap (λ (R : Rules D). elabs (R .clauses)) (formulas-apply P θ) ∙ elabs-entries (putProgram (at θ) P .clauses)
+    ∙ ap (map formulaE) (entries-put (at θ) (P .clauses)) ∙ map-map (putEntry (at θ)) formulaE (entries P)

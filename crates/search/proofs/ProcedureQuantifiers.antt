@@ -7,6 +7,7 @@ use Rattle.terms.specs.Lists.{update}
 use Rattle.terms.specs.Terms.{leaf, substitute}
 use Rattle.terms.proofs.Lists.{all-weaken, all-mem}
 use Rattle.formulas.specs.Formulas.{Goal, exists, forall, Clause}
+use Rattle.formulas.specs.Rules.{Rules}
 use Rattle.sequents.specs.Sequents.{Environment, Program, sequent, Line, Dsome, Dall}
 use Rattle.unification.specs.Store.{Leaf, var, con, Store, past, fresh, at, solution}
 use Rattle.unification.specs.Promises.{Formed}
@@ -21,7 +22,7 @@ use Rattle.search.proofs.ProcedureReached.{Reached, constants-more, rea
 abbrev infront : Store → Program Leaf → List PaperSequent → G → ℕ → List PaperSequent
 infront s P gs k j = paperSequent k (formulasAt (solution s) P) j ∷ map (applySequent (solution s)) gs
 
-module _ {cs : List Clause} {g₀ : Goal} {u : ℕ} {s : Store} {gs : List PaperSequent} {path : List (Line Leaf)}
+module _ {cs : Rules Clause} {g₀ : Goal} {u : ℕ} {s : Store} {gs : List PaperSequent} {path : List (Line Leaf)}
     (v : ℕ) (g : Goal) (e : Environment Leaf) (P : Program Leaf) (i : ℕ) where
   -- (iii): the variable is the store's next one.
   pub exists-reached : Formed s → Reached cs g₀ u s (paperOf (sequent (exists v g) e P i) ∷ gs) path

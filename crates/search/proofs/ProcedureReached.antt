@@ -6,6 +6,7 @@ use native.Mathlib.Omega.{arith}
 use Rattle.terms.specs.Lists.{All}
 use Rattle.terms.proofs.Lists.{all-weaken}
 use Rattle.formulas.specs.Formulas.{Goal, Clause}
+use Rattle.formulas.specs.Rules.{Rules}
 use Rattle.sequents.specs.Sequents.{Line}
 use Rattle.unification.specs.Store.{Leaf, Store, apply, solution}
 use Rattle.unification.specs.Labelled.{Composed}
@@ -16,7 +17,7 @@ use Rattle.search.proofs.PaperApply.{apply-identity}
 
 -- Goals gs with a store and the lines so far, after u acts: the state that the derivation sequence comes to has only constants
 -- made by those acts, and only variables that the store has. So the next ones are new.
-pub record Reached (cs : List Clause) (g : Goal) (u : ℕ) (s : Store) (gs : List PaperSequent) (path : List (Line Leaf)) : Type 0 where
+pub record Reached (cs : Rules Clause) (g : Goal) (u : ℕ) (s : Store) (gs : List PaperSequent) (path : List (Line Leaf)) : Type 0 where
   pub follows : Follows cs g s gs path
   pub constants : All (λ c. c .0 < u) (follows .state .constants)
   pub variables : All (λ x. x < s .next) (follows .state .variables)
@@ -42,7 +43,7 @@ pub record Step (s : Store) (q : PaperSequent) (gs : List PaperSequent) (x : Lin
 pub constants-more : (u : ℕ) (C : List (ℕ × ℕ)) → All (λ c. c .0 < u) C → All (λ c. c .0 < suc u) C
 constants-more u C h = all-weaken (λ c. c .0 < u) (λ c. c .0 < suc u) (λ c l. omega arith) C h
 
-module _ {cs : List Clause} {g : Goal} {u : ℕ} {s : Store} {path : List (Line Leaf)} where
+module _ {cs : Rules Clause} {g : Goal} {u : ℕ} {s : Store} {path : List (Line Leaf)} where
   -- Goals that wait for another act stand where they stood.
   pub reached-more : {gs : List PaperSequent} → Reached cs g u s gs path → Reached cs g (suc u) s gs path
   reached-more r =

@@ -8,6 +8,7 @@ use Rattle.terms.specs.Terms.{Term, leaf, Terms, substitute, substitutes}
 use Rattle.terms.proofs.Lists.{all-append, all-weaken, map-append}
 use Rattle.terms.proofs.Terms.{substitutes-substitutes}
 use Rattle.formulas.specs.Formulas.{Goal, Clause}
+use Rattle.formulas.specs.Rules.{Rules}
 use Rattle.sequents.specs.Sequents.{putEnvironment, Entry, entries, Sequent, bodySequent, Dclause}
 use Rattle.sequents.proofs.Sequents.{putEntry}
 use Rattle.unification.specs.Store.{Leaf, var, Store, past, fresh, freshVariables, at, solution}
@@ -30,7 +31,7 @@ use Rattle.search.proofs.ProcedureReached.{Reached, Takes, reached-by}
 use Rattle.search.proofs.ProcedureTried.{Resolving}
 
 -- T3 gives the most general unifier and the labelling of the next state.
-pub resolved : {cs : List Clause} {g : Goal} {u : ℕ} {s′ : Store} {b : Branch}
+pub resolved : {cs : Rules Clause} {g : Goal} {u : ℕ} {s′ : Store} {b : Branch}
     → Resolving cs g u (pairs s′ []) b → Reached cs g u s′ (map paperOf (b .goals)) (b .path)
 unfolding By applyG fresh solution formulaM substitute at
 resolved {cs} {g} {u} {s′} {b} r =
@@ -108,7 +109,7 @@ resolved {cs} {g} {u} {s′} {b} r =
     member : Elaborated
     member = formulaE (putEntry (at S) m)
 
-    stands : StandsAt 1 (elabs (formulasAt S (a .program))) k member
+    stands : StandsAt 1 (elabs (formulasAt S (a .program) .clauses)) k member
     stands =
         subst (λ l. StandsAt 1 l k member) (sym (elabs-apply (a .program) S))
         (stands-map (λ e. formulaE (putEntry (at S) e)) 1 (entries (a .program)) k m (r .way .trying .within, r .way .trying .stands))

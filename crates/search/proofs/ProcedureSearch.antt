@@ -5,6 +5,7 @@ use mathlib.Core.List.{List, [], _∷_}
 use Rattle.terms.specs.Lists.{All}
 use Rattle.terms.specs.Terms.{Term, leaf, substitute, Appears}
 use Rattle.terms.proofs.Lists.{all-weaken}
+use Rattle.formulas.specs.Rules.{Rules}
 use Rattle.terms.proofs.Terms.{substitute-agree}
 use Rattle.formulas.specs.Formulas.{Goal, Clause}
 use Rattle.sequents.specs.Symbols.{leftover}
@@ -28,7 +29,7 @@ all-both : {A : Type 0} (P Q : A → Type 0) (l : List A) → All P l → All Q 
 all-both P Q [] h k = tt
 all-both P Q (a ∷ l) h k = ((h .0, k .0), all-both P Q l (h .1) (k .1))
 
-module _ (cs : List Clause) (g : Goal) where
+module _ (cs : Rules Clause) (g : Goal) where
   abbrev Both : ℕ → Configuration → Type 0
   Both u c = Invariant c × Known cs g u c
 
@@ -46,7 +47,7 @@ module _ (cs : List Clause) (g : Goal) where
   follows n = all-weaken (Both n) (FollowsSteps cs g) (λ c h. known-follows cs g n c (h .1)) (after cs g n) (known n)
 
 -- The answer substitution gives each leaf its final value: the variables in final terms are unbound, and there labels are levels.
-follows-answer : {cs : List Clause} {g : Goal} (s : Store) (gs : List PaperSequent) (path : List (Line Leaf)) → Formed s
+follows-answer : {cs : Rules Clause} {g : Goal} (s : Store) (gs : List PaperSequent) (path : List (Line Leaf)) → Formed s
     → (f : Follows cs g s gs path) → (l : Leaf) → answerOf (f .sequence) l ≡ final s l
 unfolding answerOf final at solution
 follows-answer s gs path h f (con c k) = unfold substitute symbolUnder in refl

@@ -13,6 +13,7 @@ use Rattle.terms.specs.Terms.{substitutes}
 use Rattle.terms.proofs.Lists.{all-append}
 use Rattle.terms.proofs.Terms.{substitutes-substitutes}
 use Rattle.formulas.specs.Formulas.{Goal, atom, truth, and, or, implies, exists, forall, Clause, freeG, freeFrom, freeVariables}
+use Rattle.formulas.specs.Rules.{Rules}
 use Rattle.sequents.specs.Sequents.{Environment, Program, Entry, entries, Sequent, sequent, Line, plain, Dtrue}
 use Rattle.sequents.specs.Derivations.{instanceOf}
 use Rattle.unification.specs.Store.{Leaf, Store, fresh, boundTo, solved, solution}
@@ -22,10 +23,11 @@ use Rattle.unification.proofs.Invariant.{Good}
 use Rattle.search.specs.Configurations.{Branch, branch, Atom, Configuration, take, try, match, done}
 use Rattle.search.specs.Steps.{proceed, settle, tryFrom, triedStore, triedBranch, takeGoal, step}
 use Rattle.search.specs.Search.{startStore, startGoal, start}
-use Rattle.search.specs.Paper.{g-atom, embed, applyG, formulaG}
-use Rattle.search.specs.Procedure.{paperSequent, identity, By, DerivationSequence, composition, formulasOf, paperOf, initial}
+use Rattle.search.specs.Paper.{D, g-atom, embed, applyG, formulaG, names}
+use Rattle.search.specs.Procedure.{paperSequent, applySequent, onlyGoals, identity, By, DerivationSequence, composition}
+use Rattle.search.specs.Procedure.{formulasOf, paperOf, initial}
 use Rattle.search.specs.Promises.{triedAtoms, MatchUnderWay, WellFormed, atomSequent, FollowsSteps}
-use Rattle.search.proofs.PaperApply.{sequent-identity}
+use Rattle.search.proofs.PaperApply.{sequent-identity, formulas-assume}
 use Rattle.search.proofs.Invariant.{TryBelow, Invariant}
 use Rattle.search.proofs.ProcedurePlaces.{StandsAt, Placed, placed-all}
 use Rattle.search.proofs.ProcedureReached.{Reached, reached-more, reached-goals}
@@ -44,7 +46,7 @@ freeFrom-below (suc n) v k g l = go (freeG g v) (freeFrom-below n (suc v) k g (o
     go true h = (omega arith, h)
     go false h = h
 
-module _ (cs : List Clause) (g₀ : Goal) where
+module _ (cs : Rules Clause) (g₀ : Goal) where
   -- What is known of a configuration after u acts: where it stands in the procedure.
   unfoldable pub Known : ℕ → Configuration → Type 0
   Known u (take s q b) = Reached cs g₀ u s (map paperOf (q ∷ b .goals)) (b .path)
@@ -97,7 +99,10 @@ module _ (cs : List Clause) (g₀ : Goal) where
   takeGoal-known u s truth e P i b f r = proceed-known (suc u) s (b .goals) (plain Dtrue ∷ b .path) (reached-goals r (refl, refl))
   takeGoal-known u s (and g h) e P i b f r = (reached-goals r (refl, refl), tt)
   takeGoal-known u s (or g h) e P i b f r = (reached-goals r (inl (refl, refl)), (reached-goals r (inr (refl, refl)), tt))
-  takeGoal-known u s (implies c g) e P i b f r = (reached-goals r (refl, refl), tt)
+  takeGoal-known u s (implies c g) e P i b f r =
+      let goals = ap (λ (Q : Rules D). onlyGoals (r .follows .state) (paperSequent (applyG (formulaG g (names e)) (solution s)) Q i
+      ∷ map (applySequent (solution s)) (map paperOf (b .goals)))) (formulas-assume c e P (solution s)) in
+      (reached-goals r (refl, goals), tt)
   takeGoal-known u s (exists v g) e P i b f r = (exists-reached v g e P i f r, tt)
   takeGoal-known u s (forall v g) e P i b f r = (forall-reached v g e P i r, tt)
 

@@ -6,6 +6,7 @@ use mathlib.Core.List.{List, [], _∷_, _++_, map}
 use lib.Dec.{eqb}
 use Rattle.terms.specs.Lists.{All}
 use Rattle.terms.specs.Terms.{sameFunctor, substitutes, Leaves}
+use Rattle.formulas.specs.Rules.{Rules}
 use Rattle.formulas.specs.Formulas.{Goal, Clause}
 use Rattle.sequents.specs.Sequents.{Entry, entries, Sequent}
 use Rattle.unification.specs.Store.{Leaf, Store, follow, past, fresh, freshVariables}
@@ -73,6 +74,6 @@ try-step u s a m ms k b = rw (step, atoms-step s a m) (go (eqb (a .predicate) (m
     go false = refl
 
 -- A match under way, the search having reached its atom before.
-pub record Resolving (cs : List Clause) (g : Goal) (u : ℕ) (m : Matching) (b : Branch) : Type 0 where
+pub record Resolving (cs : Rules Clause) (g : Goal) (u : ℕ) (m : Matching) (b : Branch) : Type 0 where
   pub way : MatchUnderWay m b
   pub reached : Reached cs g u (way .store) (atomSequent (way .atom) ∷ map paperOf (way .before .goals)) (way .before .path)

@@ -2,12 +2,13 @@
 use mathlib.Core.Path.{ap}
 use Rattle.unification.proofs.Bindings.{followings}
 use Rattle.search.specs.Steps.{settle, step}
-use Rattle.search.specs.Promises.{AllUnits, AllTries, AllSteps, Soundness, Completeness, SearchFollows}
+use Rattle.search.specs.Promises.{AllUnits, AllTries, AllSteps, Soundness, Completeness, OneVerdict, SearchFollows}
 use Rattle.search.proofs.Units.{allUnits}
 use Rattle.search.proofs.ProcedureSearch.{allSteps}
 use Rattle.search.proofs.Tries.{allTries}
 use Rattle.search.proofs.Sound.{sound}
 use Rattle.search.proofs.Complete.{complete}
+use Rattle.search.proofs.Orders.{one-verdict}
 
 -- Promise T2, on units, holds.
 pub units : AllUnits
@@ -20,6 +21,10 @@ derivationSteps = allSteps
 -- Every try's match is one of T3's: it succeeds exactly if there is a unifier, and binds a most general one.
 pub tries : AllTries
 tries = allTries
+
+-- No goal is proved under one order and no under the other.
+pub oneVerdict : OneVerdict
+oneVerdict = one-verdict
 
 -- Promise T5, soundness, holds.
 pub soundness : Soundness

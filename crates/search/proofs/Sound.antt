@@ -12,6 +12,7 @@ use Rattle.terms.specs.Terms.{leaf, Terms, substitute, substitutes}
 use Rattle.terms.proofs.Lists.{all-append, map-append}
 use Rattle.terms.proofs.Terms.{substitutes-substitutes}
 use Rattle.formulas.specs.Formulas.{Goal, atom, truth, and, or, implies, exists, forall, Clause}
+use Rattle.formulas.specs.Rules.{Rules}
 use Rattle.sequents.specs.Symbols.{Symbol, Ground, level}
 use Rattle.sequents.specs.Sequents.{Environment, Program, Entry, entries, Sequent, sequent, assign, Dtrue, Dand, Dleft, Dright, Dassume}
 use Rattle.sequents.specs.Sequents.{Line, plain, Dsome, Dall, Dclause, putTerms, putEnvironment, putProgram, putSequent, putLine}
@@ -31,8 +32,8 @@ use Rattle.search.specs.Promises.{Sound}
 use Rattle.search.proofs.After.{proved-all}
 use Rattle.search.proofs.Invariant.{Invariant, start-invariant, step-keeps}
 use Rattle.search.proofs.Answers.{finalValues, final-valued, final-solves, final-level0}
-use Rattle.search.proofs.Values.{symbols, Valuation, valued, Solution, goalsAt, body-goals, update-goals, freshVariables-length}
-use Rattle.search.proofs.Values.{fresh-solution}
+use Rattle.search.proofs.Values.{symbols, Valuation, valued, Solution, goalsAt, body-goals, assume-goals, update-goals}
+use Rattle.search.proofs.Values.{freshVariables-length, fresh-solution}
 
 -- The lines with their values, in the order taken.
 abbrev pub linesAt : Valuation → List (Line Leaf) → List (Line Symbol)
@@ -141,7 +142,7 @@ module _ (s₀ : Store) (g₀ : Sequent Leaf) where
       reaches-on σ (b .path) _ (goalsAt σ (b .goals)) rest x (h σ v)
       (subst₂ (λ (l : List (Entry Symbol)) (us : Terms Symbol). Uses (putLine (valued σ) x) l 1 p us (putProgram (valued σ) P) i
       (λ new. new ++ goalsAt σ (b .goals) ≡ rest))
-      (sym (entries-put (valued σ) P)) (substitutes-substitutes ts e (valued σ)) k))
+      (sym (entries-put (valued σ) (P .clauses))) (substitutes-substitutes ts e (valued σ)) k))
   takeGoal-sound u s truth e P i b h =
       proceed-sound s (b .goals) (plain Dtrue ∷ b .path) (λ σ v. reaches-on σ (b .path) _ _ _ (plain Dtrue) (h σ v) (refl, refl))
   takeGoal-sound u s (and g k) e P i b h = ((λ σ v. reaches-on σ (b .path) _ _ _ (plain Dand) (h σ v) (refl, refl)), tt)
@@ -149,7 +150,8 @@ module _ (s₀ : Store) (g₀ : Sequent Leaf) where
     (λ σ v. reaches-on σ (b .path) _ _ _ (plain Dleft) (h σ v) (inl (refl, refl))),
     ((λ σ v. reaches-on σ (b .path) _ _ _ (plain Dright) (h σ v) (inr (refl, refl))), tt),
   )
-  takeGoal-sound u s (implies c g) e P i b h = ((λ σ v. reaches-on σ (b .path) _ _ _ (plain Dassume) (h σ v) (refl, refl)), tt)
+  takeGoal-sound u s (implies c g) e P i b h =
+      ((λ σ v. reaches-on σ (b .path) _ _ _ (plain Dassume) (h σ v) (refl, assume-goals σ g c e P i (b .goals))), tt)
   takeGoal-sound u s (exists v g) e P i b h = (
     (λ σ w.
         let q = fresh-solution (v ∷ []) i s σ w in
@@ -188,12 +190,12 @@ module _ (s₀ : Store) (g₀ : Sequent Leaf) where
   step-sound u (done s path) h = (h, tt)
 
 -- The soundness invariant holds at the start, which needs no line.
-start-sound : (cs : List Clause) (g : Goal) → All (SoundConfiguration startStore (startGoal cs g)) (start cs g)
+start-sound : (cs : Rules Clause) (g : Goal) → All (SoundConfiguration startStore (startGoal cs g)) (start cs g)
 unfolding start Leads
 start-sound cs g = ((λ σ v. record { first = v; leads = refl }), tt)
 
 -- At the end no goal is left and the final values are a solution, so that T5 holds.
-pub sound : (cs : List Clause) (g : Goal) (budget n : ℕ) (s : Store) (path : List (Line Leaf))
+pub sound : (cs : Rules Clause) (g : Goal) (budget n : ℕ) (s : Store) (path : List (Line Leaf))
     → search budget cs g ≡ ends (proved s path) n → Sound cs g s path
 unfolding Invariant startStore startGoal finalLines finalEnvironment level symbols value
 sound cs g budget n s path e =

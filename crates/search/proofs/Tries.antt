@@ -6,6 +6,7 @@ use mathlib.Core.Logic.{_⊎_, inl, inr}
 use native.Mathlib.Omega.{arith}
 use Rattle.terms.specs.Lists.{All}
 use Rattle.formulas.specs.Formulas.{Goal, Clause}
+use Rattle.formulas.specs.Rules.{Rules}
 use Rattle.sequents.specs.Sequents.{Entry}
 use Rattle.unification.specs.Store.{Leaf, Store}
 use Rattle.unification.specs.Matching.{Matching, pairs, check, fail, matchStep, matchSteps, Ended}
@@ -18,7 +19,7 @@ use Rattle.search.specs.Promises.{triedAtoms, Trying, WellFormed, Matche
 use Rattle.search.proofs.ProcedureTried.{try-step}
 use Rattle.search.proofs.ProcedureSearch.{allSteps}
 
-module _ (cs : List Clause) (g : Goal) (n : ℕ) (s : Store) (a : Atom) (m : Entry Leaf) (ms : List (Entry Leaf)) (k : ℕ) (b : Branch)
+module _ (cs : Rules Clause) (g : Goal) (n : ℕ) (s : Store) (a : Atom) (m : Entry Leaf) (ms : List (Entry Leaf)) (k : ℕ) (b : Branch)
     (ds : List Configuration) (due : after cs g n ≡ try s a m ms k b ∷ ds) where
   -- The match of the two atoms after j steps.
   abbrev Steps : ℕ → Matching
@@ -94,7 +95,7 @@ module _ (cs : List Clause) (g : Goal) (n : ℕ) (s : Store) (a : Atom) (m : Ent
         first (z .0) 0 at-start (subst Ended (sym (z .2 (suc (0 + z .0)) (omega arith))) (z .1))
 
 -- A configuration that is reached is well-formed: the first.
-front-formed : (cs : List Clause) (g : Goal) (n : ℕ) (c : Configuration) (ds : List Configuration) → after cs g n ≡ c ∷ ds → WellFormed c
+front-formed : (cs : Rules Clause) (g : Goal) (n : ℕ) (c : Configuration) (ds : List Configuration) → after cs g n ≡ c ∷ ds → WellFormed c
 front-formed cs g n c ds e = subst (All WellFormed) e (allSteps cs g .formed n) .0
 
 pub allTries : AllTries

@@ -1,15 +1,15 @@
 -- T2: the search within a budget tells what the search without one comes to, exactly if its units suffice.
 use Prim.Native.Nat.{ℕ, zero, suc, _+_, _≤_, _<_}
 use mathlib.Core.Path.{_≡_, refl, sym, _∙_, ap, ap₂, subst}
-use mathlib.Core.List.{List}
 use mathlib.Core.Option.{Option, none, some}
 use native.Mathlib.Decide.{decLe}
 use native.Mathlib.Omega.{arith}
 use Rattle.formulas.specs.Formulas.{Goal, Clause}
+use Rattle.formulas.specs.Rules.{Rules}
 use Rattle.search.specs.Search.{start, advance, after, Verdict, verdictOf, ComesTo, SearchOutcome, ends, spent, searchFrom, search}
 use Rattle.search.specs.Promises.{Units}
 
-module _ (cs : List Clause) (g : Goal) where
+module _ (cs : Rules Clause) (g : Goal) where
   -- No verdict stood before u acts.
   abbrev Undecided : ℕ → Type 0
   Undecided u = (m : ℕ) → m < u → verdictOf (after cs g m) ≡ none

@@ -13,11 +13,12 @@ use Rattle.terms.specs.Lists.{All, update}
 use Rattle.terms.specs.Terms.{Term, Terms, substitute, substitutes, Leaves, LeavesAll}
 use Rattle.terms.proofs.Lists.{map-append, update-same, update-other}
 use Rattle.terms.proofs.Terms.{substitute-where, substitutes-where}
-use Rattle.formulas.specs.Formulas.{Goal}
+use Rattle.formulas.specs.Formulas.{Goal, Clause}
+use Rattle.formulas.specs.Rules.{rules, assume}
 use Rattle.sequents.specs.Symbols.{Symbol, made, symbolLevel, Ground, level}
-use Rattle.sequents.specs.Sequents.{Environment, Program, hypothesis, Sequent, sequent, bodySequent, putTerms, putEnvironment, putProgram}
-use Rattle.sequents.specs.Sequents.{putSequent}
-use Rattle.sequents.proofs.Sequents.{update-put, body-put}
+use Rattle.sequents.specs.Sequents.{Environment, Program, Hypothesis, hypothesis, Sequent, sequent, bodySequent, putTerms}
+use Rattle.sequents.specs.Sequents.{putEnvironment, putHypothesis, putProgram, putSequent}
+use Rattle.sequents.proofs.Sequents.{update-put, assume-put, body-put}
 use Rattle.unification.specs.Store.{Leaf, var, con, Binding, Store, fresh, freshLevels, past, freshVariables}
 use Rattle.unification.specs.Promises.{Below, BelowBinding, Formed}
 use Rattle.unification.proofs.Stores.{fresh-formed}
@@ -53,6 +54,13 @@ body-goals σ o e f P i gs q =
     ap (λ (h : Environment Symbol). bodySequent o h (putProgram (valued σ) P) i ++ goalsAt σ gs) (sym q)
     ∙ ap (_++ goalsAt σ gs) (sym (body-put (valued σ) o e P i))
     ∙ sym (map-append (putSequent (valued σ)) (bodySequent o e P i) gs)
+
+-- The values of an assumption's goal and the goals after it are the goal with the assumption's values, then the others'.
+pub assume-goals : (σ : Valuation) (g : Goal) (c : Clause) (e : Environment Leaf) (P : Program Leaf) (i : ℕ) (gs : List (Sequent Leaf))
+    → sequent g (putEnvironment (valued σ) e) (assume (hypothesis c (putEnvironment (valued σ) e)) (putProgram (valued σ) P)) i
+    ∷ goalsAt σ gs ≡ goalsAt σ (sequent g e (assume (hypothesis c e) P) i ∷ gs)
+assume-goals σ g c e P i gs =
+    ap (λ (Q : Program Symbol). sequent g (putEnvironment (valued σ) e) Q i ∷ goalsAt σ gs) (sym (assume-put (valued σ) c e P))
 
 -- The values of a quantifier's goal and the goals after it are the goal with its term's value, then the others'.
 pub update-goals : (σ : Valuation) (g : Goal) (e : Environment Leaf) (v : ℕ) (t : Term Leaf) (P : Program Leaf) (i : ℕ)
@@ -90,9 +98,12 @@ environment-agree e n σ τ b h = fun-ext (λ v. term-agree (e v) n σ τ (b v) 
 -- Valuations that agree below n give the same values to a program that is below n.
 pub program-agree : (P : Program Leaf) (n : ℕ) (σ τ : Valuation) → ProgramBelow n P → Agree n σ τ
     → putProgram (valued σ) P ≡ putProgram (valued τ) P
-program-agree [] n σ τ b h = refl
-program-agree (x ∷ P) n σ τ b h =
-    ap₂ _∷_ (ap (hypothesis (x .clause)) (environment-agree (x .environment) n σ τ (b .0) h)) (program-agree P n σ τ (b .1) h)
+program-agree P n σ τ b h = ap (rules (P .order)) (each (P .clauses) b)
+  where
+    each : (l : List (Hypothesis Leaf)) → All (λ x. EnvironmentBelow n (x .environment)) l
+        → map (putHypothesis (valued σ)) l ≡ map (putHypothesis (valued τ)) l
+    each [] b = refl
+    each (x ∷ l) b = ap₂ _∷_ (ap (hypothesis (x .clause)) (environment-agree (x .environment) n σ τ (b .0) h)) (each l (b .1))
 
 -- Valuations that agree below n give the same values to goals that are below n.
 pub goals-agree : (gs : List (Sequent Leaf)) (n : ℕ) (σ τ : Valuation) → GoalsBelow gs n → Agree n σ τ → goalsAt σ gs ≡ goalsAt τ gs

@@ -1,5 +1,5 @@
--- Document 003, section 5: definitions 6, 7 and 8. Sets are lists: 𝒢 in document 01's order, 𝒞 the made constants (function
--- symbols have label 0 and are never new), 𝒱 the variables.
+-- Document 003, section 5: definitions 6, 7 and 8. Sets are lists: 𝒢 in document 01's order, 𝒫 in the order in force, 𝒞 the
+-- made constants (function symbols have label 0 and are never new), 𝒱 the variables.
 use Prim.Native.Nat.{ℕ, suc}
 use mathlib.Core.Path.{_≡_, refl}
 use mathlib.Core.Bool.{Bool, true, false}
@@ -10,6 +10,7 @@ use lib.ListN.{length}
 use Rattle.terms.specs.Lists.{All, Mem, place, update}
 use Rattle.terms.specs.Terms.{sheetSymbol, Term, leaf, app, Terms, substitute, substitutes}
 use Rattle.formulas.specs.Formulas.{Goal, Clause, freeVariables}
+use Rattle.formulas.specs.Rules.{Rules, assume, mapRules}
 use Rattle.sequents.specs.Symbols.{Symbol}
 use Rattle.sequents.specs.Sequents.{Environment, Hypothesis, Program, Sequent, Word, Dtrue, Dand, Dleft, Dright, Dassume, Line, plain}
 use Rattle.sequents.specs.Sequents.{Dsome, Dall, Dclause}
@@ -24,15 +25,15 @@ use Rattle.search.specs.Answers.{symbolUnder}
 -- A sequent of the paper is ⟨G, 𝒫, I⟩.
 pub record PaperSequent : Type 0 where
   pub goal : G
-  pub program : List D
+  pub program : Rules D
   pub level : ℕ
 
-abbrev pub paperSequent : G → List D → ℕ → PaperSequent
+abbrev pub paperSequent : G → Rules D → ℕ → PaperSequent
 paperSequent g P i = record { goal = g; program = P; level = i }
 
 -- Applies σ to ⟨G, 𝒫, I⟩.
 abbrev pub applySequent : (ℕ → Term Leaf) → PaperSequent → PaperSequent
-applySequent σ q = paperSequent (applyG (q .goal) σ) (map (λ d. applyD d σ) (q .program)) (q .level)
+applySequent σ q = paperSequent (applyG (q .goal) σ) (mapRules (λ d. applyD d σ) (q .program)) (q .level)
 
 -- A state is ⟨𝒢, 𝒞, 𝒱, ℒ, θ⟩.
 pub record State : Type 0 where
@@ -65,16 +66,16 @@ unfoldable pub Distinct : List ℕ → Type 0
 Distinct [] = Unit {0}
 Distinct (w ∷ ws) = (Mem w ws → ⊥) × Distinct ws
 
-unfoldable pub paperBody : Option G → Names → List D → ℕ → List PaperSequent
+unfoldable pub paperBody : Option G → Names → Rules D → ℕ → List PaperSequent
 paperBody none ρ P i = []
 paperBody (some g) ρ P i = paperSequent (putG g ρ) P i ∷ []
 
 -- (vi) and (vii): a member of elab(𝒫), the line naming its place and the new variables. Outside a quantifier terms have no
 -- names: they are terms of the search (left, right).
-pub record Resolved (x : Line Leaf) (p : ℕ) (ts : Terms PaperLeaf) (P : List D) (i : ℕ) (before after : List PaperSequent)
+pub record Resolved (x : Line Leaf) (p : ℕ) (ts : Terms PaperLeaf) (P : Rules D) (i : ℕ) (before after : List PaperSequent)
     (S₁ S₂ : State) : Type 0 where
   pub clause : Elaborated
-  pub within : Mem clause (elabs P)
+  pub within : Mem clause (elabs (P .clauses))
   pub ws : List ℕ
   pub many : length ws ≡ length (clause .prefix)
   pub new : All (λ w. Mem w (S₁ .variables) → ⊥) ws
@@ -95,7 +96,7 @@ pub record Resolved (x : Line Leaf) (p : ℕ) (ts : Terms PaperLeaf) (P : List D
   pub labels : Induced (relabel ws i (S₁ .labels)) σ (S₂ .labels)
 
 -- Definition 6, the sequent taken being ⟨G, P, i⟩ between before and after, and the D line naming the case.
-unfoldable pub By : Line Leaf → G → List D → ℕ → List PaperSequent → List PaperSequent → State → State → Type 0
+unfoldable pub By : Line Leaf → G → Rules D → ℕ → List PaperSequent → List PaperSequent → State → State → Type 0
 -- The case of true is added by document 01.
 By x g-true P i before after S₁ S₂ = (x ≡ plain Dtrue) × (S₂ ≡ onlyGoals S₁ (before ++ after))
 -- Case (i) is that of a conjunction.
@@ -112,7 +113,7 @@ By x (g-exists v g) P i before after S₁ S₂ = (w : ℕ) × (x ≡ Dsome (leaf
   substitution = identity;
 })
 -- Case (iv) is that of an implication.
-By x (g-implies d g) P i before after S₁ S₂ = (x ≡ plain Dassume) × (S₂ ≡ onlyGoals S₁ (before ++ paperSequent g (d ∷ P) i ∷ after))
+By x (g-implies d g) P i before after S₁ S₂ = (x ≡ plain Dassume) × (S₂ ≡ onlyGoals S₁ (before ++ paperSequent g (assume d P) i ∷ after))
 -- Case (v) is that of a universal goal.
 By x (g-forall v g) P i before after S₁ S₂ =
     (c : ℕ) × (x ≡ Dall (leaf (con c (suc i)))) × (Mem (c, suc i) (S₁ .constants) → ⊥) × (S₂ ≡ record {
@@ -154,13 +155,13 @@ unfoldable pub answerOf : {S₀ : State} {ls : List (Line Leaf)} {S : State} →
 answerOf {S = S} d l = substitute (at (composition d) l) (symbolUnder (S .labels))
 
 -- Definition 8: the first state for a goal relative to a program; 𝒱₁ is the goal's free variables.
-unfoldable pub formulasOf : Program Leaf → List D
-formulasOf P = map (λ h. formulaD (h .clause) (names (h .environment))) P
+unfoldable pub formulasOf : Program Leaf → Rules D
+formulasOf P = mapRules (λ h. formulaD (h .clause) (names (h .environment))) P
 
 unfoldable pub paperOf : Sequent Leaf → PaperSequent
 paperOf g = paperSequent (formulaG (g .goal) (names (g .environment))) (formulasOf (g .program)) (g .level)
 
-unfoldable pub initial : List Clause → Goal → State
+unfoldable pub initial : Rules Clause → Goal → State
 initial cs g = record {
   goals = paperSequent (formulaG g (names startEnvironment)) (formulasOf (sheetProgram cs startEnvironment)) 0 ∷ [];
   constants = [];

@@ -9,6 +9,7 @@ use mathlib.Core.Logic.{_⊎_, _↔_}
 use Rattle.terms.specs.Lists.{All, Mem, place}
 use Rattle.terms.specs.Terms.{sheetSymbol, Term, app, substitutes}
 use Rattle.formulas.specs.Formulas.{Goal, Clause, freeG, variableNames}
+use Rattle.formulas.specs.Rules.{Order, Rules, rules}
 use Rattle.sequents.specs.Symbols.{Symbol, level}
 use Rattle.sequents.specs.Sequents.{Environment, Entry, entries, Line}
 use Rattle.sequents.specs.Derivations.{instanceOf, InstanceDerivation}
@@ -28,7 +29,7 @@ use Rattle.search.specs.Procedure.{formulasOf, paperOf, initial}
 
 -- T2, demand 3: "Whoever is told proved or no is told what the walk of document 01 comes to, with its units"; "told spent
 -- exactly if the walk needs more units than the budget": an act is due after each number of acts up to it. What it comes to is one thing.
-pub record Units (cs : List Clause) (g : Goal) : Type 0 where
+pub record Units (cs : Rules Clause) (g : Goal) : Type 0 where
   pub tells : (budget n : ℕ) (v : Verdict) → (search budget cs g ≡ ends v n) ↔ (ComesTo cs g n v × (n ≤ budget))
   pub spends : (budget : ℕ) → (search budget cs g ≡ spent) ↔ ((n : ℕ) (v : Verdict) → ComesTo cs g n v → budget < n)
   pub due : (budget : ℕ) → (search budget cs g ≡ spent) ↔ ((n : ℕ) → n ≤ budget → verdictOf (after cs g n) ≡ none)
@@ -80,7 +81,7 @@ NotMatched s a m L rest ds =
     (ds ≡ rest) × ((φ : Substitution) → Unifier L (readPairs (triedStore s a m) (triedAtoms s a m)) φ → ⊥)
 
 abbrev pub AllTries : Type 0
-AllTries = (cs : List Clause) (g : Goal) (n : ℕ) (s : Store) (a : Atom) (m : Entry Leaf) (ms : List (Entry Leaf)) (k : ℕ) (b : Branch)
+AllTries = (cs : Rules Clause) (g : Goal) (n : ℕ) (s : Store) (a : Atom) (m : Entry Leaf) (ms : List (Entry Leaf)) (k : ℕ) (b : Branch)
     (ds : List Configuration) → after cs g n ≡ try s a m ms k b ∷ ds
     → (L : Labelling) → Labels L (triedStore s a m)
     → (acts : ℕ) × (Matched s a m k b L (tryFrom s a ms (suc k) b ++ ds) (after cs g (suc n + acts))
@@ -89,7 +90,7 @@ AllTries = (cs : List Clause) (g : Goal) (n : ℕ) (s : Store) (a : Atom) (m : E
 -- T4, demand 2: "Every run follows the derivation steps of Nadathur's CS-1992-17, in the order of document 01". Goals gs with a
 -- store and the lines so far: there is a derivation sequence of definition 7 from the first state, with the case of
 -- definition 6 that each line names, to a state whose goals are gs, bindings applied.
-pub record Follows (cs : List Clause) (g : Goal) (s : Store) (gs : List PaperSequent) (path : List (Line Leaf)) : Type 0 where
+pub record Follows (cs : Rules Clause) (g : Goal) (s : Store) (gs : List PaperSequent) (path : List (Line Leaf)) : Type 0 where
   pub state : State
   pub sequence : DerivationSequence (initial cs g) path state
   pub goals : state .goals ≡ map (applySequent (solution s)) gs
@@ -102,14 +103,14 @@ abbrev pub atomSequent : Atom → PaperSequent
 atomSequent a = paperSequent (g-atom (a .predicate) (substitutes (a .arguments) embed)) (formulasOf (a .program)) (a .level)
 
 -- A match under way has not yet led on: its atom is still to be derived, the goals that wait and the lines being those before the try.
-unfoldable pub FollowsSteps : List Clause → Goal → Configuration → Type 0
+unfoldable pub FollowsSteps : Rules Clause → Goal → Configuration → Type 0
 FollowsSteps cs g (take s q b) = Follows cs g s (map paperOf (q ∷ b .goals)) (b .path)
 FollowsSteps cs g (try s a m ms k b) = Follows cs g s (atomSequent a ∷ map paperOf (b .goals)) (b .path)
 FollowsSteps cs g (match m b) = (w : MatchUnderWay m b) × Follows cs g (w .store) (atomSequent (w .atom) ∷ map paperOf (w .before .goals))
     (w .before .path)
 FollowsSteps cs g (done s ls) = Follows cs g s [] ls
 
-pub record DerivationSteps (cs : List Clause) (g : Goal) : Type 0 where
+pub record DerivationSteps (cs : Rules Clause) (g : Goal) : Type 0 where
   pub formed : (n : ℕ) → All WellFormed (after cs g n)
   pub follows : (n : ℕ) → All (FollowsSteps cs g) (after cs g n)
   -- Definition 8: a proved search is a derivation of the goal; its answer substitution is what the final store gives.
@@ -117,13 +118,13 @@ pub record DerivationSteps (cs : List Clause) (g : Goal) : Type 0 where
       → (f : Follows cs g s [] path) × ((l : Leaf) → answerOf (f .sequence) l ≡ final s l)
 
 -- T5: the lines of a proved search, with final bindings and levels, derive that instance of the goal.
-pub record Sound (cs : List Clause) (g : Goal) (s : Store) (path : List (Line Leaf)) : Type 0 where
+pub record Sound (cs : Rules Clause) (g : Goal) (s : Store) (path : List (Line Leaf)) : Type 0 where
   pub level0 : (v : ℕ) → level (finalEnvironment s v) ≤ 0
   pub derives : Derives (finalLines s path) (instanceOf cs g (finalEnvironment s) ∷ [])
 
 abbrev pub Soundness : Type 0
 Soundness =
-    (cs : List Clause) (g : Goal) (budget n : ℕ) (s : Store) (path : List (Line Leaf)) → search budget cs g ≡ ends (proved s path) n
+    (cs : Rules Clause) (g : Goal) (budget n : ℕ) (s : Store) (path : List (Line Leaf)) → search budget cs g ≡ ends (proved s path) n
     → Sound cs g s path
 
 -- The goal's free variables are names of a sheet, 0 to 7: the names to which the start gives a variable.
@@ -133,8 +134,14 @@ SheetNames g = (v : ℕ) → freeG g v ≡ true → v < variableNames
 -- T7, demand 3: "whoever holds a sequent derivation of some instance of the goal, its free variables replaced by terms of level
 -- 0, is never told no".
 abbrev pub Completeness : Type 0
-Completeness = (cs : List Clause) (g : Goal) (e : Environment Symbol) → All Closed cs → SheetNames g → InstanceDerivation cs g e
-    → (budget n : ℕ) → search budget cs g ≡ ends noProof n → ⊥
+Completeness = (cs : Rules Clause) (g : Goal) (e : Environment Symbol) → All Closed (cs .clauses) → SheetNames g
+    → InstanceDerivation cs g e → (budget n : ℕ) → search budget cs g ≡ ends noProof n → ⊥
+
+-- Request W-207: "No goal is told proved under one order and no under the other", whatever the budgets.
+abbrev pub OneVerdict : Type 0
+OneVerdict = (o p : Order) (cs : List Clause) (g : Goal) → All Closed cs → SheetNames g
+    → (budget n : ℕ) (s : Store) (path : List (Line Leaf)) → search budget (rules o cs) g ≡ ends (proved s path) n
+    → (other m : ℕ) → search other (rules p cs) g ≡ ends noProof m → ⊥
 
 -- Request W-206: "each binding looked through takes one unit, wherever it happens in the walk". The act that follows a binding, u acts
 -- having been done, does only this: store, goals and path are as they were, and so is what is left to compare or to look at.
@@ -151,8 +158,8 @@ SearchFollows = (u : ℕ) (s : Store) (ps : List Pair) (b : Branch) → Followin
 
 -- Promise T2 is for all clauses and every goal.
 abbrev pub AllUnits : Type 0
-AllUnits = (cs : List Clause) (g : Goal) → Units cs g
+AllUnits = (cs : Rules Clause) (g : Goal) → Units cs g
 
 -- Promise T4 is for all clauses and every goal.
 abbrev pub AllSteps : Type 0
-AllSteps = (cs : List Clause) (g : Goal) → DerivationSteps cs g
+AllSteps = (cs : Rules Clause) (g : Goal) → DerivationSteps cs g

@@ -7,6 +7,7 @@ use mathlib.Core.Option.{Option, none, some}
 use lib.Dec.{ltb}
 use Rattle.terms.specs.Terms.{sheetSymbol, Term, leaf, app, nil}
 use Rattle.formulas.specs.Formulas.{Goal, Clause, variableNames}
+use Rattle.formulas.specs.Rules.{Rules}
 use Rattle.sequents.specs.Sequents.{Environment, Sequent, Line}
 use Rattle.sequents.specs.Derivations.{instanceOf}
 use Rattle.unification.specs.Store.{Leaf, var, Store}
@@ -21,10 +22,10 @@ startEnvironment v = cond (ltb v variableNames) (leaf (var v)) (app (sheetSymbol
 unfoldable pub startStore : Store
 startStore = record { bindings = []; level = λ x. 0; next = variableNames }
 
-unfoldable pub startGoal : List Clause → Goal → Sequent Leaf
+unfoldable pub startGoal : Rules Clause → Goal → Sequent Leaf
 startGoal cs g = instanceOf cs g startEnvironment
 
-unfoldable pub start : List Clause → Goal → List Configuration
+unfoldable pub start : Rules Clause → Goal → List Configuration
 start cs g = take startStore (startGoal cs g) (branch [] []) ∷ []
 
 -- The state after n acts. "On failure the latest open alternative is taken up": what the step gives is followed by the alternatives.
@@ -33,7 +34,7 @@ unfoldable pub advance : ℕ → List Configuration → List Configuration
 advance u [] = []
 advance u (c ∷ cs) = step u c ++ cs
 
-unfoldable pub after : List Clause → Goal → ℕ → List Configuration
+unfoldable pub after : Rules Clause → Goal → ℕ → List Configuration
 after cs g zero = start cs g
 after cs g (suc n) = advance n (after cs g n)
 
@@ -52,7 +53,7 @@ verdictOf (done s ls ∷ cs) = some (proved s ls)
 
 -- "The walk needs as many units as the acts it takes, with no budget to stop it, up to its first proof or to no": n is the first
 -- number of acts after which there is a verdict.
-unfoldable pub ComesTo : List Clause → Goal → ℕ → Verdict → Type 0
+unfoldable pub ComesTo : Rules Clause → Goal → ℕ → Verdict → Type 0
 ComesTo cs g n v = (verdictOf (after cs g n) ≡ some v) × ((m : ℕ) → m < n → verdictOf (after cs g m) ≡ none)
 
 -- "If no unit is left when an act is due, the answer is spent."
@@ -65,5 +66,5 @@ unfoldable pub searchFrom : ℕ → ℕ → List Configuration → SearchOutcome
 searchFrom zero u ds = elim (verdictOf ds) [ some v ↦ ends v u | none ↦ spent ]
 searchFrom (suc left) u ds = elim (verdictOf ds) [ some v ↦ ends v u | none ↦ searchFrom left (suc u) (advance u ds) ]
 
-unfoldable pub search : ℕ → List Clause → Goal → SearchOutcome
+unfoldable pub search : ℕ → Rules Clause → Goal → SearchOutcome
 search budget cs g = searchFrom budget 0 (start cs g)

@@ -9,6 +9,7 @@ use lib.Dec.{eqb}
 use Rattle.terms.specs.Lists.{update}
 use Rattle.terms.specs.Terms.{Term, leaf, Terms, substitutes}
 use Rattle.formulas.specs.Formulas.{Goal, atom, truth, and, or, implies, exists, forall, Clause}
+use Rattle.formulas.specs.Rules.{assume}
 use Rattle.formulas.specs.Members.{Member}
 use Rattle.sequents.specs.Sequents.{Environment, Program, hypothesis, Entry, entries, Sequent, sequent, assign, bodySequent, Word, Dtrue}
 use Rattle.sequents.specs.Sequents.{Dand, Dleft, Dright, Dassume, Line, plain, Dsome, Dall, Dclause}
@@ -60,7 +61,7 @@ takeGoal u s (and g h) e P i b = take s (sequent g e P i) (branch (sequent h e P
 takeGoal u s (or g h) e P i b =
     take s (sequent g e P i) (branch (b .goals) (plain Dleft ∷ b .path)) ∷ take s (sequent h e P i)
     (branch (b .goals) (plain Dright ∷ b .path)) ∷ []
-takeGoal u s (implies c g) e P i b = take s (sequent g e (hypothesis c e ∷ P) i) (branch (b .goals) (plain Dassume ∷ b .path)) ∷ []
+takeGoal u s (implies c g) e P i b = take s (sequent g e (assume (hypothesis c e) P) i) (branch (b .goals) (plain Dassume ∷ b .path)) ∷ []
 takeGoal u s (exists v g) e P i b =
     let x = leaf (var (s .next)) in
     take (fresh (v ∷ []) i s) (sequent g (update e v x) P i) (branch (b .goals) (Dsome x ∷ b .path)) ∷ []

@@ -2,7 +2,7 @@
 use Prim.Native.Nat.{ℕ, suc, _≤_}
 use mathlib.Core.Path.{_≡_, refl, _∙_, ap, ap₂, subst, fun-ext}
 use mathlib.Core.Bool.{Bool, true, false, _&&_, cond}
-use mathlib.Core.List.{[], _∷_}
+use mathlib.Core.List.{List, [], _∷_, map}
 use native.Mathlib.Omega.{arith}
 use lib.Dec.{eqb}
 use borrow.Author.Tests.{eqb-true, eq-eqb}
@@ -10,8 +10,9 @@ use Rattle.terms.specs.Lists.{All, update}
 use Rattle.terms.specs.Terms.{leaf, substitute}
 use Rattle.terms.proofs.Terms.{leaves-level, substitute-where, substitute-leaf}
 use Rattle.formulas.specs.Formulas.{Goal}
+use Rattle.formulas.specs.Rules.{rules}
 use Rattle.sequents.specs.Symbols.{Symbol, made, leftover, symbolLevel, Ground, level}
-use Rattle.sequents.specs.Sequents.{Environment, Program, hypothesis, putEnvironment, putProgram}
+use Rattle.sequents.specs.Sequents.{Environment, Program, Hypothesis, hypothesis, putEnvironment, putHypothesis, putProgram}
 use Rattle.sequents.specs.Derivations.{Derivation}
 use Rattle.sequents.specs.Renamings.{Renaming, rename, renamed}
 use Rattle.sequents.proofs.Sequents.{update-put}
@@ -23,7 +24,7 @@ LowEnvironment i e = (v : ℕ) → level (e v) ≤ i
 
 -- In no clause of the program a name stands for a term above level i.
 abbrev pub LowProgram : ℕ → Program Symbol → Type 0
-LowProgram i P = All (λ h. LowEnvironment i (h .environment)) P
+LowProgram i P = All (λ h. LowEnvironment i (h .environment)) (P .clauses)
 
 -- The made constant n of level k becomes m.
 unfoldable exchange : ℕ → ℕ → ℕ → Renaming
@@ -57,9 +58,12 @@ exchange-environment i n m e h = fun-ext (λ v. exchange-term i n m (e v) (h v))
 
 -- The exchange at level i + 1 leaves a program that is low for i as it is.
 exchange-program : (i n m : ℕ) (P : Program Symbol) → LowProgram i P → putProgram (renamed (exchange (suc i) n m)) P ≡ P
-exchange-program i n m [] h = refl
-exchange-program i n m (x ∷ P) h =
-    ap₂ _∷_ (ap (hypothesis (x .clause)) (exchange-environment i n m (x .environment) (h .0))) (exchange-program i n m P (h .1))
+exchange-program i n m P h = ap (rules (P .order)) (each (P .clauses) h)
+  where
+    each : (l : List (Hypothesis Symbol)) → All (λ h. LowEnvironment i (h .environment)) l
+        → map (putHypothesis (renamed (exchange (suc i) n m))) l ≡ l
+    each [] h = refl
+    each (x ∷ l) h = ap₂ _∷_ (ap (hypothesis (x .clause)) (exchange-environment i n m (x .environment) (h .0))) (each l (h .1))
 
 -- A derivation with the made constant n gives one with m.
 pub another-constant : (P : Program Symbol) (g : Goal) (e : Environment Symbol) (v i n m : ℕ) → LowProgram i P → LowEnvironment i e

@@ -3,6 +3,7 @@ pub mod Lines
 pub mod Renamings
 pub mod Constants
 pub mod Locality
+pub mod Orders
 pub mod Numbers
 pub mod Promises
 pub mod Cases

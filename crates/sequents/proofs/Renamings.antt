@@ -14,7 +14,7 @@ use Rattle.sequents.specs.Derivations.{Instantiates, lines}
 use Rattle.sequents.specs.Lines.{Uses, Infers, Leads}
 use Rattle.sequents.specs.Renamings.{Renaming, rename, renamed, renameSequent, renameLine}
 use Rattle.sequents.specs.Promises.{Renames}
-use Rattle.sequents.proofs.Sequents.{putEntry, entries-put, update-put, assign-put, body-put, arguments-put}
+use Rattle.sequents.proofs.Sequents.{putEntry, entries-put, assume-put, update-put, assign-put, body-put, arguments-put}
 use Rattle.sequents.proofs.Lines.{trees-are-lines}
 
 -- Renaming keeps the level of a symbol.
@@ -48,7 +48,7 @@ infers-rename r x (atom p us) e P i K L f u =
     let vs = m .member .prefix in
     let environment = assign-put θ vs (u .terms) (m .environment) in
     subst (λ (l : List (Entry Symbol)). Uses (renameLine r x) l 1 p (substitutes us (putEnvironment θ e)) (putProgram θ P) i L)
-    (sym (entries-put θ P)) (record {
+    (sym (entries-put θ (P .clauses))) (record {
       used = putEntry θ m;
       at = mem-map (putEntry θ) (u .at);
       terms = putTerms θ (u .terms);
@@ -65,7 +65,10 @@ infers-rename r x truth e P i K L f u = (ap (renameLine r) (u .0), f [] (u .1))
 infers-rename r x (and a b) e P i K L f u = (ap (renameLine r) (u .0), f _ (u .1))
 infers-rename r x (or a b) e P i K L f (inl u) = inl (ap (renameLine r) (u .0), f _ (u .1))
 infers-rename r x (or a b) e P i K L f (inr u) = inr (ap (renameLine r) (u .0), f _ (u .1))
-infers-rename r x (implies c g) e P i K L f u = (ap (renameLine r) (u .0), f _ (u .1))
+infers-rename r x (implies c g) e P i K L f u = (
+  ap (renameLine r) (u .0),
+  subst (λ (Q : Program Symbol). L (sequent g (putEnvironment (renamed r) e) Q i ∷ [])) (assume-put (renamed r) c e P) (f _ (u .1)),
+)
 infers-rename r x (exists v g) e P i K L f u = (
   substitute (u .0) (renamed r),
   ap (renameLine r) (u .1),

@@ -11,6 +11,7 @@ use Rattle.terms.specs.Lists.{All, Mem, place, update}
 use Rattle.terms.specs.Terms.{Term, leaf, Terms, substitutes}
 use Rattle.formulas.specs.Formulas.{Goal, atom, truth, and, or, implies, exists, forall, Clause, freeG}
 use Rattle.formulas.specs.Members.{Member}
+use Rattle.formulas.specs.Rules.{Rules, assume, mapRules}
 use Rattle.sequents.specs.Symbols.{Symbol, made, Ground, level}
 use Rattle.sequents.specs.Sequents.{Environment, Program, hypothesis, Entry, entries, Sequent, sequent, assign, Word, Dtrue, Dand}
 use Rattle.sequents.specs.Sequents.{Dleft, Dright, Dassume, Line, plain, Dsome, Dall, Dclause}
@@ -28,8 +29,8 @@ mutual
         → Derivation P (and a b) e i
     d-left : {P : Program Symbol} {a b : Goal} {e : Environment Symbol} {i : ℕ} → Derivation P a e i → Derivation P (or a b) e i
     d-right : {P : Program Symbol} {a b : Goal} {e : Environment Symbol} {i : ℕ} → Derivation P b e i → Derivation P (or a b) e i
-    d-assume : {P : Program Symbol} {c : Clause} {g : Goal} {e : Environment Symbol} {i : ℕ} → Derivation (hypothesis c e ∷ P) g e i
-        → Derivation P (implies c g) e i
+    d-assume : {P : Program Symbol} {c : Clause} {g : Goal} {e : Environment Symbol} {i : ℕ}
+        → Derivation (assume (hypothesis c e) P) g e i → Derivation P (implies c g) e i
     d-some : {P : Program Symbol} {v : ℕ} {g : Goal} {e : Environment Symbol} {i : ℕ} (t : Ground) → level t ≤ i
         → Derivation P g (update e v t) i
         → Derivation P (exists v g) e i
@@ -69,13 +70,13 @@ unfoldable mutual
 
 -- "An instance of the goal has terms of level 0 for its free variables; its derivation starts from the sheet's clauses at
 -- level 0." The sheet's clauses have no free variable, so that it does not matter what their names stand for.
-unfoldable pub sheetProgram : {A : Type 0} → List Clause → Environment A → Program A
-sheetProgram cs e = map (λ c. hypothesis c e) cs
+unfoldable pub sheetProgram : {A : Type 0} → Rules Clause → Environment A → Program A
+sheetProgram cs e = mapRules (λ c. hypothesis c e) cs
 
-unfoldable pub instanceOf : {A : Type 0} → List Clause → Goal → Environment A → Sequent A
+unfoldable pub instanceOf : {A : Type 0} → Rules Clause → Goal → Environment A → Sequent A
 instanceOf cs g e = sequent g e (sheetProgram cs e) 0
 
 -- Only the goal's free variables are asked for: what e says of another name is nobody's concern.
-pub record InstanceDerivation (cs : List Clause) (g : Goal) (e : Environment Symbol) : Type 0 where
+pub record InstanceDerivation (cs : Rules Clause) (g : Goal) (e : Environment Symbol) : Type 0 where
   pub level0 : (v : ℕ) → freeG g v ≡ true → level (e v) ≤ 0
   pub derivation : Derivable (instanceOf cs g e)

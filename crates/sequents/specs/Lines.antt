@@ -7,6 +7,7 @@ use Rattle.terms.specs.Lists.{Mem, place, update}
 use Rattle.terms.specs.Terms.{leaf, Terms, substitutes}
 use Rattle.formulas.specs.Formulas.{Goal, atom, truth, and, or, implies, exists, forall}
 use Rattle.formulas.specs.Members.{Member}
+use Rattle.formulas.specs.Rules.{assume}
 use Rattle.sequents.specs.Symbols.{Symbol, made, Ground, level}
 use Rattle.sequents.specs.Sequents.{Environment, Program, hypothesis, Entry, entries, Sequent, sequent, assign, bodySequent, Word}
 use Rattle.sequents.specs.Sequents.{Dtrue, Dand, Dleft, Dright, Dassume, Line, plain, Dsome, Dall, Dclause}
@@ -30,7 +31,7 @@ Infers x (atom p us) e P i K = Uses x (entries P) 1 p (substitutes us e) P i K
 Infers x truth e P i K = (x ≡ plain Dtrue) × K []
 Infers x (and a b) e P i K = (x ≡ plain Dand) × K (sequent a e P i ∷ sequent b e P i ∷ [])
 Infers x (or a b) e P i K = ((x ≡ plain Dleft) × K (sequent a e P i ∷ [])) ⊎ ((x ≡ plain Dright) × K (sequent b e P i ∷ []))
-Infers x (implies c g) e P i K = (x ≡ plain Dassume) × K (sequent g e (hypothesis c e ∷ P) i ∷ [])
+Infers x (implies c g) e P i K = (x ≡ plain Dassume) × K (sequent g e (assume (hypothesis c e) P) i ∷ [])
 Infers x (exists v g) e P i K = (t : Ground) × (x ≡ Dsome t) × (level t ≤ i) × K (sequent g (update e v t) P i ∷ [])
 Infers x (forall v g) e P i K =
     (n : ℕ) × (x ≡ Dall (leaf (made n (suc i)))) × K (sequent g (update e v (leaf (made n (suc i)))) P (suc i) ∷ [])

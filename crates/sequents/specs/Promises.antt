@@ -3,12 +3,13 @@
 use Prim.Native.Nat.{ℕ}
 use mathlib.Core.Path.{_≡_}
 use mathlib.Core.Bool.{true}
-use mathlib.Core.List.{List, [], _∷_, map}
+use mathlib.Core.List.{List, [], _∷_, _++_, map, reverse}
 use Rattle.terms.specs.Lists.{All}
 use Rattle.formulas.specs.Formulas.{Goal, Clause, freeG, freeC}
+use Rattle.formulas.specs.Rules.{Order, oldest, latest, Rules, rules, assume}
 use Rattle.sequents.specs.Symbols.{Symbol}
-use Rattle.sequents.specs.Sequents.{Environment, Program, Sequent, Line, putEnvironment, putProgram}
-use Rattle.sequents.specs.Derivations.{Derivation, Derivable, lines, instanceOf}
+use Rattle.sequents.specs.Sequents.{Environment, Hypothesis, Program, entriesOf, entries, Sequent, Line, putEnvironment, putProgram}
+use Rattle.sequents.specs.Derivations.{Derivation, Derivable, lines, instanceOf, InstanceDerivation}
 use Rattle.sequents.specs.Lines.{Leads, Derives}
 use Rattle.sequents.specs.Renamings.{Renaming, renamed, renameSequent, renameLine}
 
@@ -32,7 +33,7 @@ abbrev pub Closed : Clause → Type 0
 Closed c = (v : ℕ) → freeC c v ≡ true → ⊥
 
 -- An instance of a goal is fixed by the terms for the goal's free variables, the clauses having none.
-pub record Local (cs : List Clause) (g : Goal) : Type 0 where
+pub record Local (cs : Rules Clause) (g : Goal) : Type 0 where
   pub tree : (e f : Environment Symbol) → AgreeOn g e f → (d : Derivable (instanceOf cs g e)) → (d′ : Derivable (instanceOf cs g f))
       × (lines d′ ≡ lines d)
 
@@ -43,4 +44,22 @@ abbrev pub Renamable : Type 0
 Renamable = (r : Renaming) → Renames r
 
 abbrev pub Locality : Type 0
-Locality = (cs : List Clause) (g : Goal) → All Closed cs → Local cs g
+Locality = (cs : Rules Clause) (g : Goal) → All Closed (cs .clauses) → Local cs g
+
+-- Request W-207: clauses hs are assumed, one after the other. "The default trying order becomes the sheet's clauses in order, then the
+-- assumptions, oldest first." The former order has the assumptions first, latest first.
+unfoldable pub assumeAll : List (Hypothesis Symbol) → Program Symbol → Program Symbol
+assumeAll [] P = P
+assumeAll (h ∷ hs) P = assumeAll hs (assume h P)
+
+pub record TriedInOrder (sheet hs : List (Hypothesis Symbol)) : Type 0 where
+  pub default : entries (assumeAll hs (rules oldest sheet)) ≡ entriesOf sheet ++ entriesOf hs
+  pub former : entries (assumeAll hs (rules latest sheet)) ≡ entriesOf (reverse hs) ++ entriesOf sheet
+
+abbrev pub TryingOrder : Type 0
+TryingOrder = (sheet hs : List (Hypothesis Symbol)) → TriedInOrder sheet hs
+
+-- Places follow the order in force, but what is derivable does not depend on it.
+abbrev pub AnyOrder : Type 0
+AnyOrder = (o p : Order) (cs : List Clause) (g : Goal) (e : Environment Symbol) → InstanceDerivation (rules o cs) g e
+    → InstanceDerivation (rules p cs) g e

@@ -7,6 +7,7 @@ use Rattle.terms.specs.Lists.{update}
 use Rattle.terms.specs.Terms.{Term, substitute}
 use Rattle.formulas.specs.Formulas.{Goal, Clause}
 use Rattle.formulas.specs.Members.{Member, members}
+use Rattle.formulas.specs.Rules.{Rules, mapRules}
 
 -- What the names of a formula stand for.
 abbrev pub Environment : Type 0 → Type 0
@@ -17,9 +18,9 @@ pub record Hypothesis (A : Type 0) : Type 0 where
   pub clause : Clause
   pub environment : Environment A
 
--- Assumptions, latest first, then the sheet's clauses in order.
+-- The sheet's clauses and the assumptions in trying order.
 abbrev pub Program : Type 0 → Type 0
-Program A = List (Hypothesis A)
+Program A = Rules (Hypothesis A)
 
 abbrev pub hypothesis : {A : Type 0} → Clause → Environment A → Hypothesis A
 hypothesis c e = record { clause = c; environment = e }
@@ -32,10 +33,13 @@ pub record Entry (A : Type 0) : Type 0 where
 abbrev pub entry : {A : Type 0} → Environment A → Member → Entry A
 entry e m = record { member = m; environment = e }
 
--- "members are tried in turn, assumptions first, latest first, then the sheet's in order"
-unfoldable pub entries : {A : Type 0} → Program A → List (Entry A)
-entries [] = []
-entries (h ∷ P) = map (entry (h .environment)) (members (h .clause)) ++ entries P
+-- "members are tried in turn": those of one clause left to right, whatever the order of clauses.
+unfoldable pub entriesOf : {A : Type 0} → List (Hypothesis A) → List (Entry A)
+entriesOf [] = []
+entriesOf (h ∷ P) = map (entry (h .environment)) (members (h .clause)) ++ entriesOf P
+
+abbrev pub entries : {A : Type 0} → Program A → List (Entry A)
+entries P = entriesOf (P .clauses)
 
 -- "A sequent has a program, a goal and a level I." In the search it is an open goal, which "carries its program and its level I".
 pub record Sequent (A : Type 0) : Type 0 where
@@ -79,7 +83,7 @@ abbrev pub putHypothesis : {A B : Type 0} → (A → Term B) → Hypothesis A �
 putHypothesis θ h = record { clause = h .clause; environment = putEnvironment θ (h .environment) }
 
 abbrev pub putProgram : {A B : Type 0} → (A → Term B) → Program A → Program B
-putProgram θ P = map (putHypothesis θ) P
+putProgram θ P = mapRules (putHypothesis θ) P
 
 abbrev pub putSequent : {A B : Type 0} → (A → Term B) → Sequent A → Sequent B
 putSequent θ g = sequent (g .goal) (putEnvironment θ (g .environment)) (putProgram θ (g .program)) (g .level)

@@ -3,6 +3,7 @@ use Prim.Native.Nat.{ℕ, _+_}
 use Prim.Native.String.{String}
 use mathlib.Core.Path.{_≡_, refl}
 use mathlib.Core.List.{List, [], _∷_, _++_}
+use Rattle.formulas.specs.Rules.{Order, oldest, latest}
 use Rattle.sheet_format.specs.Bytes.{ascii}
 use Rattle.sheet_format.specs.Sheets.{Sheet, Refusal, refusal, Read, sheet, refused}
 use Rattle.sheet_format.proofs.Computing.{computeSheet}
@@ -15,6 +16,19 @@ told (refused r) = (r .number, r .line)
 unfoldable reads : String → ℕ × ℕ
 unfolding computeSheet
 reads s = told (computeSheet (ascii s))
+
+-- The default order is told as 1, the former one as 2, a refusal as 0.
+abbrev orderNumber : Order → ℕ
+orderNumber oldest = 1
+orderNumber latest = 2
+
+abbrev orderTold : Read → ℕ
+orderTold (sheet s) = orderNumber (s .order)
+orderTold (refused r) = 0
+
+unfoldable order : String → ℕ
+unfolding computeSheet
+order s = orderTold (computeSheet (ascii s))
 
 -- Refusal 6 is for a letter, field count, number, name, arity, variable, no LF, an empty line, or five nodes.
 letter : reads "y\n" ≡ (6, 1)
@@ -192,3 +206,63 @@ numerals-1025 : reads
     "F\tf\t2\nF\tg\t1\nN\t0\nA\t0\t0\t0\nA\t0\t1\t1\nA\t0\t2\t2\nA\t0\t3\t3\nA\t0\t4\t4\nA\t0\t5\t5\nA\t0\t6\t6\nA\t0\t7\t7\nA\t0\t8\t8\nA\t1\t9\nA\t1\t10\n" ≡ (9, 14)
 unfolding reads
 numerals-1025 = refl
+
+-- Request W-207: without an O line the order is the default one, with it the former one.
+no-order : order "Y\nQ\t0\n" ≡ 1
+unfolding order
+no-order = refl
+
+order-latest : order "O\tlatest\nY\nQ\t0\n" ≡ 2
+unfolding order
+order-latest = refl
+
+-- The O line counts as a line, and a sheet of nothing else has no Q line.
+order-alone : reads "O\tlatest\n" ≡ (11, 2)
+unfolding reads
+order-alone = refl
+
+order-counts : reads "O\tlatest\nY\nV\t8\n" ≡ (6, 3)
+unfolding reads
+order-counts = refl
+
+-- Without LF, with another word, with a capital, with no word or with a third field it is malformed.
+order-no-lf : reads "O\tlatest" ≡ (6, 1)
+unfolding reads
+order-no-lf = refl
+
+order-word : reads "O\toldest\nY\nQ\t0\n" ≡ (6, 1)
+unfolding reads
+order-word = refl
+
+order-capital : reads "O\tLatest\nY\nQ\t0\n" ≡ (6, 1)
+unfolding reads
+order-capital = refl
+
+order-small-letter : reads "o\tlatest\nY\nQ\t0\n" ≡ (6, 1)
+unfolding reads
+order-small-letter = refl
+
+order-no-word : reads "O\nY\nQ\t0\n" ≡ (6, 1)
+unfolding reads
+order-no-word = refl
+
+order-third-field : reads "O\tlatest\t\nY\nQ\t0\n" ≡ (6, 1)
+unfolding reads
+order-third-field = refl
+
+-- A second one, or one further down, is malformed too, and after the Q line it is one line too many.
+order-twice : reads "O\tlatest\nO\tlatest\nY\nQ\t0\n" ≡ (6, 2)
+unfolding reads
+order-twice = refl
+
+order-later : reads "Y\nO\tlatest\nQ\t0\n" ≡ (6, 2)
+unfolding reads
+order-later = refl
+
+order-after : reads "Y\nQ\t0\nO\tlatest\n" ≡ (11, 3)
+unfolding reads
+order-after = refl
+
+order-after-former : reads "O\tlatest\nY\nQ\t0\nO\tlatest\n" ≡ (11, 4)
+unfolding reads
+order-after-former = refl

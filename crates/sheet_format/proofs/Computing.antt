@@ -12,7 +12,8 @@ use Rattle.sheet_format.specs.Nodes.{neither, memberCount, termNodes, si
 use Rattle.sheet_format.specs.Nodes.{bothClauses, ruled, nodesAt, nodeOf, isSome}
 use Rattle.sheet_format.specs.Nodes.{isSomething}
 use Rattle.sheet_format.specs.Sheets.{Read, isDeclared, takeDeclaration, addNode, takeNode, anyFree, addClause, clauseAt, takeClause}
-use Rattle.sheet_format.specs.Sheets.{lastGoal, goalAt, takeLine, atEnd, afterGoal, readFrom, readSheetBy, sheetForm, readSheet}
+use Rattle.sheet_format.specs.Sheets.{lastGoal, goalAt, takeLine, atEnd, afterGoal, readFrom, readLines, readSheetBy}
+use Rattle.sheet_format.specs.Sheets.{sheetForm, readSheet}
 
 unfoldable pub computeSheet : List ℕ → Read
 unfolding ascii extendLine linesOf extendField fields isDigit isSmall isCapital isLetter isNameByte digitsFrom atMost number nameBytes isName
@@ -22,7 +23,7 @@ unfolding ascii extendLine linesOf extendField fields isDigit isSmall isCapital 
     termNodes sized
     termNode applied applyNode bothClauses ruled nodesAt nodeOf isSome isSomething
     isDeclared
-    takeDeclaration addNode takeNode anyFree addClause clauseAt takeClause lastGoal goalAt takeLine atEnd afterGoal readFrom readSheetBy
-    sheetForm readSheet
+    takeDeclaration addNode takeNode anyFree addClause clauseAt takeClause lastGoal goalAt takeLine atEnd afterGoal readFrom readLines
+    readSheetBy sheetForm readSheet
     size freeT freeG freeC
 computeSheet bytes = readSheet bytes

@@ -36,6 +36,6 @@ pub readsWithoutNumbers : ReadsWithoutNumbers
 unfolding readSheet readSheetBy formWithoutNumbers sheetForm
 readsWithoutNumbers bytes h =
     sym (lines-alike sameName sameName (λ n. Unit {0}) (λ m n p q. refl) (λ l. withoutNumbers (parseLine l)) parseLine
-    (linesOf bytes .whole) (linesOf bytes .rest) 1 (record { symbols = []; nodes = []; clauses = [] }) tt
+    (linesOf bytes .whole) (linesOf bytes .rest)
     (all-weaken NoNumberLine (λ l. (withoutNumbers (parseLine l) ≡ parseLine l) × OnSome (Declares (λ n. Unit {0})) (parseLine l))
     (λ l k. other-line (parseLine l) k) (linesOf bytes .whole) h))

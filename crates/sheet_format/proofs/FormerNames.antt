@@ -45,7 +45,7 @@ pub readsAsBefore : ReadsAsBefore
 unfolding readSheet readSheetBy formerForm sheetForm
 readsAsBefore bytes h =
     sym (lines-alike sameBytes sameName (λ n. hasCapital n ≡ false) same-small (λ l. withoutCapitals (parseLine l)) parseLine
-    (linesOf bytes .whole) (linesOf bytes .rest) 1 (record { symbols = []; nodes = []; clauses = [] }) tt
+    (linesOf bytes .whole) (linesOf bytes .rest)
     (all-weaken DeclaresSmall
     (λ l. (withoutCapitals (parseLine l) ≡ parseLine l) × OnSome (Declares (λ n. hasCapital n ≡ false)) (parseLine l))
     (λ l k. small-line (parseLine l) k) (linesOf bytes .whole) h))

@@ -15,3 +15,5 @@ pub mod Capitals
 pub mod Forms
 pub mod FormerNames
 pub mod FormerLines
+pub mod OrderLine
+pub mod Promises

@@ -9,13 +9,14 @@ use lib.Dec.{ltb}
 use lib.ListN.{length, getElem?}
 use Rattle.terms.specs.Lists.{All}
 use Rattle.formulas.specs.Formulas.{Goal, Clause}
+use Rattle.formulas.specs.Rules.{Order, oldest, latest}
 use Rattle.sheet_format.specs.Limits.{variableNames, maxSymbols, maxNodes, maxClauses}
-use Rattle.sheet_format.specs.Bytes.{linesOf}
+use Rattle.sheet_format.specs.Bytes.{linesOf, sameBytes}
 use Rattle.sheet_format.specs.SheetLines.{NodeLine, SheetLine, declareLine, nodeLine, clauseLine, goalLine}
 use Rattle.sheet_format.specs.Nodes.{Declaration, Node, nodeOf, isSomething}
 use Rattle.sheet_format.specs.Sheets.{Sheet, Form, Read, sheet, refused, refusal, Table, Taken, next, stop, last, isDeclared}
 use Rattle.sheet_format.specs.Sheets.{takeDeclaration, addNode, takeNode, anyFree, addClause, clauseAt, takeClause, lastGoal, goalAt}
-use Rattle.sheet_format.specs.Sheets.{takeLine, atEnd, afterGoal, readFrom, readSheetBy}
+use Rattle.sheet_format.specs.Sheets.{takeLine, atEnd, afterGoal, readFrom, emptyTable, orderLine, readLines, readSheetBy}
 use Rattle.sheet_format.proofs.Options.{OnSome}
 
 -- The table with one more symbol, node or clause.
@@ -130,28 +131,37 @@ module _ (form : Form) (L : SheetLine → Type 0) (I : Table → Type 0) (kept :
   atEnd-reads [] k = tt
   atEnd-reads (c ∷ cs) k = tt
 
-  from-reads : (ls : List (List ℕ)) (r : List ℕ) (k : ℕ) (t : Table) → All (λ l. OnSome L (form .line l)) ls → I t
-      → Reads (readFrom form ls r k t)
+  from-reads : (o : Order) (ls : List (List ℕ)) (r : List ℕ) (k : ℕ) (t : Table) → All (λ l. OnSome L (form .line l)) ls → I t
+      → Reads (readFrom form o ls r k t)
   unfolding readFrom
-  from-reads [] r k t h i = atEnd-reads r k
-  from-reads (l ∷ ls) r k t h i =
+  from-reads o [] r k t h i = atEnd-reads r k
+  from-reads o (l ∷ ls) r k t h i =
       go (takeLine (form .same) t (form .line l)) (line-after (form .same) L I kept t (form .line l) i (h .0))
-      (λ u j. from-reads ls r (suc k) u (h .1) j)
+      (λ u j. from-reads o ls r (suc k) u (h .1) j)
     where
-      go : (x : Taken) → After (form .same) L I kept t x → ((u : Table) → I u → Reads (readFrom form ls r (suc k) u))
+      go : (x : Taken) → After (form .same) L I kept t x → ((u : Table) → I u → Reads (readFrom form o ls r (suc k) u))
           → Reads (elim x [
-            | next u ↦ readFrom form ls r (suc k) u
+            | next u ↦ readFrom form o ls r (suc k) u
             | stop n ↦ refused (refusal n k)
-            | last g ↦ afterGoal ls r (suc k) (record { symbols = t .symbols; clauses = t .clauses; goal = g })
+            | last g ↦ afterGoal ls r (suc k) (record { order = o; symbols = t .symbols; clauses = t .clauses; goal = g })
           ])
       go (next u) a ih = ih u a
       go (stop n) a ih = tt
       go (last g) a ih =
           afterGoal-reads ls r (suc k) _ (record { table = t; holds = i; symbols = refl; clauses = refl; goal = a })
 
+  -- Whichever order the first line gives.
+  lines-read : (ls : List (List ℕ)) (r : List ℕ) → All (λ l. OnSome L (form .line l)) ls → I emptyTable → Reads (readLines form ls r)
+  unfolding readLines
+  lines-read [] r h i = from-reads oldest [] r 1 emptyTable h i
+  lines-read (l ∷ ls) r h i = go (sameBytes l orderLine)
+    where
+      go : (b : Bool) → Reads (cond b (readFrom form latest ls r 2 emptyTable) (readFrom form oldest (l ∷ ls) r 1 emptyTable))
+      go true = from-reads latest ls r 2 emptyTable (h .1) i
+      go false = from-reads oldest (l ∷ ls) r 1 emptyTable h i
+
   -- Of the whole sheet.
   pub sheet-reads : (bytes : List ℕ) (s : Sheet) → All (λ l. OnSome L (form .line l)) (linesOf bytes .whole)
-      → I (record { symbols = []; nodes = []; clauses = [] }) → readSheetBy form bytes ≡ sheet s → ReadWith I s
+      → I emptyTable → readSheetBy form bytes ≡ sheet s → ReadWith I s
   unfolding readSheetBy
-  sheet-reads bytes s h i e =
-      subst Reads e (from-reads (linesOf bytes .whole) (linesOf bytes .rest) 1 (record { symbols = []; nodes = []; clauses = [] }) h i)
+  sheet-reads bytes s h i e = subst Reads e (lines-read (linesOf bytes .whole) (linesOf bytes .rest) h i)

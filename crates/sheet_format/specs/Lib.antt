@@ -7,4 +7,5 @@ pub mod Nodes
 pub mod Sheets
 pub mod FormerNames
 pub mod FormerLines
+pub mod FormerOrder
 pub mod Promises

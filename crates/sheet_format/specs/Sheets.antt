@@ -7,16 +7,22 @@ use mathlib.Core.Option.{Option, none, some}
 use lib.Dec.{ltb}
 use lib.ListN.{length, getElem?}
 use Rattle.formulas.specs.Formulas.{Goal, Clause, freeC}
+use Rattle.formulas.specs.Rules.{Order, oldest, latest, Rules, rules}
 use Rattle.sheet_format.specs.Limits.{variableNames, maxSymbols, maxNodes, maxClauses}
-use Rattle.sheet_format.specs.Bytes.{linesOf, sameName}
+use Rattle.sheet_format.specs.Bytes.{ascii, linesOf, sameBytes, sameName}
 use Rattle.sheet_format.specs.SheetLines.{NodeLine, SheetLine, declareLine, nodeLine, clauseLine, goalLine, parseLine}
 use Rattle.sheet_format.specs.Nodes.{Declaration, Node, nodeOf, isSomething}
 
--- What the engine and the checker work on.
+-- What the engine and the checker work on. The order in which clauses are tried is that of request W-207.
 pub record Sheet : Type 0 where
+  pub order : Order
   pub symbols : List Declaration
   pub clauses : List Clause
   pub goal : Goal
+
+-- The sheet's clauses with the order in force.
+abbrev pub rulesOf : Sheet → Rules Clause
+rulesOf s = rules (s .order) (s .clauses)
 
 -- A refusal: document 01's number, and the line.
 pub record Refusal : Type 0 where
@@ -119,18 +125,31 @@ afterGoal [] [] k s = sheet s
 afterGoal [] (c ∷ cs) k s = refused (refusal 11 k)
 afterGoal (l ∷ ls) r k s = refused (refusal 11 k)
 
--- The lines, the bytes after the last LF, the number of the next line, what there is so far.
-unfoldable pub readFrom : Form → List (List ℕ) → List ℕ → ℕ → Table → Read
-readFrom f [] r k t = atEnd r k
-readFrom f (l ∷ ls) r k t = elim (takeLine (f .same) t (f .line l)) [
-  | next u ↦ readFrom f ls r (suc k) u
+-- The order, the lines, the bytes after the last LF, the number of the next line, what there is so far. No line is an O line here. Request
+-- W-207: "An O line elsewhere, or with another word, is refused under 6, after a Q line under 11."
+unfoldable pub readFrom : Form → Order → List (List ℕ) → List ℕ → ℕ → Table → Read
+readFrom f o [] r k t = atEnd r k
+readFrom f o (l ∷ ls) r k t = elim (takeLine (f .same) t (f .line l)) [
+  | next u ↦ readFrom f o ls r (suc k) u
   | stop n ↦ refused (refusal n k)
-  | last g ↦ afterGoal ls r (suc k) (record { symbols = t .symbols; clauses = t .clauses; goal = g })
+  | last g ↦ afterGoal ls r (suc k) (record { order = o; symbols = t .symbols; clauses = t .clauses; goal = g })
 ]
 
+-- What there is before the first line.
+abbrev pub emptyTable : Table
+emptyTable = record { symbols = []; nodes = []; clauses = [] }
+
+-- Request W-207: "A sheet that relied on the former order says so with a first line `O latest`." The line without its LF.
+abbrev pub orderLine : List ℕ
+orderLine = ascii "O\tlatest"
+
+-- The first line decides on the order; it counts as a line.
+unfoldable pub readLines : Form → List (List ℕ) → List ℕ → Read
+readLines f [] r = readFrom f oldest [] r 1 emptyTable
+readLines f (l ∷ ls) r = cond (sameBytes l orderLine) (readFrom f latest ls r 2 emptyTable) (readFrom f oldest (l ∷ ls) r 1 emptyTable)
+
 unfoldable pub readSheetBy : Form → List ℕ → Read
-readSheetBy f bytes =
-    let l = linesOf bytes in readFrom f (l .whole) (l .rest) 1 (record { symbols = []; nodes = []; clauses = [] })
+readSheetBy f bytes = let l = linesOf bytes in readLines f (l .whole) (l .rest)
 
 -- The form in force.
 unfoldable pub sheetForm : Form

@@ -1,6 +1,8 @@
 // Reading a sheet: its lines are taken one after the other, to the Q line or the first refusal.
+pub mod first_line;
 pub mod sheet_lines;
 
+use first_line::read_order;
 use outcomes::Refusal;
 use outcomes::refusals;
 use sheet_lines::Read;
@@ -40,8 +42,9 @@ pub fn read_sheet(sheet: &[u8], t: &mut [u32]) -> Read
         nodes: 0,
         clauses: 0,
     };
-    let mut at: usize = 0;
-    let mut line: u32 = 1;
+    let start = read_order(sheet, t);
+    let mut at = start.at;
+    let mut line = start.line;
     while at < sheet.len() {
         let end = line_end(sheet, at);
         if end == sheet.len() {

@@ -2,3 +2,5 @@
 pub mod Nodes
 -- Symbols: declaring them, and applying them.
 pub mod Symbols
+-- The order in force.
+pub mod Orders

@@ -4,4 +4,5 @@ mod arguments;
 pub mod node_info;
 pub mod node_lines;
 mod nodes;
+pub mod orders;
 pub mod symbols;

@@ -232,7 +232,7 @@ module _ (bytes t : List ℕ) (k : Counts) (st : Decodes bytes t k) (h : k .node
             nodes = tableOf bytes t k .nodes ++ (node ∷ []);
             clauses = tableOf bytes t k .clauses;
           })) (stop 9))
-      go true f = rw (is, f) (record { agrees = refl; long = refl; rest = refl })
+      go true f = rw (is, f) (record { agrees = refl; long = refl; rest = refl; order = refl })
       go false f =
           let rest = rest-node t n r h in
           rw (is, f) (record {
@@ -247,4 +247,5 @@ module _ (bytes t : List ℕ) (k : Counts) (st : Decodes bytes t k) (h : k .node
             );
             long = rest .0;
             rest = rest .1;
+            order = rest .2;
           })

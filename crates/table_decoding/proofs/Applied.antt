@@ -215,7 +215,7 @@ module _ (bytes t : List ℕ) (k : Counts) (st : Decodes bytes t k) (h : k .node
   nothing : (r : NodeRecord) (node : Node) → r .info ≡ 0 → isSomething node ≡ false
       → Follows bytes t k (addNode t k r) (sheetAddNode (tableOf bytes t k) (some node))
   unfolding addNode sheetAddNode Agrees
-  nothing r node e s = rw (e, s) (record { agrees = refl; long = refl; rest = refl })
+  nothing r node e s = rw (e, s) (record { agrees = refl; long = refl; rest = refl; order = refl })
 
   abbrev declared : Declaration
   declared = declarationAt bytes t f

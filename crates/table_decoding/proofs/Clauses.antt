@@ -132,8 +132,8 @@ module _ (bytes t : List ℕ) (k : Counts) (st : Decodes bytes t k) (n : ℕ) wh
           })))
       free l i h true =
           let rest = rest-clause t (k .clauses) n h in
-          record { agrees = (ap next (sym (table-clause l i h)), stands-clause l i h); long = rest .0; rest = rest .1 }
-      free l i h false = record { agrees = refl; long = refl; rest = refl }
+          record { agrees = (ap next (sym (table-clause l i h)), stands-clause l i h); long = rest .0; rest = rest .1; order = rest .2 }
+      free l i h false = record { agrees = refl; long = refl; rest = refl; order = refl }
 
       clause : n < k .nodes → k .clauses < 128 → (x : Bool) → eqb (membersOf t n) 0 ≡ x
           → Follows bytes t k
@@ -143,7 +143,7 @@ module _ (bytes t : List ℕ) (k : Counts) (st : Decodes bytes t k) (n : ℕ) wh
           (addClause (tableOf bytes t k) (cond (leb 1 (membersOf t n)) (some (clauseAtNode t n)) none))
       clause l h true e =
           let z = eqb-true (membersOf t n) 0 e in rw (lt-leb 1 (membersOf t n) (omega arith))
-          (record { agrees = refl; long = refl; rest = refl })
+          (record { agrees = refl; long = refl; rest = refl; order = refl })
       clause l h false e =
           let z = eqb-false (membersOf t n) 0 e in
           let i : 1 ≤ membersOf t n = omega arith in
@@ -155,7 +155,8 @@ module _ (bytes t : List ℕ) (k : Counts) (st : Decodes bytes t k) (n : ℕ) wh
           (cond (eqb (maskOf t n) 0) (made (set t (clauseAt (k .clauses)) n) (Next (counts (k .symbols) (k .nodes) (k .clauses + 1))))
           (made t (Stop 10)))))
           (sheetClauseAt (tableOf bytes t k) (getElem? (tableOf bytes t k .nodes) n))
-      there h true e = rw (node-missing bytes t k st n (leb-true (k .nodes) n e)) (record { agrees = refl; long = refl; rest = refl })
+      there h true e =
+          rw (node-missing bytes t k st n (leb-true (k .nodes) n e)) (record { agrees = refl; long = refl; rest = refl; order = refl })
       there h false e = let l = leb-false (k .nodes) n e in rw (node-there bytes t k st n l) (clause l h (eqb (membersOf t n) 0) refl)
 
       room : (x : Bool) → leb 128 (k .clauses) ≡ x
@@ -166,7 +167,8 @@ module _ (bytes t : List ℕ) (k : Counts) (st : Decodes bytes t k) (n : ℕ) wh
           (made t (Stop 10))))))
           (cond (not (ltb (k .clauses) 128)) (stop 7) (sheetClauseAt (tableOf bytes t k) (getElem? (tableOf bytes t k .nodes) n)))
       room true e =
-          let p = leb-true 128 (k .clauses) e in rw (le-ltb (k .clauses) 128 p) (record { agrees = refl; long = refl; rest = refl })
+          let p = leb-true 128 (k .clauses) e in
+          rw (le-ltb (k .clauses) 128 p) (record { agrees = refl; long = refl; rest = refl; order = refl })
       room false e = let p = leb-false 128 (k .clauses) e in rw (lt-ltb (k .clauses) 128 p) (there p (leb (k .nodes) n) refl)
 
   pub goal-follows : Follows bytes t k (made t (checkGoal t k n)) (sheetGoalAt (getElem? (tableOf bytes t k .nodes) n))
@@ -175,11 +177,12 @@ module _ (bytes t : List ℕ) (k : Counts) (st : Decodes bytes t k) (n : ℕ) wh
     where
       goal : n < k .nodes → (x : Bool) → eqb (goalBit t n) 1 ≡ x
           → Follows bytes t k (made t (cond x (Last n) (Stop 9))) (lastGoal (cond x (some (goalAt t n)) none))
-      goal l true e = record { agrees = (refl, l, eqb-true (goalBit t n) 1 e); long = refl; rest = refl }
-      goal l false e = record { agrees = refl; long = refl; rest = refl }
+      goal l true e = record { agrees = (refl, l, eqb-true (goalBit t n) 1 e); long = refl; rest = refl; order = refl }
+      goal l false e = record { agrees = refl; long = refl; rest = refl; order = refl }
 
       there : (x : Bool) → leb (k .nodes) n ≡ x
           → Follows bytes t k (made t (cond x (Stop 8) (cond (eqb (goalBit t n) 1) (Last n) (Stop 9))))
           (sheetGoalAt (getElem? (tableOf bytes t k .nodes) n))
-      there true e = rw (node-missing bytes t k st n (leb-true (k .nodes) n e)) (record { agrees = refl; long = refl; rest = refl })
+      there true e =
+          rw (node-missing bytes t k st n (leb-true (k .nodes) n e)) (record { agrees = refl; long = refl; rest = refl; order = refl })
       there false e = let l = leb-false (k .nodes) n e in rw (node-there bytes t k st n l) (goal l (eqb (goalBit t n) 1) refl)

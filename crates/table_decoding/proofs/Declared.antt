@@ -201,10 +201,10 @@ module _ (bytes t : List ℕ) (k : Counts) (st : Decodes bytes t k) (function : 
             nodes = tableOf bytes t k .nodes;
             clauses = tableOf bytes t k .clauses;
           })))
-      name true l = record { agrees = refl; long = refl; rest = refl }
+      name true l = record { agrees = refl; long = refl; rest = refl; order = refl }
       name false l =
           let rest = rest-symbol t i start len (symbolWord function arity) l in
-          record { agrees = (ap next (sym (table-symbol l)), stands-symbol l); long = rest .0; rest = rest .1 }
+          record { agrees = (ap next (sym (table-symbol l)), stands-symbol l); long = rest .0; rest = rest .1; order = rest .2 }
 
       room : (x : Bool) → leb 256 i ≡ x
           → Follows bytes t k
@@ -216,5 +216,5 @@ module _ (bytes t : List ℕ) (k : Counts) (st : Decodes bytes t k) (function : 
             nodes = tableOf bytes t k .nodes;
             clauses = tableOf bytes t k .clauses;
           }))))
-      room true e = let p = leb-true 256 i e in rw (le-ltb i 256 p) (record { agrees = refl; long = refl; rest = refl })
+      room true e = let p = leb-true 256 i e in rw (le-ltb i 256 p) (record { agrees = refl; long = refl; rest = refl; order = refl })
       room false e = let p = leb-false 256 i e in rw (lt-ltb i 256 p) (name (findName bytes t i (take len (drop start bytes))) p)

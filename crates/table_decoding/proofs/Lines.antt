@@ -40,7 +40,7 @@ module _ (bytes t : List ℕ) (k : Counts) (st : Decodes bytes t k) where
 
   refused : (n : ℕ) → Follows bytes t k (made t (Stop n)) (stop n)
   unfolding Agrees
-  refused n = record { agrees = refl; long = refl; rest = refl }
+  refused n = record { agrees = refl; long = refl; rest = refl; order = refl }
 
   -- The nodes are as many as are counted, so that refusal 7 agrees.
   nodes-length : length (table .nodes) ≡ k .nodes

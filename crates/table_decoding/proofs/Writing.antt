@@ -6,7 +6,7 @@ use mathlib.Core.List.{List}
 use lib.ListN.{length, getD, set, drop, length-set}
 use lib.Seq.{getD-set-same, getD-set-other, drop-set-lt}
 use Rattle.node_table.specs.Layout.{symbolAt, nodeAt, clauseAt, kindOf, childCount, labelOf, childOf, infoOf, maskOf, goalBit, membersOf}
-use Rattle.node_table.specs.Layout.{sizeOf, packInfo, nameStart, nameLength, isFunctionBit, arityOf, clauseNode}
+use Rattle.node_table.specs.Layout.{sizeOf, packInfo, nameStart, nameLength, isFunctionBit, arityOf, clauseNode, orderAt, orderNumber}
 use Rattle.node_table.proofs.Same.{Same}
 use Rattle.table_builder.specs.declared.node_info.NodeRecord.{NodeRecord}
 use Rattle.table_builder.specs.Nodes.{nodeRecord, nodeWritten}
@@ -14,16 +14,22 @@ use Rattle.table_builder.specs.Symbols.{symbolWritten}
 
 -- one write
 
+-- The length, the numbers from 8,192 on and the number of the order in force stay.
 unfoldable pub Rest : List ℕ → List ℕ → Type 0
-Rest t u = (length u ≡ length t) × (drop 8192 u ≡ drop 8192 t)
+Rest t u = (length u ≡ length t) × (drop 8192 u ≡ drop 8192 t) × (orderNumber u ≡ orderNumber t)
 
 pub rest-refl : (t : List ℕ) → Rest t t
 unfolding Rest
-rest-refl t = (refl, refl)
+rest-refl t = (refl, refl, refl)
 
-rest-set : (t u : List ℕ) (i x : ℕ) → i < 8192 → Rest t u → Rest t (set u i x)
-unfolding Rest
-rest-set t u i x h r = (length-set u i x ∙ r .0, drop-set-lt 8192 u i x h ∙ r .1)
+-- Symbols, nodes and clauses are all below the order.
+rest-set : (t u : List ℕ) (i x : ℕ) → i < orderAt → Rest t u → Rest t (set u i x)
+unfolding Rest orderNumber
+rest-set t u i x h r = (
+  length-set u i x ∙ r .0,
+  drop-set-lt 8192 u i x (omega arith) ∙ r .1,
+  getD-set-other u i orderAt x 0 (λ e. omega arith) ∙ r .2,
+)
 
 -- nodes
 

@@ -12,7 +12,7 @@ use Rattle.sheet_format.specs.Sheets.{Table, next, stop, last}
 use Rattle.sheet_format.specs.Sheets.{Taken as SheetTaken}
 use Rattle.sheet_format.specs.Limits.{maxNodes, tableNumbers, maxSymbols, maxClauses}
 use Rattle.node_table.specs.Layout.{kindOf, goalBit, membersOf, sizeOf, nameStart, nameLength, clauseNode, applicationKind}
-use Rattle.node_table.specs.Layout.{atomKind}
+use Rattle.node_table.specs.Layout.{atomKind, orderNumber}
 use Rattle.node_table.specs.Decoding.{termAt, goalAt, clauseAtNode, declarationsFrom, clausesFrom}
 use Rattle.node_table.specs.WellMade.{IsTerm, IsGoal, IsClause, Labelled, TermNode, GoalNode, ClauseNode}
 use Rattle.table_builder.specs.declared.node_info.Counts.{Counts}
@@ -58,8 +58,9 @@ Agrees bytes t k (Next j) s = (s ≡ next (tableOf bytes t j)) × Decodes bytes 
 Agrees bytes t k (Stop n) s = s ≡ stop n
 Agrees bytes t k (Last n) s = (s ≡ last (goalAt t n)) × (n < k .nodes) × IsGoal t n
 
--- The same, and from 8,192 on the table is as it was.
+-- The same, and from 8,192 on the table is as it was. So is the number of the order in force (request W-207).
 pub record Follows (bytes t : List ℕ) (k : Counts) (m : Made) (s : SheetTaken) : Type 0 where
   pub agrees : Agrees bytes (m .table) k (m .answer) s
   pub long : length (m .table) ≡ length t
   pub rest : drop tableNumbers (m .table) ≡ drop tableNumbers t
+  pub order : orderNumber (m .table) ≡ orderNumber t

@@ -49,8 +49,8 @@ pub fn connective_line(
     line: Line,
 ) -> Registers
     requires { ⌜ (length (now text) ≤ 65535) × (line .number + 1 < 4294967296) × (line .at + 7 < 4294967296) × (line .end < 4294967296) ⌝ }
-    ensures { λ s. ⌜ made (now (w .exit)) s ≡ connectiveLine (now (sheet .entry)) (now (t .entry)) (shape .symbols) (now (text .entry))
-        (now (w .entry)) r (line .number) (line .at) (line .end) ⌝ }
+    ensures { λ s. ⌜ made (now (w .exit)) s ≡ connectiveLine (now (sheet .entry)) (now (t .entry)) (shape .symbols) (shape .clauses)
+        (now (text .entry)) (now (w .entry)) r (line .number) (line .at) (line .end) ⌝ }
 {
     let sort = kind(t, r.node);
     if sort == kinds::AND {
@@ -60,7 +60,7 @@ pub fn connective_line(
         return or_line(t, text, r, line);
     }
     if sort == kinds::IMPLIES {
-        return assume_line(t, text, w, r, line);
+        return assume_line(t, shape.clauses, text, w, r, line);
     }
     quantifier_line(sheet, t, shape, text, w, r, line)
 }

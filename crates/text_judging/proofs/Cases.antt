@@ -5,7 +5,8 @@ use mathlib.Core.Path.{_≡_, refl}
 use mathlib.Core.Bool.{true, false}
 use mathlib.Core.List.{List, [], _∷_}
 use Rattle.terms.specs.Terms.{numberTerm, sheetSymbol, leaf, app, nil, cons}
-use Rattle.formulas.specs.Formulas.{atom, exists, forall, fact, rule, each}
+use Rattle.formulas.specs.Formulas.{atom, implies, exists, forall, fact, rule, each}
+use Rattle.formulas.specs.Rules.{Order, oldest, latest}
 use Rattle.sequents.specs.Symbols.{made, leftover}
 use Rattle.sequents.specs.Sequents.{Dsome, Dall}
 use Rattle.sheet_format.specs.Bytes.{ascii}
@@ -48,6 +49,7 @@ numerals = refl
 -- The sheet has the clause every z p(z,z) and the goal every b some a p(a,b).
 abbrev sheet : Sheet
 sheet = record {
+  order = oldest;
   symbols = symbols;
   clauses = each 7 (fact 0 (cons (leaf 7) (cons (leaf 7) nil))) ∷ [];
   goal = forall 1 (exists 0 (atom 0 (cons (leaf 0) (cons (leaf 1) nil))));
@@ -133,6 +135,7 @@ units-50001 = refl
 -- The clauses are every z (q(z) implies p) and q(a); a prefix term that only the body uses is needed too.
 abbrev inBody : Sheet
 inBody = record {
+  order = oldest;
   symbols = record { function = false; name = ascii "p"; arity = 0 } ∷ record { function = false; name = ascii "q"; arity = 1 }
       ∷ record { function = true; name = ascii "a"; arity = 0 } ∷ [];
   clauses = each 7 (rule (atom 1 (cons (leaf 7) nil)) 0 nil) ∷ fact 1 (cons (app (sheetSymbol 2) nil) nil) ∷ [];
@@ -154,6 +157,7 @@ no-body-term = refl
 -- Request W-201: a name may stand in either case, each time in its own. Letters and words of lines are exact, and `_` is not folded.
 abbrev capitals : Sheet
 capitals = record {
+  order = oldest;
   symbols = record { function = false; name = ascii "Lamp"; arity = 1 } ∷ record { function = true; name = ascii "Strobe_1"; arity = 0 } ∷ [];
   clauses = each 7 (fact 0 (cons (leaf 7) nil)) ∷ [];
   goal = atom 0 (cons (leaf 3) nil);
@@ -186,6 +190,7 @@ case-of-letter = refl
 -- Request W-204: any number may stand for a variable, on the sheet or not, in the form of numbers and without arguments.
 abbrev anything : Sheet
 anything = record {
+  order = oldest;
   symbols = record { function = false; name = ascii "p"; arity = 1 } ∷ record { function = true; name = ascii "f"; arity = 1 } ∷ [];
   clauses = each 7 (fact 0 (cons (leaf 7) nil)) ∷ [];
   goal = exists 0 (atom 0 (cons (leaf 0) nil));
@@ -227,3 +232,32 @@ letters-after = refl
 number-for-all : says "R\tproved\t8\nD\tall\t5\nD\tsome\t5\nD\tclause\t1\t5\n" ≡ invalid 2
 unfolding says
 number-for-all = refl
+
+-- Request W-207: p implies q, with the clause q of the sheet. The place of the clause follows the order in force.
+abbrev supposing : Order → Sheet
+supposing o = record {
+  order = o;
+  symbols = record { function = false; name = ascii "p"; arity = 0 } ∷ record { function = false; name = ascii "q"; arity = 0 } ∷ [];
+  clauses = fact 1 nil ∷ [];
+  goal = implies (fact 0 nil) (atom 1 nil);
+}
+
+unfoldable judged : Order → String → Judgement
+unfolding computeJudgement ascii
+judged o t = computeJudgement (supposing o) (ascii t)
+
+sheet-first : judged oldest "R\tproved\t3\nD\tassume\nD\tclause\t1\n" ≡ valid
+unfolding judged
+sheet-first = refl
+
+sheet-not-second : judged oldest "R\tproved\t3\nD\tassume\nD\tclause\t2\n" ≡ invalid 3
+unfolding judged
+sheet-not-second = refl
+
+assumption-first : judged latest "R\tproved\t4\nD\tassume\nD\tclause\t2\n" ≡ valid
+unfolding judged
+assumption-first = refl
+
+sheet-not-first : judged latest "R\tproved\t4\nD\tassume\nD\tclause\t1\n" ≡ invalid 3
+unfolding judged
+sheet-not-first = refl

@@ -5,8 +5,9 @@ use Rattle.terms.specs.Lists.{update, elem}
 use Rattle.terms.specs.Terms.{sameFunctor, substitute, levelBy}
 use Rattle.formulas.specs.Formulas.{freeT, freeG, freeB, freeFrom, freeVariables}
 use Rattle.formulas.specs.Members.{members, quantify, standsFree}
+use Rattle.formulas.specs.Rules.{joined}
 use Rattle.sequents.specs.Symbols.{level, symbolLevel}
-use Rattle.sequents.specs.Sequents.{entries, assign, bodySequent}
+use Rattle.sequents.specs.Sequents.{entriesOf, assign, bodySequent}
 use Rattle.sequents.specs.Derivations.{instanceOf, sheetProgram}
 use Rattle.sheet_format.specs.Bytes.{ascii, extendLine, linesOf, extendField, fields, isDigit, isSmall, isCapital, isLetter, isNameByte}
 use Rattle.sheet_format.specs.Bytes.{digitsFrom, atMost, number, sameBytes, folded}
@@ -33,7 +34,7 @@ unfolding judge smallSheet smallDeclaration smallText smallFrom folded judgeExac
     readSymbol readLevel
     withLevel span blank boundStage sameSymbol symbolsOf symbolsIn termsOf lineTerms ascii extendLine linesOf extendField fields isDigit
     isSmall isCapital isLetter isNameByte digitsFrom
-    atMost number sameBytes instanceOf sheetProgram entries assign bodySequent members quantify standsFree freeT freeG freeB freeFrom
-    freeVariables elem update
+    atMost number sameBytes instanceOf sheetProgram joined entriesOf assign bodySequent members quantify standsFree freeT freeG freeB
+    freeFrom freeVariables elem update
     substitute level levelBy symbolLevel
 computeJudgement s t = judge s t

@@ -13,6 +13,7 @@ use Rattle.terms.specs.Lists.{All, Mem, here, there, place, update}
 use Rattle.terms.specs.Terms.{sameFunctor, leaf, app, Terms, nil, cons, substitutes}
 use Rattle.terms.proofs.Terms.{functor-same, same-functor}
 use Rattle.formulas.specs.Formulas.{Goal, atom, truth, and, or, implies, exists, forall}
+use Rattle.formulas.specs.Rules.{assume}
 use Rattle.formulas.proofs.Free.{and-parts}
 use Rattle.sequents.specs.Symbols.{Symbol, made, leftover, Ground, level}
 use Rattle.sequents.specs.Sequents.{Environment, Program, hypothesis, Entry, entries, Sequent, sequent, assign, bodySequent, Word, Dtrue}
@@ -235,7 +236,7 @@ infer-sound x (or a b) e P i new K h c = go (isPlain Dleft x) refl h
         → Infers x (or a b) e P i K
     go true q k = inl (isPlain-true Dleft x q, subst K (sym (cc)) c)
     go false q k = inr (plain-sound Dright x (sequent b e P i ∷ []) new K k c)
-infer-sound x (implies d g) e P i new K h c = plain-sound Dassume x (sequent g e (hypothesis d e ∷ P) i ∷ []) new K h c
+infer-sound x (implies d g) e P i new K h c = plain-sound Dassume x (sequent g e (assume (hypothesis d e) P) i ∷ []) new K h c
 infer-sound x (exists v g) e P i new K h c = some-sound x i (λ t. sequent g (update e v t) P i ∷ []) new K h c
 infer-sound x (forall v g) e P i new K h c = all-sound x i (λ t. sequent g (update e v t) P (suc i) ∷ []) new K h c
 
@@ -275,7 +276,7 @@ infer-complete x (and a b) e P i K u =
 infer-complete x (or a b) e P i K (inl u) = (sequent a e P i ∷ [], ap (λ (y : Line Symbol). infer y (or a b) e P i) (u .0), u .1)
 infer-complete x (or a b) e P i K (inr u) = (sequent b e P i ∷ [], ap (λ (y : Line Symbol). infer y (or a b) e P i) (u .0), u .1)
 infer-complete x (implies c g) e P i K u =
-    (sequent g e (hypothesis c e ∷ P) i ∷ [], ap (λ (y : Line Symbol). infer y (implies c g) e P i) (u .0), u .1)
+    (sequent g e (assume (hypothesis c e) P) i ∷ [], ap (λ (y : Line Symbol). infer y (implies c g) e P i) (u .0), u .1)
 infer-complete x (exists v g) e P i K u = (
   sequent g (update e v (u .0)) P i ∷ [],
   ap (λ (y : Line Symbol). infer y (exists v g) e P i) (u .1)

@@ -10,9 +10,10 @@ use borrow.Author.Tests.{eqb-true, eqb-false, eq-eqb, leb-true, le-leb}
 use Rattle.terms.specs.Lists.{All, Mem, here, there, update}
 use Rattle.terms.proofs.Lists.{all-mem, all-weaken, map-append, map-map, update-same, update-other}
 use Rattle.formulas.specs.Formulas.{Goal, Clause, freeG, freeFrom, freeVariables}
+use Rattle.formulas.specs.Rules.{Rules, rules}
 use Rattle.formulas.proofs.Free.{and-parts}
 use Rattle.sequents.specs.Symbols.{Symbol, Ground, level}
-use Rattle.sequents.specs.Sequents.{Environment, Program, hypothesis, Sequent, Line, putEnvironment, putHypothesis}
+use Rattle.sequents.specs.Sequents.{Environment, Hypothesis, hypothesis, Sequent, Line, putEnvironment, putHypothesis}
 use Rattle.sequents.specs.Derivations.{Derivation, Derivable, lines, sheetProgram, instanceOf, InstanceDerivation}
 use Rattle.sequents.specs.Lines.{Leads, Derives}
 use Rattle.sequents.specs.Renamings.{Renaming, renamed, renameLine}
@@ -21,7 +22,7 @@ use Rattle.sequents.proofs.Renamings.{rename-level}
 use Rattle.sequents.proofs.Promises.{trees, renamable, locality}
 use Rattle.sequents.proofs.Lines.{infers-weaken}
 use Rattle.sheet_format.specs.Limits.{variableNames, maxBudget}
-use Rattle.sheet_format.specs.Sheets.{Sheet}
+use Rattle.sheet_format.specs.Sheets.{Sheet, rulesOf}
 use Rattle.answer_texts.specs.TextLines.{TextLine, resultLine, bindingLine, derivationLine, answerLines, renameTextLine}
 use Rattle.answer_texts.specs.Spelled.{Stage, opening, bindings, sequents, boundStage, blank, Allowed, Proceeds}
 use Rattle.text_judging.specs.Judging.{infer, allow}
@@ -138,14 +139,14 @@ record Bound (s : Sheet) (vs : List ℕ) (k : ℕ) (f : Environment Symbol) (xs 
   textLines : xs ≡ map (λ v. bindingLine v (environment v)) vs ++ map derivationLine derivation
   low : All (λ v. level (environment v) ≤ 0) vs
   below : (w : ℕ) → w < k → environment w ≡ f w
-  derives : Derives derivation (instanceOf (s .clauses) (s .goal) environment ∷ [])
+  derives : Derives derivation (instanceOf (rulesOf s) (s .goal) environment ∷ [])
 
 -- Where B lines are due, only these and then D lines proceed to the end.
 proceeds-bindings : (s : Sheet) (vs : List ℕ) (k : ℕ) (f : Environment Symbol) (xs : List TextLine) → Ascending k vs
     → Proceeds s xs (boundStage s vs f) (sequents []) → Bound s vs k f xs
 unfolding Proceeds Allowed boundStage Ascending
 proceeds-bindings s [] k f xs a h =
-    let r = proceeds-derives s xs (instanceOf (s .clauses) (s .goal) f ∷ []) h in
+    let r = proceeds-derives s xs (instanceOf (rulesOf s) (s .goal) f ∷ []) h in
     record { environment = f; derivation = r .0; textLines = r .1; low = tt; below = λ w l. refl; derives = r .2 }
 proceeds-bindings s (v ∷ vs) k f [] a h = absurd (let z : _≡_ {A = ℕ} 0 1 = cc in omega arith)
 proceeds-bindings s (v ∷ vs) k f (resultLine n ∷ xs) a h = absurd h
@@ -233,12 +234,13 @@ answer-rename r n vs e ls =
     ∙ sym (map-map (renameLine r) derivationLine ls)))
 
 -- The renamed lines of a derivation of an instance are those of a derivation of the renamed instance.
-instance-rename : (cs : List Clause) (g : Goal) (r : Renaming) (e : Environment Symbol) (d : Derivable (instanceOf cs g e))
+instance-rename : (cs : Rules Clause) (g : Goal) (r : Renaming) (e : Environment Symbol) (d : Derivable (instanceOf cs g e))
     → (d′ : Derivable (instanceOf cs g (putEnvironment (renamed r) e))) × (lines d′ ≡ map (renameLine r) (lines d))
 unfolding instanceOf sheetProgram
 instance-rename cs g r e d =
-    subst (λ (P : Program Symbol). (d′ : Derivation P g (putEnvironment (renamed r) e) 0) × (lines d′ ≡ map (renameLine r) (lines d)))
-    (map-map (λ c. hypothesis c e) (putHypothesis (renamed r)) cs) (renamable r .tree (sheetProgram cs e) g e 0 d)
+    subst (λ (P : List (Hypothesis Symbol)). (d′ : Derivation (rules (cs .order) P) g (putEnvironment (renamed r) e) 0)
+    × (lines d′ ≡ map (renameLine r) (lines d)))
+    (map-map (λ c. hypothesis c e) (putHypothesis (renamed r)) (cs .clauses)) (renamable r .tree (sheetProgram cs e) g e 0 d)
 
 -- whole texts
 
@@ -248,7 +250,7 @@ pub record InstanceLines (s : Sheet) (xs : List TextLine) : Type 0 where
   pub least : 1 ≤ units
   pub most : units ≤ maxBudget
   pub environment : Environment Symbol
-  pub proof : InstanceDerivation (s .clauses) (s .goal) environment
+  pub proof : InstanceDerivation (rulesOf s) (s .goal) environment
   pub textLines : xs ≡ answerLines units (freeVariables (s .goal)) environment (lines (proof .derivation))
 
 module _ (s : Sheet) (closed : All Closed (s .clauses)) (small : (v : ℕ) → freeG (s .goal) v ≡ true → v < variableNames) where
@@ -264,7 +266,7 @@ module _ (s : Sheet) (closed : All Closed (s .clauses)) (small : (v : ℕ) → f
   proceeds-instance (resultLine n ∷ xs) h =
       let vs = freeVariables (s .goal) in
       let b = proceeds-bindings s vs 0 blank xs (free-ascending 8 0 (s .goal)) (h .2) in
-      let d = trees (instanceOf (s .clauses) (s .goal) (b .environment)) .lines-tree (b .derivation) (b .derives) in
+      let d = trees (instanceOf (rulesOf s) (s .goal) (b .environment)) .lines-tree (b .derivation) (b .derives) in
       record {
         units = n;
         least = h .0;
@@ -278,20 +280,20 @@ module _ (s : Sheet) (closed : All Closed (s .clauses)) (small : (v : ℕ) → f
   proceeds-instance (derivationLine x ∷ xs) h = absurd h
 
   -- The renamed lines of a derivation derive the instance that the renamed B lines name.
-  renamed-derives : (r : Renaming) (e : Environment Symbol) (d : Derivable (instanceOf (s .clauses) (s .goal) e))
+  renamed-derives : (r : Renaming) (e : Environment Symbol) (d : Derivable (instanceOf (rulesOf s) (s .goal) e))
       → Derives (map (renameLine r) (lines d))
-      (instanceOf (s .clauses) (s .goal) (bound (freeVariables (s .goal)) (putEnvironment (renamed r) e) blank) ∷ [])
+      (instanceOf (rulesOf s) (s .goal) (bound (freeVariables (s .goal)) (putEnvironment (renamed r) e) blank) ∷ [])
   renamed-derives r e d =
       let vs = freeVariables (s .goal) in
       let e′ = putEnvironment (renamed r) e in
-      let g = instanceOf (s .clauses) (s .goal) (bound vs e′ blank) in
-      let a = instance-rename (s .clauses) (s .goal) r e d in
-      let b = locality (s .clauses) (s .goal) closed .tree e′ (bound vs e′ blank) (λ v f. sym (bound-agree vs e′ blank v (free-due v f)))
+      let g = instanceOf (rulesOf s) (s .goal) (bound vs e′ blank) in
+      let a = instance-rename (rulesOf s) (s .goal) r e d in
+      let b = locality (rulesOf s) (s .goal) closed .tree e′ (bound vs e′ blank) (λ v f. sym (bound-agree vs e′ blank v (free-due v f)))
       (a .0) in
       subst (λ (ls : List (Line Symbol)). Derives ls (g ∷ [])) (b .1 ∙ a .1) (trees g .tree-lines (b .0))
 
   -- The renamed terms of the goal's free variables have level 0.
-  renamed-low : (r : Renaming) (e : Environment Symbol) → InstanceDerivation (s .clauses) (s .goal) e
+  renamed-low : (r : Renaming) (e : Environment Symbol) → InstanceDerivation (rulesOf s) (s .goal) e
       → All (λ v. level (putEnvironment (renamed r) e v) ≤ 0) (freeVariables (s .goal))
   unfolding freeVariables
   renamed-low r e d =
@@ -307,7 +309,7 @@ module _ (s : Sheet) (closed : All Closed (s .clauses)) (small : (v : ℕ) → f
       let vs = freeVariables (s .goal) in
       let e = putEnvironment (renamed r) (h .environment) in
       let ls = map (renameLine r) (lines (h .proof .derivation)) in
-      let derives = leads-proceeds s ls (instanceOf (s .clauses) (s .goal) (bound vs e blank) ∷ []) []
+      let derives = leads-proceeds s ls (instanceOf (rulesOf s) (s .goal) (bound vs e blank) ∷ []) []
       (renamed-derives r (h .environment) (h .proof .derivation)) in
       subst (λ (ys : List TextLine). Proceeds s ys opening (sequents []))
       (sym (ap (map (renameTextLine r)) (h .textLines) ∙ answer-rename r (h .units) vs (h .environment) (lines (h .proof .derivation)))) (

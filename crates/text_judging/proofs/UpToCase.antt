@@ -11,7 +11,7 @@ use Rattle.sequents.specs.Derivations.{lines}
 use Rattle.sequents.specs.Promises.{Closed}
 use Rattle.sequents.proofs.Lines.{infers-weaken}
 use Rattle.sheet_format.specs.Limits.{variableNames}
-use Rattle.sheet_format.specs.Sheets.{Sheet}
+use Rattle.sheet_format.specs.Sheets.{Sheet, rulesOf}
 use Rattle.sheet_format.proofs.Names.{Names}
 use Rattle.answer_texts.specs.TextLines.{TextLine, resultLine, bindingLine, derivationLine, answerLines}
 use Rattle.answer_texts.specs.Numbering.{numbered}
@@ -28,8 +28,8 @@ use Rattle.text_judging.proofs.Exact.{valid-spells, spells-valid, named
 
 -- stages
 
--- Stages depend on the clauses and the goal alone, so lines proceed alike over two sheets that share them.
-module _ (s z : Sheet) (clauses : s .clauses ≡ z .clauses) (goal : s .goal ≡ z .goal) where
+-- Stages depend on the clauses, their order and the goal alone, so lines proceed alike over two sheets that share them.
+module _ (s z : Sheet) (clauses : rulesOf s ≡ rulesOf z) (goal : s .goal ≡ z .goal) where
   bound-alike : (vs : List ℕ) (e : Environment Symbol) → boundStage s vs e ≡ boundStage z vs e
   unfolding boundStage
   bound-alike [] e = rw (clauses, goal) refl

@@ -10,6 +10,7 @@ use lib.ListN.{length, getElem?, getD}
 use Rattle.terms.specs.Lists.{update}
 use Rattle.terms.specs.Terms.{sameFunctor, leaf, app, Terms, nil, cons, substitutes}
 use Rattle.formulas.specs.Formulas.{Goal, atom, truth, and, or, implies, exists, forall, freeVariables}
+use Rattle.formulas.specs.Rules.{assume}
 use Rattle.sequents.specs.Symbols.{Symbol, made, leftover, Ground, level}
 use Rattle.sequents.specs.Sequents.{Environment, Program, hypothesis, Entry, entries, Sequent, sequent, assign, bodySequent, Word, Dtrue}
 use Rattle.sequents.specs.Sequents.{Dand, Dleft, Dright, Dassume, Line, plain, Dsome, Dall, Dclause}
@@ -116,7 +117,7 @@ infer x (atom p us) e P i = inferClause x p (substitutes us e) P i
 infer x truth e P i = cond (isPlain Dtrue x) (some []) none
 infer x (and a b) e P i = cond (isPlain Dand x) (some (sequent a e P i ∷ sequent b e P i ∷ [])) none
 infer x (or a b) e P i = cond (isPlain Dleft x) (some (sequent a e P i ∷ [])) (cond (isPlain Dright x) (some (sequent b e P i ∷ [])) none)
-infer x (implies c g) e P i = cond (isPlain Dassume x) (some (sequent g e (hypothesis c e ∷ P) i ∷ [])) none
+infer x (implies c g) e P i = cond (isPlain Dassume x) (some (sequent g e (assume (hypothesis c e) P) i ∷ [])) none
 infer x (exists v g) e P i = inferSome x i (λ t. sequent g (update e v t) P i ∷ [])
 infer x (forall v g) e P i = inferAll x i (λ t. sequent g (update e v t) P (suc i) ∷ [])
 

@@ -3,6 +3,7 @@
 pub mod compare;
 pub mod fuzz;
 pub mod guard;
+pub mod measure;
 pub mod options;
 pub mod sheets;
 pub mod tally;

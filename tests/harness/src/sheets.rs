@@ -258,6 +258,32 @@ fn nested_suppositions(depth: usize) -> Vec<u8> {
     b.goal(goal)
 }
 
+/// p(s(n)) if (q implies (q implies ... p(n))), with so many suppositions, and p(z) if (r implies r). The goal is p of so
+/// many s, so that at the end r is looked for past all of them, oldest first; or, if it is not supposed, in vain, and p
+/// after it.
+pub fn suppositions_gone_through(uses: usize, suppositions: usize, supposed: bool) -> Vec<u8> {
+    let mut b = Builder::new(true);
+    let (zero, s) = (b.function("z", 0), b.function("s", 1));
+    let (p, q, r) = (b.predicate("p", 1), b.predicate("q", 0), b.predicate("r", 0));
+    let (n, q, r) = (b.variable(0), b.apply(q, &[]), b.apply(r, &[]));
+    let mut body = b.apply(p, &[n]);
+    for _ in 0..suppositions {
+        body = b.implies(q, body);
+    }
+    let next = b.apply(s, &[n]);
+    let head = b.apply(p, &[next]);
+    let rule = b.implies(body, head);
+    add_clause(&mut b, &[0], rule);
+    let last = if supposed { b.implies(r, r) } else { r };
+    let nothing = b.apply(zero, &[]);
+    let head = b.apply(p, &[nothing]);
+    let rule = b.implies(last, head);
+    b.clause(rule);
+    let number = numeral(&mut b, zero, s, uses);
+    let goal = b.apply(p, &[number]);
+    b.goal(goal)
+}
+
 /// Twelve areas with five rules each, and the question whether all twelve cues may go: a strobe may go if, whichever
 /// door is opened, the warning lamp still stands, and somebody of the crew sees that the area is clear.
 fn house() -> Vec<u8> {

@@ -20,6 +20,8 @@ pub fn hard_texts(bytes: usize) -> Vec<Hard> {
         late_showings_on_lines(bytes),
         many_assumptions(bytes),
         far_assumptions(bytes),
+        oldest_assumption(bytes),
+        latest_assumption(bytes),
         long_instances(bytes),
         levels(bytes),
     ]
@@ -142,7 +144,7 @@ fn late_showings_on_lines(bytes: usize) -> Hard {
     }
 }
 
-/// p if (q implies p), so often used: each line looks past all assumptions.
+/// p if (q implies p), so often used, assumptions first (W-207): each line looks past all of them.
 fn many_assumptions(bytes: usize) -> Hard {
     let rounds = (bytes - 60) / 24;
     let mut text = String::from("R proved 1");
@@ -151,12 +153,12 @@ fn many_assumptions(bytes: usize) -> Hard {
     }
     Hard {
         name: "thousands of assumptions",
-        sheet: lines("P p 0; P q 0; A 0; A 1; > 1 0; > 2 0; C 3; C 0; Q 0"),
+        sheet: lines("O latest; P p 0; P q 0; A 0; A 1; > 1 0; > 2 0; C 3; C 0; Q 0"),
         text: lines(&format!("{text}; D clause {}", rounds + 2)),
     }
 }
 
-/// Half of the text makes assumptions, the other half uses p if p, which stands behind all of them.
+/// Half of the text makes assumptions, the other half uses p if p, which stands behind all of them (W-207).
 fn far_assumptions(bytes: usize) -> Hard {
     let rounds = bytes / 2 / 24;
     let mut text = String::from("R proved 1");
@@ -168,8 +170,36 @@ fn far_assumptions(bytes: usize) -> Hard {
     text.push_str(&again.repeat(repeated));
     Hard {
         name: "assumptions looked past",
-        sheet: lines("P p 0; P q 0; A 0; A 1; > 1 0; > 2 0; C 3; > 0 0; C 4; C 0; Q 0"),
+        sheet: lines("O latest; P p 0; P q 0; A 0; A 1; > 1 0; > 2 0; C 3; > 0 0; C 4; C 0; Q 0"),
         text: lines(&format!("{text}; D clause {}", rounds + 3)),
+    }
+}
+
+/// In the default order: p if p, and p, are assumed; then half of the text makes assumptions, and the other half uses the
+/// oldest of all.
+fn oldest_assumption(bytes: usize) -> Hard {
+    let rounds = bytes / 2 / 20;
+    let text = "R proved 1; D assume".to_string() + &"; D clause 1; D assume".repeat(rounds);
+    let again = "; D clause 2";
+    let repeated = (bytes - text.len() - 60) / (again.len() - 1);
+    Hard {
+        name: "the oldest of thousands of assumptions",
+        sheet: lines("P p 0; P q 0; A 0; A 1; > 1 0; > 2 0; C 3; > 0 0; & 4 0; > 5 0; Q 6"),
+        text: lines(&format!("{text}{}; D clause 3", again.repeat(repeated))),
+    }
+}
+
+/// In the default order: half of the text makes assumptions, then p if p, and p, are assumed, and the other half uses the
+/// latest of all.
+fn latest_assumption(bytes: usize) -> Hard {
+    let rounds = bytes / 2 / 20;
+    let text = "R proved 1".to_string() + &"; D clause 1; D assume".repeat(rounds) + "; D clause 2; D assume";
+    let again = format!("; D clause {}", rounds + 3);
+    let repeated = (bytes - text.len() - 60) / (again.len() - 1);
+    Hard {
+        name: "the latest of thousands of assumptions",
+        sheet: lines("P p 0; P q 0; A 0; A 1; > 1 0; > 2 0; C 3; > 0 0; & 4 0; > 5 0; > 6 0; C 7; Q 0"),
+        text: lines(&format!("{text}{}; D clause {}", again.repeat(repeated), rounds + 4)),
     }
 }
 

@@ -1,7 +1,8 @@
 //! Long searches and texts that are hard to check, compared with the independent implementation in full.
 
 use calls::generate::{CheckCall, RunCall};
-use harness::compare::{compare_check, compare_run, describe_check, describe_run};
+use harness::compare::{compare_check, compare_run, describe_check, describe_run, library_run};
+use harness::measure::in_turn;
 use harness::{sheets, texts};
 use reference::api::work_demanded;
 use reference::{check, Verdict};
@@ -44,6 +45,60 @@ fn long_searches() {
             assert_eq!(after.code, u32::from(code != 0), "a proof, and only a proof, is valid");
         }
     }
+}
+
+/// W-207: thousands of suppositions, 500 for each use of a rule, and then an atom that is looked for past all of them.
+#[test]
+fn suppositions_gone_through() {
+    for uses in [1, 12] {
+        let sheet = sheets::suppositions_gone_through(uses, 500, true);
+        let call = whole_run(sheet.clone(), 50_000);
+        let after = compare_run(&call).unwrap_or_else(|difference| panic!("{uses}: {difference}"));
+        assert_eq!(after.code, 0, "proved");
+        let text = after.answer[..after.result[2] as usize].to_vec();
+        let last = format!("D\tclause\t{}\n", 2 + 500 * uses + 1);
+        assert!(text.ends_with(last.as_bytes()));
+        let call = whole_check(sheet, text);
+        let after = compare_check(&call).unwrap_or_else(|difference| panic!("{uses}: {difference}"));
+        assert_eq!(after.code, 0, "valid");
+    }
+    // More of them than a text has lines, and in the former order.
+    for line in ["", "O\tlatest\n"] {
+        let sheet = sheets::suppositions_gone_through(40, 500, false);
+        let call = whole_run([line.as_bytes(), &sheet].concat(), 50_000);
+        let after = compare_run(&call).unwrap_or_else(|difference| panic!("{line}: {difference}"));
+        assert_eq!(after.code, 2, "spent");
+    }
+}
+
+/// W-207: the oldest supposition comes first, and a program is linked from the latest on. To go from there to each member
+/// would take the square of their number, four times as long for twice as many; what is wanted grows as their
+/// number but for a logarithm.
+#[test]
+fn twice_as_many_suppositions() {
+    let mut calls = [(20, 24_000), (40, 48_000)]
+        .map(|(uses, budget)| whole_run(sheets::suppositions_gone_through(uses, 500, false), budget))
+        .map(|call| (call.before(), call));
+    let [half, whole] = in_turn(|work| {
+        let (lent, call) = &mut calls[work];
+        let (table, work) = (&mut lent.table, &mut lent.work);
+        let code = library_run(
+            &call.sheet,
+            call.budget,
+            table,
+            work,
+            &mut lent.answer,
+            &mut lent.result,
+        );
+        assert_eq!(code, 2, "spent");
+    });
+    println!(
+        "10,000 suppositions in {:.2} ms, 20,000 in {:.2} ms, growth {:.2}",
+        half * 1e3,
+        whole * 1e3,
+        whole / half
+    );
+    assert!(whole < 3.0 * half);
 }
 
 #[test]

@@ -7,9 +7,10 @@ use std::collections::HashMap;
 use std::rc::Rc;
 
 use crate::field::{fields, is_name_byte, lines, number, same_name, Line};
-use crate::formula::{Member, Members, Node, Shape};
+use crate::formula::{Member, Node, Shape};
 use crate::limits::LARGEST_BUDGET;
 use crate::list::List;
+use crate::program;
 use crate::sheet::Sheet;
 use crate::term::Environment;
 
@@ -160,16 +161,13 @@ impl Numbering {
     }
 }
 
-#[derive(Clone)]
-struct Clause {
-    members: Members,
-    environment: Environment<TermId>,
-}
+type Clause = program::Clause<TermId>;
+type Program = program::Program<TermId>;
 
-/// A sequent: program (assumptions, latest first, and the sheet's clauses), goal and level.
+/// A sequent: program, goal and level.
 #[derive(Clone)]
 struct Sequent {
-    program: List<Clause>,
+    program: Program,
     goal: Rc<Node>,
     environment: Environment<TermId>,
     level: u32,
@@ -202,12 +200,8 @@ impl<'a> Checker<'a> {
                 _ => return None,
             }
         }
-        let sheet = Clause {
-            members: self.sheet.program.clone(),
-            environment: Environment::empty(),
-        };
         let mut open = List::empty().with(Sequent {
-            program: List::empty().with(sheet),
+            program: Program::of_sheet(self.sheet),
             goal: self.sheet.goal.clone(),
             environment,
             level: 0,
@@ -401,14 +395,16 @@ fn digits(bytes: &[u8]) -> Option<(u32, &[u8])> {
     Some((number(digits)?, after))
 }
 
-/// The member at a place, counted from 1 in trying order.
-fn member_at(program: &List<Clause>, place: u32) -> Option<(Clause, Rc<Member>)> {
+/// The member at a place, counted from 1 in trying order. W-207: "Places in D lines follow the order in force."
+fn member_at(program: &Program, place: u32) -> Option<(Clause, Rc<Member>)> {
     let mut left = (place as usize).checked_sub(1)?;
-    for clause in program.iter() {
+    let mut tried = 0;
+    loop {
+        let clause = program.clause(tried)?;
         if let Some(member) = clause.members.get(left) {
             return Some((clause.clone(), member.clone()));
         }
         left -= clause.members.len();
+        tried += 1;
     }
-    None
 }

@@ -1,5 +1,5 @@
-//! Document 01 and the requests of document 02 that have landed (W-201, W-204, W-206), as a Rust program, written from
-//! these documents alone, to judge another program by.
+//! Document 01 and the requests of document 02 that have landed (W-201, W-204, W-206, W-207), as a Rust program, written
+//! from these documents alone, to judge another program by.
 //!
 //! Everything the search can come back to is persistent: formulas are shared trees, and bindings, levels, open goals,
 //! programs and the trace are persistent maps and lists. A choice point keeps the old state; nothing is undone by hand.
@@ -15,6 +15,7 @@ pub mod interface;
 pub mod limits;
 pub mod list;
 pub mod map;
+pub mod program;
 pub mod refusal;
 pub mod search;
 pub mod sheet;

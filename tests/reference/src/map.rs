@@ -6,7 +6,8 @@ const BITS: u32 = 4;
 const FAN: usize = 1 << BITS;
 const DEPTH: u32 = 5;
 
-/// Keys are below this. A walk makes at most 8 variables for each of 50,000 units and 8 more at its start.
+/// Keys are below this. A walk makes at most 8 variables for each of 50,000 units and 8 more at its start, and fewer
+/// assumptions.
 pub const KEYS: u32 = 1 << (BITS * DEPTH);
 
 pub struct Map<T>(Option<Rc<Branch<T>>>);

@@ -2,21 +2,15 @@
 
 use std::rc::Rc;
 
-use crate::formula::{Member, Members, Node, Shape};
+use crate::formula::{Member, Node, Shape};
 use crate::list::List;
+use crate::program;
 use crate::sheet::Sheet;
 use crate::term::{Constant, Environment, Fresh, Variable};
 use crate::unification::{unify, Applied, OutOfUnits, Store, Units};
 
-/// A clause of a program: its members in the environment it was assumed in.
-#[derive(Clone)]
-struct Clause {
-    members: Members,
-    environment: Environment<Fresh>,
-}
-
-/// The left side of a sequent: assumptions, latest first; at the end, as one, the sheet's clauses.
-type Program = List<Clause>;
+type Clause = program::Clause<Fresh>;
+type Program = program::Program<Fresh>;
 
 /// An open goal: a sequent to be derived.
 #[derive(Clone)]
@@ -51,8 +45,10 @@ struct State {
 /// The members left at an atom.
 #[derive(Clone)]
 struct Candidates {
-    clauses: Program,
-    /// The next member within the first clause.
+    program: Program,
+    /// The clauses of which every member was tried.
+    clauses: u32,
+    /// The next member within the clause after these.
     next: usize,
     /// The place of the member tried last.
     place: u32,
@@ -156,17 +152,13 @@ impl Walk<'_> {
     }
 
     fn first_goal(&self, answers: &[(u8, Variable)]) -> Goal {
-        let sheet = Clause {
-            members: self.sheet.program.clone(),
-            environment: Environment::empty(),
-        };
         let environment = Environment::empty();
         Goal {
             formula: self.sheet.goal.clone(),
             environment: answers.iter().fold(environment, |environment, &(v, variable)| {
                 environment.with(v, Fresh::Variable(variable))
             }),
-            program: List::empty().with(sheet),
+            program: Program::of_sheet(self.sheet),
             level: 0,
         }
     }
@@ -213,7 +205,8 @@ impl Walk<'_> {
             }
             Shape::Atom(..) => {
                 let candidates = Candidates {
-                    clauses: goal.program.clone(),
+                    program: goal.program.clone(),
+                    clauses: 0,
                     next: 0,
                     place: 0,
                 };
@@ -321,13 +314,12 @@ impl Candidates {
     /// The next member in trying order, with its clause.
     fn next_member(&mut self) -> Option<(Clause, Rc<Member>)> {
         loop {
-            let (clause, rest) = self.clauses.split()?;
+            let clause = self.program.clause(self.clauses)?;
             if let Some(member) = clause.members.get(self.next) {
                 self.next += 1;
                 return Some((clause.clone(), member.clone()));
             }
-            let rest = rest.clone();
-            self.clauses = rest;
+            self.clauses += 1;
             self.next = 0;
         }
     }

@@ -7,8 +7,20 @@ use crate::formula::{members, Members, Node, Shape, Symbol, VariableSet};
 use crate::limits::{CLAUSES, LARGEST_ARITY, NODES, SYMBOLS, VARIABLES};
 use crate::refusal::Refusal;
 
+/// W-207: the order in which the clauses of a program are tried.
+#[derive(Clone, Copy, PartialEq, Eq, Debug, Default)]
+pub enum Order {
+    /// The sheet's clauses, then the assumptions, oldest first.
+    #[default]
+    Oldest,
+    /// The assumptions, latest first, then the sheet's clauses. "A sheet that relied on the former order says so with a
+    /// first line `O latest`."
+    Latest,
+}
+
 /// A sheet that was read to its end.
 pub struct Sheet {
+    pub order: Order,
     pub symbols: Vec<Symbol>,
     /// The members of each node, by node number; none for a node that is no clause.
     pub members: Vec<Members>,
@@ -19,6 +31,7 @@ pub struct Sheet {
 
 /// A line of the right form. Numbers are as they stand: what they name may not be there.
 enum Form<'a> {
+    Latest,
     Symbol {
         name: &'a [u8],
         arity: usize,
@@ -48,7 +61,12 @@ pub fn read(bytes: &[u8]) -> Result<Sheet, Refusal> {
         if reader.goal.is_some() {
             return Err(Refusal::new(11, line_number));
         }
-        let form = if line.closed { form(line.bytes) } else { None };
+        // W-207: "An O line elsewhere, or with another word, is refused under 6".
+        let form = match line.bytes {
+            _ if !line.closed => None,
+            b"O\tlatest" if line_number == 1 => Some(Form::Latest),
+            bytes => form(bytes),
+        };
         let read = form.ok_or(6).and_then(|form| reader.line(form));
         read.map_err(|number| Refusal::new(number, line_number))?;
     }
@@ -90,6 +108,7 @@ fn form(line: &[u8]) -> Option<Form<'_>> {
 
 #[derive(Default)]
 struct Reader {
+    order: Order,
     symbols: Vec<Symbol>,
     nodes: Vec<Rc<Node>>,
     members: Vec<Members>,
@@ -103,6 +122,7 @@ impl Reader {
     fn sheet(self) -> Option<Sheet> {
         let clauses = self.clauses.iter();
         Some(Sheet {
+            order: self.order,
             program: clauses.flat_map(|&node| self.members[node].iter().cloned()).collect(),
             symbols: self.symbols,
             members: self.members,
@@ -113,6 +133,10 @@ impl Reader {
     /// Refusals 7 to 10, in this order.
     fn line(&mut self, form: Form) -> Result<(), u32> {
         match form {
+            Form::Latest => {
+                self.order = Order::Latest;
+                Ok(())
+            }
             Form::Symbol { name, arity, predicate } => self.declare(name, arity, predicate),
             Form::Clause(clause) => self.clause(clause),
             Form::Goal(goal) => self.goal(goal),
@@ -196,7 +220,9 @@ impl Reader {
             Form::Implies(left, right) => Shape::Implies(self.node(left)?, self.node(right)?),
             Form::Some(variable, part) => Shape::Some(variable, self.node(part)?),
             Form::Every(variable, part) => Shape::Every(variable, self.node(part)?),
-            Form::Symbol { .. } | Form::Clause(_) | Form::Goal(_) => unreachable!("these lines make no node"),
+            Form::Latest | Form::Symbol { .. } | Form::Clause(_) | Form::Goal(_) => {
+                unreachable!("these lines make no node")
+            }
         })
     }
 

@@ -8,9 +8,9 @@ use reference::{answer, check, Outcome, Verdict};
 
 /// The clauses r(z) for every z, and q(a). The goal is r(x) so often, and then the last of the lines given, which make
 /// the nodes from 5 on. Each r(x) looks through the chain of x and makes it longer by one: x is bound to z1, z1 to z2,
-/// and so on.
+/// and so on. What the last line supposes comes before the clauses (W-207).
 fn grown(bindings: usize, last: &str) -> String {
-    let mut sheet = format!("P r 1; P q 1; F a 0; F f 1; V 0; A 0 0; U 0 1; C 2; A 2; A 1 3; C 4; {last}");
+    let mut sheet = format!("O latest; P r 1; P q 1; F a 0; F f 1; V 0; A 0 0; U 0 1; C 2; A 2; A 1 3; C 4; {last}");
     let mut goal = 4 + last.split(';').count();
     for _ in 0..bindings {
         sheet.push_str(&format!("; & 1 {goal}"));

@@ -4,7 +4,7 @@ mod common;
 
 use std::collections::{BTreeMap, BTreeSet};
 
-use calls::generate::{changed_case, checks, damaged, respelled_text, sheet, FAMILIES};
+use calls::generate::{changed_case, checks, damaged, respelled_text, sheet, FAMILIES, LATEST};
 use calls::random::Random;
 use common::naive::Judge;
 use reference::search::{search, End};
@@ -254,6 +254,55 @@ fn bindings_occur() {
     );
     assert!(followed[0] > SHEETS / 3 && followed[1] > SHEETS / 5 && followed[2] > SHEETS / 10);
     assert!(ended[0] > SHEETS / 4 && ended[1] > SHEETS / 20 && ended[2] > SHEETS / 50);
+}
+
+/// W-207: a third of the sheets have an O line, most of them as their first line, and many of each kind of sheet and
+/// outcome; some are refused for it. Proofs suppose something in both orders, at places past the first.
+#[test]
+fn orders_occur() {
+    let mut outcomes: BTreeMap<String, u64> = BTreeMap::new();
+    let (mut first, mut elsewhere, mut refused) = (0, 0, 0);
+    let mut assumed = [0, 0];
+    for seed in 0..SHEETS {
+        let (_, sheet) = sheet(seed);
+        let (outcome, _, text) = answer(&sheet, budget(seed), 65_535);
+        let latest = sheet.starts_with(LATEST);
+        let text = String::from_utf8_lossy(&text);
+        let far = text
+            .lines()
+            .any(|line| line.starts_with("D\tclause\t") && !line.starts_with("D\tclause\t1"));
+        assumed[usize::from(latest)] += u64::from(text.contains("D\tassume") && far);
+        if latest {
+            first += 1;
+            *outcomes.entry(name(outcome)).or_default() += 1;
+        }
+        let mut lines = sheet.split_inclusive(|&byte| byte == b'\n').skip(usize::from(latest));
+        if let Some(place) = lines.position(|line| line.starts_with(b"O")) {
+            elsewhere += 1;
+            let line = place as u32 + 1 + u32::from(latest);
+            let refusals = [common::refused(6, line), common::refused(11, line)];
+            refused += u64::from(refusals.contains(&outcome));
+        }
+    }
+    println!(
+        "{first} of {SHEETS} sheets begin with `O latest`: {outcomes:?}; {elsewhere} have another O line, {refused} are \
+         refused for it; proofs that suppose something, by default and with `O latest`: {assumed:?}"
+    );
+    assert!(first > SHEETS / 4 && elsewhere > 50 && refused > 40 && assumed[0] > 200 && assumed[1] > 100);
+    for wanted in [
+        "proved",
+        "no",
+        "spent",
+        "refused 06",
+        "refused 08",
+        "refused 09",
+        "refused 11",
+    ] {
+        assert!(
+            outcomes.get(wanted).is_some_and(|&count| count >= 3),
+            "{wanted} is rare"
+        );
+    }
 }
 
 /// W-201: a proof with its names in any mix of cases is valid, and a letter or word in another case breaks its line.

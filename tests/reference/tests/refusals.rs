@@ -228,20 +228,26 @@ fn is(sheet: &[u8], number: u32, line: u32) {
     assert_eq!(told, (number, line), "{}", sheet.escape_ascii());
 }
 
+/// The same, and with `O latest` in front, where a refusal stands one line lower (W-207).
+fn is_in_both_orders(sheet: &[u8], number: u32, line: u32) {
+    is(sheet, number, line);
+    is(&[b"O\tlatest\n", sheet].concat(), number, line + u32::from(number > 0));
+}
+
 #[test]
 fn sheets() {
     for &(sheet, number, line) in SHEETS {
-        is(&lines(&whole(sheet)), number, line);
+        is_in_both_orders(&lines(&whole(sheet)), number, line);
     }
     for &(sheet, number, line) in UNCLOSED {
-        is(&unclosed(&whole(sheet)), number, line);
+        is_in_both_orders(&unclosed(&whole(sheet)), number, line);
     }
     for &(sheet, number, line) in BYTES {
-        is(sheet, number, line);
+        is_in_both_orders(sheet, number, line);
     }
     for &(sheet, parts, number, line) in PARTS {
         for part in parts.split(',') {
-            is(&lines(&whole(&sheet.replace('#', part))), number, line);
+            is_in_both_orders(&lines(&whole(&sheet.replace('#', part))), number, line);
         }
     }
 }

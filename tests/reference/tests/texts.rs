@@ -112,36 +112,37 @@ fn places() {
             ("R proved 2; D clause 4", 2),
         ],
     );
-    // Assumptions first, latest first; within one, left first.
-    judge(
-        "P q 0; P r 0; P p 0; A 0; A 1; A 2; C 2; & 1 2; > 3 2; > 0 4; Q 5",
-        &[
-            ("R proved 5; D assume; D assume; D clause 2", 0),
-            ("R proved 5; D assume; D assume; D clause 4", 0),
-            ("R proved 5; D assume; D assume; D clause 1", 4),
-            ("R proved 5; D assume; D assume; D clause 3", 4),
-            ("R proved 5; D assume; D assume; D clause 5", 4),
-            ("R proved 5; D assume; D clause 2", 3),
-        ],
-    );
+    // p stands on the sheet, and q implies ((r and p) implies p). W-207: the sheet's first, then the assumptions, oldest
+    // first; or latest first, then the sheet's. Within one, left first.
+    let sheet = "P q 0; P r 0; P p 0; A 0; A 1; A 2; C 2; & 1 2; > 3 2; > 0 4; Q 5";
+    let latest = &format!("O latest; {sheet}");
+    for (sheet, valid) in [(sheet, [1, 4]), (latest, [2, 4])] {
+        for place in 0..7 {
+            let text = lines(&format!("R proved 5; D assume; D assume; D clause {place}"));
+            judged(sheet, &text, if valid.contains(&place) { 0 } else { 4 });
+        }
+        judge(sheet, &[("R proved 5; D assume; D clause 2", 3)]);
+    }
 }
 
 #[test]
 fn places_over_the_largest_number() {
-    // The rule is p if (64 times p implies p). Each use makes 64 more members in front of it.
+    // The rule is p if (64 times p implies p). Each use makes 64 more members: behind it, or with `O latest` before it.
     let sheet = "P p 0; A 0; & 0 0; & 1 1; & 2 2; & 3 3; & 4 4; & 5 5; > 6 0; > 7 0; C 8; Q 0";
-    let text = |last: u32| {
+    let text = |before: u32, last: u32| {
         let mut text = String::from("R proved 1");
         for round in 0..1_024 {
-            text.push_str(&format!("; D clause {}; D assume", 64 * round + 1));
+            text.push_str(&format!("; D clause {}; D assume", before * round + 1));
         }
         lines(&format!("{text}; D clause {last}"))
     };
-    judged(sheet, &text(1), 0);
-    judged(sheet, &text(65_535), 0);
-    // There is a member at place 65,536, but no number for it.
-    judged(sheet, &text(65_536), 2_050);
-    judged(sheet, &text(65_537), 2_050);
+    for (sheet, before, first) in [(sheet, 0, 2), (&format!("O latest; {sheet}"), 64, 1)] {
+        judged(sheet, &text(before, first), 0);
+        judged(sheet, &text(before, 65_535), 0);
+        // There is a member at place 65,536, but no number for it.
+        judged(sheet, &text(before, 65_536), 2_050);
+        judged(sheet, &text(before, 65_537), 2_050);
+    }
 }
 
 #[test]

@@ -1,4 +1,5 @@
 //! Document 01, "The walk": units and texts of small sheets, counted by hand. W-206: each binding looked through is one.
+//! W-207: assumptions are tried after the sheet's clauses, oldest first, or with `O latest` before them, latest first.
 
 mod common;
 
@@ -101,15 +102,27 @@ fn body() {
 fn assumptions() {
     // Not for the goal beside: take and, take >, take q, try; take q
     tells("P q 0; A 0; > 0 0; & 1 0; Q 2", "R no 5");
-    // Latest first, before the sheet's; within one, left before right.
-    // q > ((r & p) > p), the sheet has p: take >, take >, take p, try r, try p
+    // q implies ((r and p) implies p), and p stands on the sheet. W-207: the sheet's before all assumptions. Take >, take >,
+    // take p, try p
+    let sheet = "P q 0; P r 0; P p 0; A 0; A 1; A 2; C 2; & 1 2; > 3 2; > 0 4; Q 5";
+    tells(sheet, "R proved 4; D assume; D assume; D clause 1");
+    // Or after them, latest first; within one, left before right: try r, try p
     tells(
-        "P q 0; P r 0; P p 0; A 0; A 1; A 2; C 2; & 1 2; > 3 2; > 0 4; Q 5",
+        &format!("O latest; {sheet}"),
         "R proved 5; D assume; D assume; D clause 2",
     );
-    // The older one is third, the sheet's fourth.
+    // The same with r for p: by default the sheet's p, the older q, then r; latest first, r is the first.
+    let sheet = "P q 0; P r 0; P p 0; A 0; A 1; A 2; C 2; & 1 2; > 3 1; > 0 4; Q 5";
+    tells(sheet, "R proved 6; D assume; D assume; D clause 3");
     tells(
-        "P q 0; P r 0; P p 0; A 0; A 1; A 2; C 2; & 1 2; > 3 0; > 0 4; Q 5",
+        &format!("O latest; {sheet}"),
+        "R proved 4; D assume; D assume; D clause 1",
+    );
+    // The same with q: by default it is second, latest first it is third, after r and p.
+    let sheet = "P q 0; P r 0; P p 0; A 0; A 1; A 2; C 2; & 1 2; > 3 0; > 0 4; Q 5";
+    tells(sheet, "R proved 5; D assume; D assume; D clause 2");
+    tells(
+        &format!("O latest; {sheet}"),
         "R proved 6; D assume; D assume; D clause 3",
     );
     // Its free variable is the goal's own: some x (p(x) > p(a)): take some, take >, take p, try, pair, look

@@ -2,14 +2,14 @@
 use Prim.Native.Nat.{ℕ, zero, suc, _+_, _-_, _<_, _≤_}
 use native.Mathlib.Omega.{arith}
 use native.Mathlib.Numerals.{sub-one}
-use mathlib.Core.Path.{_≡_, sym}
+use mathlib.Core.Path.{_≡_, sym, _∙_}
 use mathlib.Core.List.{List}
 use borrow.Author.Tests.{lt-ltb, le-ltb, eq-eqb, ne-eqb}
-use Rattle.node_table.specs.Layout.{membersOf, clauseNode}
+use Rattle.node_table.specs.Layout.{membersOf, clauseNode, orderNumber}
 use Rattle.scanning.specs.Fields as fields
 use Rattle.line_checking.specs.declared.Place.{Place}
 use Rattle.line_checking.specs.declared.Place.the-variants.{At, Nowhere}
-use Rattle.line_checking.specs.Members.{clauseFrom, hypothesisFrom}
+use Rattle.line_checking.specs.Members.{clauseFrom, hypothesisFrom, oldestFrom, placeFrom}
 use Rattle.memory.specs.Records.{field}
 
 -- clauses of the sheet
@@ -63,3 +63,47 @@ module _ (t : List ℕ) (clauses : ℕ) (w : List ℕ) (k : ℕ) where
   unfolding hypothesisFrom
   hypothesis-on zero h l m g b z el em c eg = absurd (omega arith)
   hypothesis-on (suc n) h l m g b z el em c eg = rw (sub-one (suc n)) (simp (hypothesisFrom, ne-eqb _ _ z, ← el, ← em, le-ltb _ _ c, ← eg))
+
+-- the default order
+
+module _ (t : List ℕ) (clauses : ℕ) (w : List ℕ) (k : ℕ) where
+  pub oldest-end : (n h : ℕ) (p : Place) → n ≤ 0 → p ≡ clauseFrom clauses t 0 k → oldestFrom n t clauses w h k ≡ p
+  unfolding oldestFrom
+  oldest-end zero h p b e = sym e
+  oldest-end (suc n) h p b e = absurd (omega arith)
+
+  pub oldest-none : (n h : ℕ) (p : Place) → 0 < n → h ≡ 0 → p ≡ clauseFrom clauses t 0 k → oldestFrom n t clauses w h k ≡ p
+  unfolding oldestFrom
+  oldest-none zero h p b z e = absurd (omega arith)
+  oldest-none (suc n) h p b z e = simp (oldestFrom, eq-eqb _ _ z, ← e)
+
+  pub oldest-here : (n h s l m f : ℕ) → 0 < n → (h ≡ 0 → ⊥) → s ≡ field w (h - 1) fields.hypothesisStart → s ≤ k
+      → l ≡ field w (h - 1) fields.hypothesisNode → m ≡ membersOf t l → k - s < m → f ≡ field w (h - 1) fields.hypothesisFrame
+      → oldestFrom n t clauses w h k ≡ At l f (k - s)
+  unfolding oldestFrom
+  oldest-here zero h s l m f b z es c el em d ef = absurd (omega arith)
+  oldest-here (suc n) h s l m f b z es c el em d ef =
+      simp (oldestFrom, ne-eqb _ _ z, ← es, le-ltb _ _ c, ← el, ← em, lt-ltb _ _ d, ← ef)
+
+  pub oldest-past : (n h s l m : ℕ) → 0 < n → (h ≡ 0 → ⊥) → s ≡ field w (h - 1) fields.hypothesisStart → s ≤ k
+      → l ≡ field w (h - 1) fields.hypothesisNode → m ≡ membersOf t l → m ≤ k - s → oldestFrom n t clauses w h k ≡ Nowhere
+  unfolding oldestFrom
+  oldest-past zero h s l m b z es c el em d = absurd (omega arith)
+  oldest-past (suc n) h s l m b z es c el em d = simp (oldestFrom, ne-eqb _ _ z, ← es, le-ltb _ _ c, ← el, ← em, le-ltb _ _ d)
+
+  pub oldest-on : (n h s g : ℕ) → 0 < n → (h ≡ 0 → ⊥) → s ≡ field w (h - 1) fields.hypothesisStart → k < s
+      → g ≡ field w (h - 1) fields.hypothesisNext → oldestFrom n t clauses w h k ≡ oldestFrom (n - 1) t clauses w g k
+  unfolding oldestFrom
+  oldest-on zero h s g b z es c eg = absurd (omega arith)
+  oldest-on (suc n) h s g b z es c eg = rw (sub-one (suc n)) (simp (oldestFrom, ne-eqb _ _ z, ← es, lt-ltb _ _ c, ← eg))
+
+-- the order in force
+
+module _ (t : List ℕ) (clauses : ℕ) (w : List ℕ) (h k o : ℕ) (p : Place) (eo : o ≡ orderNumber t) where
+  pub place-oldest : o ≡ 0 → p ≡ oldestFrom h t clauses w h k → p ≡ placeFrom t clauses w h k
+  unfolding placeFrom
+  place-oldest z e = e ∙ rw (← eo, eq-eqb _ _ z)
+
+  pub place-latest : (o ≡ 0 → ⊥) → p ≡ hypothesisFrom h t clauses w h k → p ≡ placeFrom t clauses w h k
+  unfolding placeFrom
+  place-latest z e = e ∙ rw (← eo, ne-eqb _ _ z)

@@ -8,6 +8,7 @@ use Rattle.machine.specs.Records.{made, putGoal, putAssumption, putPath, rightL
 use Rattle.machine.specs.RegisterUpdates.{withChoice, withGoals, withPath, withGoal, withMember}
 use Rattle.machine.specs.Words.{increment}
 use Rattle.machine.specs.ChoicePoints.{saveChoice}
+use Rattle.machine.specs.AssumptionChains.{putChain}
 use Rattle.machine.specs.Goals.{takeAnd, rightBranch, takeOr, takeImplies}
 
 module _ (t w w₁ w₂ : List ℕ) (r : Registers) where
@@ -24,11 +25,12 @@ module _ (t w w₁ w₂ : List ℕ) (r : Registers) where
   unfolding takeOr
   or-taken a p b m m′ s ea e₁ eb e₂ ep em em′ es = rw (es, em′, em, ep, e₂, e₁, ea, eb)
 
-  pub implies-taken : (a b p : ℕ) (m s : Registers) → a ≡ childOf t (r .node) 0 → b ≡ childOf t (r .node) 1
-      → w₁ ≡ putPath w (r .acts) (r .path) (r .line) → w₂ ≡ putAssumption w₁ (r .acts) a (r .frame) (r .program) → p ≡ increment (r .acts)
-      → m ≡ withPath r p assumeLine → s ≡ withGoal m b (r .frame) p (r .level) → made w₂ s ≡ takeImplies t w r
+  pub implies-taken : (w₃ : List ℕ) (a b p : ℕ) (m s : Registers) → a ≡ childOf t (r .node) 0 → b ≡ childOf t (r .node) 1
+      → w₁ ≡ putPath w (r .acts) (r .path) (r .line) → w₂ ≡ putAssumption w₁ (r .acts) a (r .frame) (r .program)
+      → w₃ ≡ putChain w₂ (r .acts) (r .program) → p ≡ increment (r .acts)
+      → m ≡ withPath r p assumeLine → s ≡ withGoal m b (r .frame) p (r .level) → made w₃ s ≡ takeImplies t w r
   unfolding takeImplies
-  implies-taken a b p m s ea eb e₁ e₂ ep em es = rw (es, em, ep, e₂, e₁, ea, eb)
+  implies-taken w₃ a b p m s ea eb e₁ e₂ e₃ ep em es = rw (es, em, ep, e₃, e₂, e₁, ea, eb)
 
 pub right-branch-is : (t : List ℕ) (r : Registers) (b p : ℕ) (m m′ s : Registers) → b ≡ childOf t (r .node) 1 → p ≡ increment (r .acts)
     → m ≡ withPath r p rightLine → m′ ≡ withGoal m b (r .frame) (r .program) (r .level) → s ≡ withMember m′ 0 0 0 0 → s ≡ rightBranch t r

@@ -7,10 +7,10 @@ use borrow.Author.Tests.{eq-eqb, ne-eqb}
 use Rattle.machine.specs.declared.Registers.{Registers}
 use Rattle.machine.specs.Fields as fields
 use Rattle.machine.specs.Records.{made, putPath, trueLine, tryMode, provedMode}
-use Rattle.machine.specs.RegisterUpdates.{withMode, withGoals, withPath, withGoal, withMember}
+use Rattle.machine.specs.RegisterUpdates.{withMode, withGoals, withPath, withGoal}
 use Rattle.machine.specs.Words.{increment}
 use Rattle.machine.specs.ChoicePoints.{failed}
-use Rattle.machine.specs.Goals.{dueGoal, proceed, membersLeft, tryFrom, takeAtom, takeTrue}
+use Rattle.machine.specs.Goals.{dueGoal, proceed, membersLeft, tryFrom, firstMember, takeAtom, takeTrue}
 use Rattle.memory.specs.Records.{field}
 
 -- The next goal.
@@ -40,10 +40,10 @@ unfolding tryFrom
 none-due c w w′ r s b eb z es = es ∙ rw (← eb, z)
 
 -- Each kind of goal.
-pub atom-taken : (c : ℕ) (w w′ : List ℕ) (r m s : Registers) → m ≡ withMember r (r .program) 0 0 1 → made w′ s ≡ tryFrom c w m
-    → made w′ s ≡ takeAtom c w r
+pub atom-taken : (t : List ℕ) (c : ℕ) (w w′ : List ℕ) (r m s : Registers) → m ≡ firstMember t c w r → made w′ s ≡ tryFrom c w m
+    → made w′ s ≡ takeAtom t c w r
 unfolding takeAtom
-atom-taken c w w′ r m s em es = es ∙ rw em
+atom-taken t c w w′ r m s em es = es ∙ rw em
 
 pub true-taken : (w w₁ : List ℕ) (r m s : Registers) (p : ℕ) → w₁ ≡ putPath w (r .acts) (r .path) (r .line) → p ≡ increment (r .acts)
     → m ≡ withPath r p trueLine → s ≡ proceed w₁ m → made w₁ s ≡ takeTrue w r

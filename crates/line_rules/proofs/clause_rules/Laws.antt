@@ -18,7 +18,7 @@ use Rattle.line_checking.specs.declared.Registers.{Registers}
 use Rattle.line_checking.specs.declared.Place.{Place}
 use Rattle.line_checking.specs.declared.Place.the-variants.{At, Nowhere}
 use Rattle.line_checking.specs.Sequents.{Made, made, broken, withSequent, nextSequent}
-use Rattle.line_checking.specs.Members.{hypothesisFrom}
+use Rattle.line_checking.specs.Members.{placeFrom}
 use Rattle.line_checking.specs.Bindings.{beginsWith}
 use Rattle.line_checking.specs.Clauses.{read, prefixFrom, withBody, useMember, useTerms, useFound, usePlace, usePlaceAt, clauseFields}
 use Rattle.line_checking.specs.Clauses.{clauseLine}
@@ -58,12 +58,12 @@ module _ (b t : List ℕ) (symbols : ℕ) (x w : List ℕ) (r : Registers) (q i 
       place-missing h em = rw (clauseFields, ← eo, h) em
 
       module _ (k j : ℕ) (h : o ≡ Value k j) (p : Place)
-          (ep : p ≡ cond (eqb k 0) Nowhere (hypothesisFrom (r .hypotheses) t clauses w (r .hypotheses) (k - 1))) where
+          (ep : p ≡ cond (eqb k 0) Nowhere (placeFrom t clauses w (r .hypotheses) (k - 1))) where
         place-read : m ≡ usePlace b t symbols x w r q p j e → m ≡ clauseFields b t symbols clauses x w r q i e
         unfolding clauseFields usePlaceAt usePlace
         place-read em =
             rw (clauseFields, ← eo, h, usePlaceAt)
-            (em ∙ rw ep (go (eqb k 0) (hypothesisFrom (r .hypotheses) t clauses w (r .hypotheses) (k - 1))))
+            (em ∙ rw ep (go (eqb k 0) (placeFrom t clauses w (r .hypotheses) (k - 1))))
           where
             go : (z : Bool) (u : Place)
                 → usePlace b t symbols x w r q (cond z Nowhere u) j e ≡ cond z (broken w r) (usePlace b t symbols x w r q u j e)

@@ -7,6 +7,7 @@ use Rattle.sheet_format.specs.Bytes.{ascii}
 use Rattle.node_table.specs.Layout.{childOf}
 use Rattle.line_checking.specs.declared.Registers.{Registers}
 use Rattle.line_checking.specs.Sequents.{Made, made, broken, withSequent, putSequent, nextSequent, putHypothesis}
+use Rattle.line_checking.specs.Members.{startAfter}
 use Rattle.line_checking.specs.Bindings.{isLine}
 use Rattle.line_checking.specs.Rules.{withChild, trueLine, andLine, orLine, assumeLine}
 
@@ -51,13 +52,14 @@ module _ (t x w : List ℕ) (r : Registers) (i e : ℕ) (z : Bool) (ez : z ≡ i
     unfolding orLine
     or-wrong m h k em = rw (← ez, h, ← ey, k) em
 
-module _ (t x w : List ℕ) (r : Registers) (q i e : ℕ) (z : Bool) (ez : z ≡ isLine (ascii "D\tassume") x i e) where
-  pub assume-right : (a b : ℕ) (w′ : List ℕ) (s : Registers) → z ≡ true → a ≡ childOf t (r .node) 0 → b ≡ childOf t (r .node) 1
-      → w′ ≡ putHypothesis w q a (r .frame) (r .hypotheses) → s ≡ withSequent r b (r .frame) (q + 1) (r .level) (r .rest)
-      → made w′ s ≡ assumeLine t x w r q i e
+module _ (t : List ℕ) (clauses : ℕ) (x w : List ℕ) (r : Registers) (q i e : ℕ) (z : Bool)
+    (ez : z ≡ isLine (ascii "D\tassume") x i e) where
+  pub assume-right : (a b d : ℕ) (w′ : List ℕ) (s : Registers) → z ≡ true → a ≡ childOf t (r .node) 0 → b ≡ childOf t (r .node) 1
+      → d ≡ startAfter t clauses w (r .hypotheses) → w′ ≡ putHypothesis w q a (r .frame) (r .hypotheses) d
+      → s ≡ withSequent r b (r .frame) (q + 1) (r .level) (r .rest) → made w′ s ≡ assumeLine t clauses x w r q i e
   unfolding assumeLine
-  assume-right a b w′ s h ea eb ew es = rw (es, ew, ea, eb, ← ez, h)
+  assume-right a b d w′ s h ea eb ed ew es = rw (es, ew, ea, eb, ed, ← ez, h)
 
-  pub assume-wrong : (m : Made) → z ≡ false → m ≡ broken w r → m ≡ assumeLine t x w r q i e
+  pub assume-wrong : (m : Made) → z ≡ false → m ≡ broken w r → m ≡ assumeLine t clauses x w r q i e
   unfolding assumeLine
   assume-wrong m h em = rw (← ez, h) em

@@ -9,14 +9,16 @@ use mathlib.Core.List.{List, [], _∷_}
 use lib.Dec.{ltb, eqb}
 use lib.ListN.{length, drop, length-drop, drop-of-length-le}
 use borrow.Author.Tests.{ltb-true, ltb-false}
+use Rattle.formulas.specs.Rules.{Order}
 use Rattle.sheet_format.proofs.Bytes.{linesOf-other}
 use Rattle.sheet_format.specs.Limits.{tableNumbers}
 use Rattle.sheet_format.specs.Bytes.{lf, SplitLines, extendLine, linesOf, sameName}
 use Rattle.sheet_format.specs.SheetLines.{parseLine}
-use Rattle.sheet_format.specs.Sheets.{Sheet, refusal, sheet, refused, Table, next, stop, last, atEnd, afterGoal, readFrom}
-use Rattle.sheet_format.specs.Sheets.{readSheetBy, sheetForm, readSheet}
+use Rattle.sheet_format.specs.Sheets.{Sheet, refusal, sheet, refused, Table, next, stop, last, atEnd, afterGoal, readFrom, emptyTable}
+use Rattle.sheet_format.specs.Sheets.{sheetForm, readSheet}
 use Rattle.sheet_format.specs.Sheets.{Read as SheetRead, Taken as SheetTaken, takeLine as sheetLine}
-use Rattle.node_table.specs.Decoding.{goalAt, declarationsFrom, clausesFrom, decodeSheet}
+use Rattle.node_table.specs.Layout.{orderNumber}
+use Rattle.node_table.specs.Decoding.{goalAt, declarationsFrom, clausesFrom, orderOf, decodeSheet}
 use Rattle.node_table.specs.WellMade.{IsGoal}
 use Rattle.table_builder.specs.declared.node_info.Counts.{Counts}
 use Rattle.table_builder.specs.declared.node_info.Taken.{Taken}
@@ -33,38 +35,40 @@ use Rattle.sheet_reader.proofs.sheet_lines.Steps.{between, next-adds, l
 
 -- the lines ahead
 
--- The sheet that the bytes b make of the table, the first of them on that line.
-unfoldable pub readOn : List ℕ → ℕ → Table → SheetRead
-readOn b line table = readFrom sheetForm (linesOf b .whole) (linesOf b .rest) line table
+-- The sheet of that order that the bytes b make of the table, the first of them on that line.
+unfoldable pub readOn : Order → List ℕ → ℕ → Table → SheetRead
+readOn o b line table = readFrom sheetForm o (linesOf b .whole) (linesOf b .rest) line table
 
 -- The same after a line of which that is made, b the bytes after it.
-unfoldable afterLine : SheetTaken → List ℕ → ℕ → Table → SheetRead
-afterLine (next u) b line table = readOn b (suc line) u
-afterLine (stop n) b line table = refused (refusal n line)
-afterLine (last g) b line table =
-    afterGoal (linesOf b .whole) (linesOf b .rest) (suc line) (record { symbols = table .symbols; clauses = table .clauses; goal = g })
+unfoldable afterLine : Order → SheetTaken → List ℕ → ℕ → Table → SheetRead
+afterLine o (next u) b line table = readOn o b (suc line) u
+afterLine o (stop n) b line table = refused (refusal n line)
+afterLine o (last g) b line table =
+    afterGoal (linesOf b .whole) (linesOf b .rest) (suc line)
+    (record { order = o; symbols = table .symbols; clauses = table .clauses; goal = g })
 
-module _ (s : List ℕ) (at line : ℕ) (table : Table) where
+module _ (o : Order) (s : List ℕ) (at line : ℕ) (table : Table) where
   -- A whole line is taken, and reading goes on after its LF.
   on-line : (end : ℕ) → at ≤ length s → end ≡ lineEnd s at → (end ≡ length s → ⊥)
-      → readOn (drop at s) line table ≡ afterLine (sheetLine sameName table (parseLine (between s at end))) (drop (end + 1) s) line table
+      → readOn o (drop at s) line table
+      ≡ afterLine o (sheetLine sameName table (parseLine (between s at end))) (drop (end + 1) s) line table
   unfolding readOn readFrom sheetForm afterLine
   on-line end h e n =
-      ap (λ (l : SplitLines). readFrom sheetForm (l .whole) (l .rest) line table) (line-at s at end h e n)
+      ap (λ (l : SplitLines). readFrom sheetForm o (l .whole) (l .rest) line table) (line-at s at end h e n)
       ∙ go (sheetLine sameName table (parseLine (between s at end))) refl
     where
       go : (x : SheetTaken) → sheetLine sameName table (parseLine (between s at end)) ≡ x
-          → readFrom sheetForm (between s at end ∷ linesOf (drop (end + 1) s) .whole) (linesOf (drop (end + 1) s) .rest) line table ≡ afterLine x
-          (drop (end + 1) s) line table
+          → readFrom sheetForm o (between s at end ∷ linesOf (drop (end + 1) s) .whole) (linesOf (drop (end + 1) s) .rest) line table
+          ≡ afterLine o x (drop (end + 1) s) line table
       go (next u) e = rw (e, readFrom)
       go (stop n) e = rw (e, readFrom)
       go (last g) e = rw (e, readFrom)
 
   -- A line without LF is refused with 6.
-  on-open : (end : ℕ) → at < length s → end ≡ lineEnd s at → end ≡ length s → readOn (drop at s) line table ≡ refused (refusal 6 line)
+  on-open : (end : ℕ) → at < length s → end ≡ lineEnd s at → end ≡ length s → readOn o (drop at s) line table ≡ refused (refusal 6 line)
   unfolding readOn readFrom atEnd
   on-open end h e n =
-      ap (λ (l : SplitLines). readFrom sheetForm (l .whole) (l .rest) line table) (open-at s at end (omega arith) e n)
+      ap (λ (l : SplitLines). readFrom sheetForm o (l .whole) (l .rest) line table) (open-at s at end (omega arith) e n)
       ∙ some-left (drop at s) (omega (arith, length-drop at s))
     where
       some-left : (b : List ℕ) → 0 < length b → atEnd b line ≡ refused (refusal 6 line)
@@ -72,7 +76,7 @@ module _ (s : List ℕ) (at line : ℕ) (table : Table) where
       some-left (c ∷ cs) h = refl
 
   -- Where no byte is left, the sheet is refused with 11.
-  on-none : length s ≤ at → readOn (drop at s) line table ≡ refused (refusal 11 line)
+  on-none : length s ≤ at → readOn o (drop at s) line table ≡ refused (refusal 11 line)
   unfolding readOn readFrom linesOf atEnd
   on-none h = rw (drop-of-length-le s h)
 
@@ -120,30 +124,46 @@ table-nodes : (bytes t : List ℕ) (k : Counts) → length (tableOf bytes t k .n
 unfolding tableOf
 table-nodes bytes t k = nodes-length t (k .nodes) 0
 
--- What holds before a line, which starts at `at`, where the table was t₀ and is t.
+-- What holds before a line, which starts at `at`, where the table was t₀ and is t. The order in force is in the table.
 pub record Reading (bytes t₀ t : List ℕ) (k : Counts) (at line : ℕ) : Type 0 where
   pub within : at ≤ length bytes
   pub few : line ≤ at + 1
   pub stands : Decodes bytes t k
-  pub ahead : readSheet bytes ≡ readOn (drop at bytes) line (tableOf bytes t k)
+  pub ahead : readSheet bytes ≡ readOn (orderOf t) (drop at bytes) line (tableOf bytes t k)
   pub nodes : nodeCount (linesOf bytes .whole) ≡ k .nodes + nodeCount (linesOf (drop at bytes) .whole)
   pub goal : goalNamed (linesOf bytes .whole) ≡ goalNamed (linesOf (drop at bytes) .whole)
   pub long : length t ≡ length t₀
   pub rest : drop tableNumbers t ≡ drop tableNumbers t₀
 
--- The invariant `Reading` holds before the first line.
-pub reading-begins : (bytes t : List ℕ) → tableNumbers ≤ length t → Reading bytes t t (counts 0 0 0) 0 1
-unfolding readSheet readSheetBy readOn tableOf declarationsFrom nodesFrom clausesFrom
-reading-begins bytes t h = record {
-  within = omega arith;
-  few = omega arith;
-  stands = stands-empty bytes t h;
-  ahead = refl;
-  nodes = omega arith;
-  goal = refl;
-  long = refl;
-  rest = refl;
-}
+-- What holds of the table t after the order is written, where the lines to be read start at `at`.
+pub record Begun (bytes t : List ℕ) (at line : ℕ) : Type 0 where
+  pub within : at ≤ length bytes
+  pub few : line ≤ at + 1
+  pub ahead : readSheet bytes ≡ readOn (orderOf t) (drop at bytes) line emptyTable
+  pub nodes : nodeCount (linesOf bytes .whole) ≡ nodeCount (linesOf (drop at bytes) .whole)
+  pub goal : goalNamed (linesOf bytes .whole) ≡ goalNamed (linesOf (drop at bytes) .whole)
+  pub long : tableNumbers ≤ length t
+
+-- The invariant `Reading` holds then.
+pub reading-begins : (bytes t : List ℕ) (at line : ℕ) → Begun bytes t at line → Reading bytes t t (counts 0 0 0) at line
+unfolding tableOf declarationsFrom nodesFrom clausesFrom
+reading-begins bytes t at line b =
+    let n = b .nodes in
+    record {
+      within = b .within;
+      few = b .few;
+      stands = stands-empty bytes t (b .long);
+      ahead = b .ahead;
+      nodes = omega arith;
+      goal = b .goal;
+      long = refl;
+      rest = refl;
+    }
+
+-- A line that leaves the number of the order leaves the order.
+same-order : (t u : List ℕ) → orderNumber u ≡ orderNumber t → orderOf u ≡ orderOf t
+unfolding orderOf
+same-order t u e = rw (orderOf, e)
 
 -- Where a line with LF ends, and how far the numbers of lines have come.
 pub record LineEnds (bytes : List ℕ) (at line end : ℕ) : Type 0 where
@@ -171,9 +191,9 @@ module _ (bytes t₀ t t′ : List ℕ) (k : Counts) (at line end : ℕ) (x : Ta
   follows = rw m (line-follows bytes t k (h .stands) at end (ends .0) (ends .1))
 
   -- The sheet is what the definition makes of the line and of the bytes after it.
-  ahead-line : readSheet bytes ≡ afterLine (sheetLine sameName (tableOf bytes t k) (parseLine (between bytes at end))) (drop (end + 1) bytes) line
-      (tableOf bytes t k)
-  ahead-line = h .ahead ∙ on-line bytes at line (tableOf bytes t k) end (h .within) e n
+  ahead-line : readSheet bytes ≡ afterLine (orderOf t) (sheetLine sameName (tableOf bytes t k) (parseLine (between bytes at end)))
+      (drop (end + 1) bytes) line (tableOf bytes t k)
+  ahead-line = h .ahead ∙ on-line (orderOf t) bytes at line (tableOf bytes t k) end (h .within) e n
 
   -- The nodes and the goal of the lines from here on are those of this line and of the lines after it.
   nodes-line : nodeCount (linesOf (drop at bytes) .whole) ≡ nodesIn (parseLine (between bytes at end)) + nodeCount
@@ -203,7 +223,8 @@ module _ (bytes t₀ t t′ : List ℕ) (k : Counts) (at line end : ℕ) (x : Ta
         few = omega arith;
         stands = a .1;
         ahead =
-            rw (add-one line) (ahead-line ∙ ap (λ (y : SheetTaken). afterLine y (drop (end + 1) bytes) line (tableOf bytes t k)) (a .0));
+            rw (add-one line, same-order t t′ (follows .order))
+            (ahead-line ∙ ap (λ (y : SheetTaken). afterLine (orderOf t) y (drop (end + 1) bytes) line (tableOf bytes t k)) (a .0));
         nodes = omega arith;
         goal = h .goal ∙ goal-line ∙ d .goal _;
         long = follows .long ∙ h .long;
@@ -217,7 +238,7 @@ module _ (bytes t₀ t t′ : List ℕ) (k : Counts) (at line end : ℕ) (x : Ta
       let a = subst (λ (y : Taken). Agrees bytes t′ k y (sheetLine sameName (tableOf bytes t k) (parseLine (between bytes at end)))) q
       (follows .agrees) in
       rw z (record {
-        read = ahead-line ∙ ap (λ (y : SheetTaken). afterLine y (drop (end + 1) bytes) line (tableOf bytes t k)) a;
+        read = ahead-line ∙ ap (λ (y : SheetTaken). afterLine (orderOf t) y (drop (end + 1) bytes) line (tableOf bytes t k)) a;
         wellMade = tt;
         counted = tt;
         long = follows .long ∙ h .long;
@@ -242,7 +263,7 @@ module _ (bytes t₀ t t′ : List ℕ) (k : Counts) (at line end : ℕ) (x : Ta
 
       ahead-goal : readSheet bytes ≡ afterGoal (linesOf (drop (end + 1) bytes) .whole) (linesOf (drop (end + 1) bytes) .rest) (suc line)
           (decodeSheet bytes t (k .symbols) (k .clauses) goal)
-      ahead-goal = ahead-line ∙ ap (λ (y : SheetTaken). afterLine y (drop (end + 1) bytes) line (tableOf bytes t k)) (agreed .0)
+      ahead-goal = ahead-line ∙ ap (λ (y : SheetTaken). afterLine (orderOf t) y (drop (end + 1) bytes) line (tableOf bytes t k)) (agreed .0)
 
       nodes-end : length bytes ≤ end + 1 → k .nodes ≡ nodeCount (linesOf bytes .whole)
       nodes-end l =
@@ -275,16 +296,16 @@ module _ (bytes t₀ t t′ : List ℕ) (k : Counts) (at line end : ℕ) (x : Ta
 
 module _ (bytes t₀ t : List ℕ) (k : Counts) (at line : ℕ) (r : Read) (h : Reading bytes t₀ t k at line) where
   -- A refusal that leaves the table as it is satisfies the contract.
-  refuses : (number : ℕ) → readOn (drop at bytes) line (tableOf bytes t k) ≡ refused (refusal number line) → r ≡ refusedRead number line
-      → ReadContract bytes t₀ t r
+  refuses : (number : ℕ) → readOn (orderOf t) (drop at bytes) line (tableOf bytes t k) ≡ refused (refusal number line)
+      → r ≡ refusedRead number line → ReadContract bytes t₀ t r
   unfolding readOf WellRead NamedRead Counted
   refuses number e z = rw z (record { read = h .ahead ∙ e; wellMade = tt; counted = tt; long = h .long; rest = h .rest; named = tt })
 
   -- The contract holds for a line without LF.
   pub reading-open : (end : ℕ) → at < length bytes → end ≡ lineEnd bytes at → end ≡ length bytes → r ≡ refusedRead 6 line
       → ReadContract bytes t₀ t r
-  reading-open end i e n = refuses 6 (on-open bytes at line (tableOf bytes t k) end i e n)
+  reading-open end i e n = refuses 6 (on-open (orderOf t) bytes at line (tableOf bytes t k) end i e n)
 
   -- The contract holds where no line is left.
   pub reading-none : length bytes ≤ at → r ≡ refusedRead 11 line → ReadContract bytes t₀ t r
-  reading-none i = refuses 11 (on-none bytes at line (tableOf bytes t k) i)
+  reading-none i = refuses 11 (on-none (orderOf t) bytes at line (tableOf bytes t k) i)

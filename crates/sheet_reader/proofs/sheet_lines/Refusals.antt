@@ -8,13 +8,15 @@ use mathlib.Core.Option.{Option, none, some}
 use lib.Dec.{ltb}
 use lib.ListN.{length, getElem?}
 use Rattle.formulas.specs.Formulas.{Goal, Clause}
+use Rattle.formulas.specs.Rules.{Order, oldest, latest}
 use Rattle.sheet_format.specs.Limits.{variableNames, maxSymbols, maxNodes, maxClauses}
-use Rattle.sheet_format.specs.Bytes.{linesOf, sameName}
+use Rattle.sheet_format.specs.Bytes.{linesOf, sameBytes, sameName}
 use Rattle.sheet_format.specs.SheetLines.{SheetLine, declareLine, nodeLine, clauseLine, goalLine, parseLine}
 use Rattle.sheet_format.specs.Nodes.{Node, nodeOf, isSomething}
 use Rattle.sheet_format.specs.Sheets.{Sheet, Refusal, refusal, Read, sheet, refused, Table, Taken, next, stop, last, isDeclared}
 use Rattle.sheet_format.specs.Sheets.{takeDeclaration, addNode, takeNode, anyFree, addClause, clauseAt, takeClause, lastGoal, goalAt}
-use Rattle.sheet_format.specs.Sheets.{takeLine, atEnd, afterGoal, readFrom, readSheetBy, sheetForm, readSheet}
+use Rattle.sheet_format.specs.Sheets.{takeLine, atEnd, afterGoal, readFrom, emptyTable, orderLine, readLines, readSheetBy, sheetForm}
+use Rattle.sheet_format.specs.Sheets.{readSheet}
 
 -- A line that is refused, and a sheet.
 abbrev LateLine : Taken → Type 0
@@ -83,22 +85,32 @@ afterGoal-late [] (c ∷ cs) k s = omega arith
 afterGoal-late (l ∷ ls) r k s = omega arith
 
 -- The refusals of a sheet's lines are past 5.
-readFrom-late : (ls : List (List ℕ)) (r : List ℕ) (k : ℕ) (t : Table) → LateRead (readFrom sheetForm ls r k t)
+readFrom-late : (o : Order) (ls : List (List ℕ)) (r : List ℕ) (k : ℕ) (t : Table) → LateRead (readFrom sheetForm o ls r k t)
 unfolding readFrom sheetForm
-readFrom-late [] r k t = atEnd-late r k
-readFrom-late (l ∷ ls) r k t = go (takeLine sameName t (parseLine l)) (takeLine-late t (parseLine l)) (λ u. readFrom-late ls r (suc k) u)
+readFrom-late o [] r k t = atEnd-late r k
+readFrom-late o (l ∷ ls) r k t =
+    go (takeLine sameName t (parseLine l)) (takeLine-late t (parseLine l)) (λ u. readFrom-late o ls r (suc k) u)
   where
-    go : (x : Taken) → LateLine x → ((u : Table) → LateRead (readFrom sheetForm ls r (suc k) u))
+    go : (x : Taken) → LateLine x → ((u : Table) → LateRead (readFrom sheetForm o ls r (suc k) u))
         → LateRead (elim x [
-          | next u ↦ readFrom sheetForm ls r (suc k) u
+          | next u ↦ readFrom sheetForm o ls r (suc k) u
           | stop n ↦ refused (refusal n k)
-          | last g ↦ afterGoal ls r (suc k) (record { symbols = t .symbols; clauses = t .clauses; goal = g })
+          | last g ↦ afterGoal ls r (suc k) (record { order = o; symbols = t .symbols; clauses = t .clauses; goal = g })
         ])
     go (next u) h ih = ih u
     go (stop n) h ih = h
-    go (last g) h ih = afterGoal-late ls r (suc k) (record { symbols = t .symbols; clauses = t .clauses; goal = g })
+    go (last g) h ih = afterGoal-late ls r (suc k) (record { order = o; symbols = t .symbols; clauses = t .clauses; goal = g })
+
+-- So they are whichever order the first line gives.
+readLines-late : (ls : List (List ℕ)) (r : List ℕ) → LateRead (readLines sheetForm ls r)
+unfolding readLines
+readLines-late [] r = readFrom-late oldest [] r 1 emptyTable
+readLines-late (l ∷ ls) r = go (sameBytes l orderLine)
+  where
+    go : (b : Bool) → LateRead (cond b (readFrom sheetForm latest ls r 2 emptyTable) (readFrom sheetForm oldest (l ∷ ls) r 1 emptyTable))
+    go true = readFrom-late latest ls r 2 emptyTable
+    go false = readFrom-late oldest (l ∷ ls) r 1 emptyTable
 
 pub refused-late : (bytes : List ℕ) (r : Refusal) → readSheet bytes ≡ refused r → 6 ≤ r .number
 unfolding readSheet readSheetBy
-refused-late bytes r e =
-    subst LateRead e (readFrom-late (linesOf bytes .whole) (linesOf bytes .rest) 1 (record { symbols = []; nodes = []; clauses = [] }))
+refused-late bytes r e = subst LateRead e (readLines-late (linesOf bytes .whole) (linesOf bytes .rest))

@@ -248,7 +248,7 @@ module _ (bytes t : List ℕ) (k : Counts) (h : Decodes bytes t k) where
   -- A malformed line is refused with 6, as document 01's definitions say.
   malformed-follows : Follows bytes t k (made t (Stop 6)) (stop 6)
   unfolding Agrees
-  malformed-follows = record { agrees = refl; long = refl; rest = refl }
+  malformed-follows = record { agrees = refl; long = refl; rest = refl; order = refl }
 
   module _ (at end : ℕ) (a : at ≤ end) (b : end ≤ length bytes) where
     -- A declared name lies within the sheet.

@@ -21,24 +21,25 @@ module _ (b t : List ℕ) (symbols : ℕ) (x w : List ℕ) (r : Registers) (q i 
   unfolding quantifierLine
   all-due h em = rw (← ek, ne-eqb _ _ h) em
 
-  pub and-due : k ≡ 4 → m ≡ andLine t x w r q i e → m ≡ connectiveLine b t symbols x w r q i e
-  unfolding connectiveLine
-  and-due h em = rw (← ek, eq-eqb _ _ h) em
-
-  pub or-due : (k ≡ 4 → ⊥) → k ≡ 5 → m ≡ orLine t x w r i e → m ≡ connectiveLine b t symbols x w r q i e
-  unfolding connectiveLine
-  or-due n₄ h em = rw (← ek, ne-eqb _ _ n₄, eq-eqb _ _ h) em
-
-  pub assume-due : (k ≡ 4 → ⊥) → (k ≡ 5 → ⊥) → k ≡ 6 → m ≡ assumeLine t x w r q i e → m ≡ connectiveLine b t symbols x w r q i e
-  unfolding connectiveLine
-  assume-due n₄ n₅ h em = rw (← ek, ne-eqb _ _ n₄, ne-eqb _ _ n₅, eq-eqb _ _ h) em
-
-  pub quantifier-due : (k ≡ 4 → ⊥) → (k ≡ 5 → ⊥) → (k ≡ 6 → ⊥) → m ≡ quantifierLine b t symbols x w r q i e
-      → m ≡ connectiveLine b t symbols x w r q i e
-  unfolding connectiveLine
-  quantifier-due n₄ n₅ n₆ em = rw (← ek, ne-eqb _ _ n₄, ne-eqb _ _ n₅, ne-eqb _ _ n₆) em
-
   module _ (clauses : ℕ) where
+    pub and-due : k ≡ 4 → m ≡ andLine t x w r q i e → m ≡ connectiveLine b t symbols clauses x w r q i e
+    unfolding connectiveLine
+    and-due h em = rw (← ek, eq-eqb _ _ h) em
+
+    pub or-due : (k ≡ 4 → ⊥) → k ≡ 5 → m ≡ orLine t x w r i e → m ≡ connectiveLine b t symbols clauses x w r q i e
+    unfolding connectiveLine
+    or-due n₄ h em = rw (← ek, ne-eqb _ _ n₄, eq-eqb _ _ h) em
+
+    pub assume-due : (k ≡ 4 → ⊥) → (k ≡ 5 → ⊥) → k ≡ 6 → m ≡ assumeLine t clauses x w r q i e
+        → m ≡ connectiveLine b t symbols clauses x w r q i e
+    unfolding connectiveLine
+    assume-due n₄ n₅ h em = rw (← ek, ne-eqb _ _ n₄, ne-eqb _ _ n₅, eq-eqb _ _ h) em
+
+    pub quantifier-due : (k ≡ 4 → ⊥) → (k ≡ 5 → ⊥) → (k ≡ 6 → ⊥) → m ≡ quantifierLine b t symbols x w r q i e
+        → m ≡ connectiveLine b t symbols clauses x w r q i e
+    unfolding connectiveLine
+    quantifier-due n₄ n₅ n₆ em = rw (← ek, ne-eqb _ _ n₄, ne-eqb _ _ n₅, ne-eqb _ _ n₆) em
+
     pub clause-due : k ≡ 2 → m ≡ clauseLine b t symbols clauses x w r q i e → m ≡ sequentLine b t symbols clauses x w r q i e
     unfolding sequentLine
     clause-due h em = rw (← ek, eq-eqb _ _ h) em
@@ -47,7 +48,7 @@ module _ (b t : List ℕ) (symbols : ℕ) (x w : List ℕ) (r : Registers) (q i 
     unfolding sequentLine
     true-due n₂ h em = rw (← ek, ne-eqb _ _ n₂, eq-eqb _ _ h) em
 
-    pub connective-due : (k ≡ 2 → ⊥) → (k ≡ 3 → ⊥) → m ≡ connectiveLine b t symbols x w r q i e
+    pub connective-due : (k ≡ 2 → ⊥) → (k ≡ 3 → ⊥) → m ≡ connectiveLine b t symbols clauses x w r q i e
         → m ≡ sequentLine b t symbols clauses x w r q i e
     unfolding sequentLine
     connective-due n₂ n₃ em = rw (← ek, ne-eqb _ _ n₂, ne-eqb _ _ n₃) em

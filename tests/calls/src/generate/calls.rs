@@ -7,7 +7,7 @@ use reference::{answer, Outcome};
 
 use super::special::special_text;
 use super::texts::changed_text;
-use super::{damaged, sheet, Family, FAMILIES};
+use super::{damaged, in_other_order, sheet, Family, FAMILIES};
 use crate::random::Random;
 
 /// A call of the engine. Buffers are given by their lengths.
@@ -136,7 +136,8 @@ fn edge_call(call: &RunCall, needed: u32, length: usize, random: &mut Random) ->
     call
 }
 
-/// The calls of the checker tried for a seed: the sheet's proof, that text changed, another sheet's text.
+/// The calls of the checker tried for a seed: the sheet's proof, that text changed, another sheet's text, and, where the
+/// goal or a body supposes something, the proof in the other order.
 pub fn checks(seed: u64) -> Vec<CheckCall> {
     let random = &mut Random::new(seed ^ 0x7E47);
     if random.one_in(12) {
@@ -153,6 +154,9 @@ pub fn checks(seed: u64) -> Vec<CheckCall> {
                 texts.push(changed_text(&sheet, &text, random));
             }
             let twice = changed_text(&sheet, &texts[1], random);
+            if text.windows(8).any(|bytes| bytes == b"D\tassume") {
+                texts.push(answer(&in_other_order(&sheet), 1_000, TEXT_BYTES).2);
+            }
             texts.extend([twice, text]);
         }
         Outcome::No | Outcome::Spent => texts.push(text),

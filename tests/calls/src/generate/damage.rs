@@ -9,7 +9,7 @@ pub fn damaged(bytes: &[u8], random: &mut Random) -> Vec<u8> {
     }
     let mut changed = bytes.to_vec();
     let at = random.below(bytes.len());
-    let some_byte = |random: &mut Random| *random.pick(b"\t\n 0123456789abfgp_!@(),&|>EUVNAYCQFPRBD\r\0\xff");
+    let some_byte = |random: &mut Random| *random.pick(b"\t\n 0123456789abfgp_!@(),&|>EUVNAYCQFPORBD\r\0\xff");
     match random.below(10) {
         0 => changed[at] = some_byte(random),
         1 => {
@@ -45,17 +45,21 @@ pub fn damaged(bytes: &[u8], random: &mut Random) -> Vec<u8> {
 
 /// Bytes without a plan: any at all, or lines of letters, numbers, names and tabs in any order.
 pub fn noise(random: &mut Random) -> Vec<u8> {
-    const PIECES: [&str; 43] = [
-        "F", "P", "V", "N", "A", "Y", "&", "|", ">", "E", "U", "C", "Q", "R", "B", "D", "\t", "\t", "\t", "\t", "\n",
-        "\n", "\n", "0", "1", "2", "3", "10", "65535", "65536", "a", "p", "f", "_0@0", "!0@1", "(", ")", ",", "proved",
-        "clause", "some", "Pp", "SOME",
+    const PIECES: [&str; 45] = [
+        "F", "P", "V", "N", "A", "Y", "&", "|", ">", "E", "U", "C", "Q", "O", "R", "B", "D", "\t", "\t", "\t", "\t",
+        "\n", "\n", "\n", "0", "1", "2", "3", "10", "65535", "65536", "a", "p", "f", "_0@0", "!0@1", "(", ")", ",",
+        "proved", "clause", "some", "Pp", "SOME", "latest",
     ];
     let most = if random.one_in(50) { 20_000 } else { 120 };
     let length = random.below(most);
     match random.below(3) {
         0 => (0..length).map(|_| random.bits() as u8).collect(),
         1 => (0..length).flat_map(|_| random.pick(&PIECES).bytes()).collect(),
-        _ => (0..length / 4).flat_map(|_| line_of_any_form(random)).collect(),
+        _ => {
+            let order: &[u8] = if random.one_in(4) { b"O\tlatest\n" } else { b"" };
+            let lines = (0..length / 4).flat_map(|_| line_of_any_form(random));
+            order.iter().copied().chain(lines).collect()
+        }
     }
 }
 
@@ -65,7 +69,11 @@ fn line_of_any_form(random: &mut Random) -> Vec<u8> {
         "F f# n", "P p# n", "F a# 0", "V n", "N #", "A n", "A n n", "A n n n", "Y", "& # #", "| # #", "> # #", "E n #",
         "U n #", "C #", "F A# 0", "P P# n",
     ];
-    let form = if random.one_in(12) { "Q #" } else { *random.pick(&FORMS) };
+    let form = match random.below(60) {
+        0..=4 => "Q #",
+        5 => "O latest",
+        _ => *random.pick(&FORMS),
+    };
     let small = random.below(5).to_string();
     let any = random.below(30).to_string();
     let line = form.replace('n', &small).replace('#', &any).replace(' ', "\t");

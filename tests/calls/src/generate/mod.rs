@@ -13,6 +13,7 @@ mod limits;
 mod numbers;
 mod prefixes;
 mod special;
+mod suppositions;
 mod symbols;
 mod terms;
 mod texts;
@@ -21,11 +22,13 @@ pub use calls::{checks, runs, runs_of, CheckCall, RunCall};
 pub use capitals::{changed_case, respelled_text};
 pub use damage::{damaged, noise};
 pub use special::special_text;
+pub use suppositions::{in_other_order, LATEST};
 pub use texts::changed_text;
 
 use crate::random::Random;
 use capitals::with_capitals;
 use numbers::with_numbers;
+use suppositions::with_order;
 
 #[derive(Clone, Copy, PartialEq, Eq, Debug, PartialOrd, Ord)]
 pub enum Family {
@@ -41,6 +44,8 @@ pub enum Family {
     Propositions,
     /// Assumptions beside the goals that want them.
     Scopes,
+    /// Suppositions inside one another, each of several members: places that differ between the orders.
+    Suppositions,
     /// Clauses under many quantifiers, idle and hidden ones among them.
     Prefixes,
     /// Quantifiers before equations: levels lowered.
@@ -67,13 +72,14 @@ pub enum Family {
     Damaged,
 }
 
-pub const FAMILIES: [Family; 18] = [
+pub const FAMILIES: [Family; 19] = [
     Family::Formulas,
     Family::Shadowing,
     Family::Sharing,
     Family::Graphs,
     Family::Propositions,
     Family::Scopes,
+    Family::Suppositions,
     Family::Prefixes,
     Family::Equations,
     Family::Restoring,
@@ -88,9 +94,9 @@ pub const FAMILIES: [Family; 18] = [
     Family::Damaged,
 ];
 
-/// The sheet of a seed; the families take turns. A third of the sheets have N lines, and a third capitals in their names,
-/// and longer names. Sheets at a limit, where the length of a line counts, have no longer names, and some have N lines of
-/// their own.
+/// The sheet of a seed; the families take turns. A third of the sheets have N lines, a third capitals in their names, and
+/// longer names, and a third an O line. Sheets at a limit, where the length of a line counts, have no longer names, and
+/// some have N lines of their own.
 pub fn sheet(seed: u64) -> (Family, Vec<u8>) {
     let family = FAMILIES[(seed % FAMILIES.len() as u64) as usize];
     let mut sheet = of_family(family, &mut Random::new(seed));
@@ -102,7 +108,8 @@ pub fn sheet(seed: u64) -> (Family, Vec<u8>) {
         Family::Limits => "",
         _ => *random.pick(&["", "_1", "bc", "z_y"]),
     };
-    (family, with_capitals(sheet, ending, random))
+    let sheet = with_capitals(sheet, ending, random);
+    (family, with_order(sheet, &mut Random::new(seed ^ 0x207)))
 }
 
 pub fn of_family(family: Family, random: &mut Random) -> Vec<u8> {
@@ -113,6 +120,7 @@ pub fn of_family(family: Family, random: &mut Random) -> Vec<u8> {
         Family::Graphs => formulas::graphs(random),
         Family::Propositions => formulas::propositions(random),
         Family::Scopes => formulas::scopes(random),
+        Family::Suppositions => suppositions::suppositions(random),
         Family::Prefixes => prefixes::prefixes(random),
         Family::Equations => levels::equations(random),
         Family::Restoring => levels::restoring(random),

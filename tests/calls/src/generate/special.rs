@@ -123,12 +123,26 @@ fn ands_before(leaf: usize, doublings: usize) -> String {
     "; D and".repeat(begun)
 }
 
+/// The lines of a sheet in some order, and how many assumptions stand before its clauses for each that is made. Now and
+/// then the number is that of the other order, so that the places are wrong.
+fn ordered(sheet: &str, random: &mut Random) -> (Vec<u8>, usize) {
+    let latest = random.one_in(2);
+    let before = latest != random.one_in(10);
+    let sheet = if latest {
+        format!("O latest; {sheet}")
+    } else {
+        sheet.to_string()
+    };
+    (bytes(&sheet), usize::from(before))
+}
+
 /// p if (64 times p implies p), so often used: the last place is any, with the edge of the numbers among them.
 fn placed(rounds: usize, random: &mut Random) -> (Vec<u8>, Vec<u8>) {
     let sheet = "P p 0; A 0; & 0 0; & 1 1; & 2 2; & 3 3; & 4 4; & 5 5; > 6 0; > 7 0; C 8; Q 0";
+    let (sheet, before) = ordered(sheet, random);
     let mut text = String::from("R proved 1");
     for round in 0..rounds {
-        text.push_str(&format!("; D clause {}; D assume", 64 * round + 1));
+        text.push_str(&format!("; D clause {}; D assume", 64 * before * round + 1));
     }
     let last = match random.below(4) {
         0 => 64 * rounds + random.below(3),
@@ -136,7 +150,7 @@ fn placed(rounds: usize, random: &mut Random) -> (Vec<u8>, Vec<u8>) {
         2 => 65_535,
         _ => 65_536,
     };
-    (bytes(sheet), bytes(&format!("{text}; D clause {last}")))
+    (sheet, bytes(&format!("{text}; D clause {last}")))
 }
 
 /// p if every v p, so often used, with the constants of their levels, now and then a wrong one; then p as a fact.
@@ -165,15 +179,14 @@ fn assumed(rounds: usize, random: &mut Random) -> (Vec<u8>, Vec<u8>) {
         ("N 7", ["8", "263", "b", "65535", "7"])
     };
     let rules = "P p 0; P q 1; F a 0; F b 0; V 0; A 1 0; A 0; > 1 2; > 3 2; U 0 4; C 5";
-    let sheet = format!("{rules}; {wanted}; A 1 6; > 7 2; C 8; Q 2");
+    let (sheet, before) = ordered(&format!("{rules}; {wanted}; A 1 6; > 7 2; C 8; Q 2"), random);
     let mut text = String::from("R proved 1");
     for round in 0..rounds {
         let term = *random.pick(&terms);
-        text.push_str(&format!("; D clause {} {term}; D assume", round + 1));
+        text.push_str(&format!("; D clause {} {term}; D assume", before * round + 1));
     }
-    let last = 1 + random.below(rounds + 1);
-    (
-        bytes(&sheet),
-        bytes(&format!("{text}; D clause {}; D clause {last}", rounds + 2)),
-    )
+    // The two rules stand before the assumptions, or behind them.
+    let last = 1 + 2 * (1 - before) + random.below(rounds + 1);
+    let rule = before * rounds + 2;
+    (sheet, bytes(&format!("{text}; D clause {rule}; D clause {last}")))
 }

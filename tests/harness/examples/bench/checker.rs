@@ -1,11 +1,11 @@
 //! The checker: on proofs, and on its worst cases with their growth.
 
+use harness::measure::in_turn;
 use harness::sheets;
 use harness::texts::{hard_texts as hard, showings_after_names};
 use rules::{Outcome, Verdict};
 
 use crate::lent::Lent;
-use crate::measure::in_turn;
 
 /// Bytes per second on the engine's own texts.
 pub fn proofs() {

@@ -1,11 +1,11 @@
 //! The engine: searching, clearing, reading and writing, each by itself.
 
+use harness::measure::{in_turn, microseconds, without};
 use harness::sheets::{self, full_sheet, trivial};
 use reference::answer;
 use rules::Outcome;
 
 use crate::lent::Lent;
-use crate::measure::{in_turn, microseconds, without};
 
 const BUDGETS: [u32; 6] = [1_000, 2_000, 5_000, 10_000, 20_000, 50_000];
 

@@ -6,7 +6,6 @@
 mod checker;
 mod engine;
 mod lent;
-mod measure;
 mod memory;
 
 fn main() {

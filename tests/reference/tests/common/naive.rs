@@ -24,6 +24,8 @@ enum Formula {
 
 pub struct Judge {
     functions: HashMap<String, usize>,
+    /// W-207: whether the first line is `O latest`.
+    latest: bool,
     program: Vec<Formula>,
     goal: Formula,
 }
@@ -78,7 +80,8 @@ impl Judge {
             sizes: Vec::new(),
         };
         let mut program = Vec::new();
-        for line in sheet.lines() {
+        let latest = sheet.starts_with("O\tlatest\n");
+        for line in sheet.lines().skip(usize::from(latest)) {
             let fields: Vec<&str> = line.split('\t').collect();
             let numbers: Vec<usize> = fields[1..].iter().map(|field| field.parse().unwrap_or(0)).collect();
             match fields[0] {
@@ -95,6 +98,7 @@ impl Judge {
                         let functions = lines.symbols.iter().filter(|(_, _, function)| *function);
                         return Some(Judge {
                             functions: functions.map(|(name, arity, _)| (name.clone(), *arity)).collect(),
+                            latest,
                             goal: formula,
                             program,
                         });
@@ -211,7 +215,8 @@ impl<'a> Reading<'a> {
                 Formula::Or(left, _) if word == "left" && rest.is_empty() => derive(program, *left, level),
                 Formula::Or(_, right) if word == "right" && rest.is_empty() => derive(program, *right, level),
                 Formula::Implies(clause, goal) if word == "assume" && rest.is_empty() => {
-                    program.insert(0, *clause);
+                    let place = if self.judge.latest { 0 } else { program.len() };
+                    program.insert(place, *clause);
                     derive(program, *goal, level);
                 }
                 Formula::Some(variable, goal) if word == "some" && rest.len() == 1 => {

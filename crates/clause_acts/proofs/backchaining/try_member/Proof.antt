@@ -18,8 +18,7 @@ returns c =
     let at-increment = at-head-of .before .before in
     let at-put-try = at-increment .before .before .before in
     let at-put-prefix = at-put-try .before .before .before .before in
-    let at-next-member = at-put-prefix .before .before in
-    member-tried _ _ _ _ _ _ _ _ _ _ _ _ _ _ (at-next-member .next-member .ensures) (at-put-prefix .put-prefix .ensures)
+    member-tried _ _ _ _ _ _ _ _ _ _ _ _ _ _ (at-put-prefix .put-prefix .ensures)
     (at-put-try .put-try .ensures) (at-increment .increment .ensures) (at-head-of .head-of .ensures) (at-put-pairs .put-pairs .ensures)
     (c .before .before .tried .ensures) (c .before .pairs-from .ensures) (c .due-pairs .ensures)
 
@@ -27,4 +26,4 @@ pub try-member-spec : {M : Type 1} → statement M
 try-member-spec =
     tie.close
     (tie.spec (λ c κs. search needs) (λ c κs. search needs) (λ c κs. search needs) (λ c κs. search needs) (λ c κs. search needs)
-    (λ c κs. search needs) (λ c κs. search needs) (λ c κs. search needs) (λ c κs. search needs) same-length returns)
+    (λ c κs. search needs) (λ c κs. search needs) (λ c κs. search needs) same-length returns)

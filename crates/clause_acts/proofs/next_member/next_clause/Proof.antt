@@ -9,10 +9,10 @@ unfolding nextClause
 returns c =
     simp (
       nextClause,
-      ← c .with-member .ensures,
+      ← c .from-clause .ensures,
       ← c .before .increment2 .ensures,
       eq-eqb _ _ (c .before .before .if1 .taken),
-      ← c .before .before .before .increment .ensures,
+      ← c .before .before .before .before .increment .ensures,
     )
 
 returns-2 : tie.Need-returns-2
@@ -20,14 +20,12 @@ unfolding nextClause
 returns-2 c =
     simp (
       nextClause,
-      ← c .with-member2 .ensures,
-      ← c .before .field .ensures,
-      ne-eqb _ _ (c .before .before .if1 .left),
+      ← c .after-assumption .ensures,
+      ne-eqb _ _ (c .before .if1 .left),
       ← c .before .before .before .increment .ensures,
     )
 
 pub next-clause-spec : {M : Type 1} → statement M
 next-clause-spec =
     tie.close
-    (tie.spec (λ c κs. search needs) (λ c κs. search needs) (λ c κs. search needs) returns (λ c. search needs)
-    (λ c κs. search needs) (λ c κs. search needs) returns-2)
+    (tie.spec (λ c κs. search needs) (λ c κs. search needs) (λ c κs. search needs) returns (λ c κs. search needs) returns-2)

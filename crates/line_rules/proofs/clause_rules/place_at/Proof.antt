@@ -7,7 +7,7 @@ returns : tie.Need-returns
 returns c = rw (eq-eqb _ _ (c .if1 .taken))
 
 returns-2 : tie.Need-returns-2
-returns-2 c = rw (ne-eqb _ _ (c .before .if1 .left)) (c .hypothesis-from .ensures)
+returns-2 c = rw (ne-eqb _ _ (c .before .if1 .left)) (c .place-from .ensures)
 
 pub place-at-spec : {M : Type 1} → statement M
 place-at-spec = tie.close (tie.spec returns (λ c. search needs) (λ c κs. search needs) returns-2)

@@ -7,11 +7,11 @@ returns : tie.Need-returns
 returns c =
     let at-if1 = c .before .before .before .before in
     let at-kind = at-if1 .before in
-    and-due _ _ _ _ _ _ _ _ _ _ _ (at-kind .kind .ensures) (at-if1 .if1 .taken) (c .before .before .and-line .ensures)
+    and-due _ _ _ _ _ _ _ _ _ _ _ (at-kind .kind .ensures) _ (at-if1 .if1 .taken) (c .before .before .and-line .ensures)
 
 returns-2 : tie.Need-returns-2
 returns-2 c =
-    or-due _ _ _ _ _ _ _ _ _ _ _ (c .before .before .before .kind .ensures) (c .before .before .if1 .left) (c .before .if2 .taken)
+    or-due _ _ _ _ _ _ _ _ _ _ _ (c .before .before .before .kind .ensures) _ (c .before .before .if1 .left) (c .before .if2 .taken)
     ((c .or-line .ensures) _)
 
 returns-3 : tie.Need-returns-3
@@ -20,7 +20,7 @@ returns-3 c =
     let at-if2 = at-if3 .before in
     let at-if1 = at-if2 .before in
     let at-kind = at-if1 .before in
-    assume-due _ _ _ _ _ _ _ _ _ _ _ (at-kind .kind .ensures) (at-if1 .if1 .left) (at-if2 .if2 .left) (at-if3 .if3 .taken)
+    assume-due _ _ _ _ _ _ _ _ _ _ _ (at-kind .kind .ensures) _ (at-if1 .if1 .left) (at-if2 .if2 .left) (at-if3 .if3 .taken)
     (c .before .before .assume-line .ensures)
 
 returns-4 : tie.Need-returns-4
@@ -29,7 +29,7 @@ returns-4 c =
     let at-if2 = at-if3 .before in
     let at-if1 = at-if2 .before in
     let at-kind = at-if1 .before in
-    quantifier-due _ _ _ _ _ _ _ _ _ _ _ (at-kind .kind .ensures) (at-if1 .if1 .left) (at-if2 .if2 .left) (at-if3 .if3 .left)
+    quantifier-due _ _ _ _ _ _ _ _ _ _ _ (at-kind .kind .ensures) _ (at-if1 .if1 .left) (at-if2 .if2 .left) (at-if3 .if3 .left)
     (c .before .before .quantifier-line .ensures)
 
 pub connective-line-spec : {M : Type 1} → statement M

@@ -1,0 +1,78 @@
+-- Request W-207 of the run, kept: both orders have the same derivations, so that T5 under one and T7 under the other leave one outcome.
+use Prim.Native.Nat.{ℕ, _≤_, _<_}
+use mathlib.Core.Path.{_≡_, refl, sym, _∙_, ap, subst}
+use mathlib.Core.Bool.{Bool, true, false}
+use mathlib.Core.List.{List}
+use native.Mathlib.Omega.{arith}
+use lib.Dec.{ltb}
+use lib.ListN.{length}
+use borrow.Author.Tests.{ltb-true, ltb-false, le-ltb}
+use Rattle.formulas.specs.Rules.{Order, oldest, latest}
+use Rattle.sequents.specs.Symbols.{Symbol}
+use Rattle.sequents.specs.Sequents.{Environment}
+use Rattle.sequents.specs.Derivations.{InstanceDerivation}
+use Rattle.sequents.proofs.Promises.{anyOrder}
+use Rattle.sheet_format.specs.Limits.{maxSheetBytes}
+use Rattle.sheet_format.specs.Sheets.{Sheet, rulesOf, Read, sheet, readSheet}
+use Rattle.sheet_format.specs.FormerOrder.{readFormerly, oneLineLower, inOrder, withOrderLine}
+use Rattle.sheet_format.proofs.Promises.{readsFormerOrder}
+use Rattle.sheet_format.proofs.OrderLine.{two-sheets, line-longer}
+use Rattle.engine_spec.specs.EngineRun.{Result, engineRunBy, engineRun, tableAfter, workAfter, answerAfter}
+use Rattle.engine_spec.specs.Promises.{HandedBack, handedBack, RunContract, CallerTold, CallersTold}
+use Rattle.engine_spec.specs.Orders.{OneOutcome, formerRun, RunsInFormerOrder, AnswersInFormerOrder}
+use Rattle.engine_spec.proofs.Promises.{callersTold}
+
+-- Who is told proved holds a derivation.
+derivable : (bytes : List ℕ) (budget : ℕ) (answer answer′ : List ℕ) (r : HandedBack) → CallerTold bytes budget answer answer′ r
+    → (s : Sheet) → readSheet bytes ≡ sheet s → r .outcome ≡ 0 → (e : Environment Symbol) × InstanceDerivation (rulesOf s) (s .goal) e
+derivable bytes budget answer answer′ r c s read p = let t = c .spells s read p in (t .environment, t .proof)
+
+-- The same goal has the same derivations in both orders.
+other-order : (s z : Sheet) → s .order ≡ oldest → z ≡ inOrder latest s → (e : Environment Symbol)
+    → (InstanceDerivation (rulesOf s) (s .goal) e → InstanceDerivation (rulesOf z) (z .goal) e)
+    × (InstanceDerivation (rulesOf z) (z .goal) e → InstanceDerivation (rulesOf s) (s .goal) e)
+unfolding inOrder
+other-order s z o q e = (
+  λ d. subst (λ (x : Sheet). InstanceDerivation (rulesOf x) (x .goal) e) (sym q) (anyOrder (s .order) latest (s .clauses) (s .goal) e d),
+  λ d. anyOrder latest (s .order) (s .clauses) (s .goal) e (subst (λ (x : Sheet). InstanceDerivation (rulesOf x) (x .goal) e) q d),
+)
+
+-- A number up to 1 is 0 or 1.
+apart : (m n : ℕ) → m ≤ 1 → n ≤ 1 → (m ≡ 0 → n ≡ 1 → ⊥) → (m ≡ 1 → n ≡ 0 → ⊥) → m ≡ n
+apart m n a b f g = go (ltb m 1) refl (ltb n 1) refl
+  where
+    go : (x : Bool) → ltb m 1 ≡ x → (y : Bool) → ltb n 1 ≡ y → m ≡ n
+    go true p true q = let k = ltb-true m 1 p in let l = ltb-true n 1 q in omega arith
+    go true p false q = let k = ltb-true m 1 p in let l = ltb-false n 1 q in absurd (f (omega arith) (omega arith))
+    go false p true q = let k = ltb-false m 1 p in let l = ltb-true n 1 q in absurd (g (omega arith) (omega arith))
+    go false p false q = let k = ltb-false m 1 p in let l = ltb-false n 1 q in omega arith
+
+pub oneOutcome : OneOutcome
+oneOutcome bytes budget table work answer table′ work′ answer′ r budget₂ table₂ work₂ answer₂ table₂′ work₂′ answer₂′ r₂ c c₂ l l₂ =
+    let a = callersTold bytes budget table work answer table′ work′ answer′ r c in
+    let b = callersTold (withOrderLine bytes) budget₂ table₂ work₂ answer₂ table₂′ work₂′ answer₂′ r₂ c₂ in
+    let s = a .isSheet (omega arith) in
+    let z = b .isSheet (omega arith) in
+    let two = two-sheets bytes (s .0) (z .0) (s .1) (z .1) in
+    apart (r .outcome) (r₂ .outcome) l l₂
+    (λ p q. let d = derivable bytes budget answer answer′ r a (s .0) (s .1) p in
+    b .neverNo (z .0) (z .1) q (d .0) (other-order (s .0) (z .0) (two .0) (two .1) (d .0) .0 (d .1)))
+    (λ p q. let d = derivable (withOrderLine bytes) budget₂ answer₂ answer₂′ r₂ b (z .0) (z .1) q in
+    a .neverNo (s .0) (s .1) p (d .0) (other-order (s .0) (z .0) (two .0) (two .1) (d .0) .1 (d .1)))
+
+-- With the line in front the run is the former one.
+pub runsInFormerOrder : RunsInFormerOrder
+unfolding engineRun engineRunBy formerRun
+runsInFormerOrder bytes h budget t w a =
+    let k = line-longer bytes in
+    rw (le-ltb maxSheetBytes (length (withOrderLine bytes)) h, le-ltb maxSheetBytes (length bytes) (omega arith), readsFormerOrder bytes)
+
+-- So are what is handed back and the lent buffers.
+pub answersInFormerOrder : AnswersInFormerOrder
+answersInFormerOrder bytes h budget table work answer table′ work′ answer′ r c =
+    let e = runsInFormerOrder bytes h budget (length table) (length work) (length answer) in (
+      c .value ∙ ap handedBack e,
+      c .tableEnd ∙ ap (λ (x : Result). tableAfter x table) e,
+      c .workEnd ∙ ap (λ (x : Result). workAfter x budget work) e,
+      c .answerEnd ∙ ap (λ (x : Result). answerAfter x answer) e,
+    )
