@@ -36,6 +36,17 @@ module _ (t : List ℕ) (c : ℕ) (w : List ℕ) (r : Registers) where
       let k : r .mode < 4 = omega arith in
       rw (sub-one (suc n)) (simp (runActs, lt-ltb _ _ k, ← e))
 
-  pub run-on : (n : ℕ) (w′ : List ℕ) (r′ : Registers) → 0 < n → r .mode ≤ 3 → made w′ r′ ≡ act t c w r
+  pub run-goal : (n : ℕ) (w′ : List ℕ) (r′ : Registers) → (n ≡ 0 → ⊥) → r .mode ≤ 1 → made w′ r′ ≡ act t c w r
       → runActs n t c w r ≡ runActs (n - 1) t c w′ r′
-  run-on n w′ r′ z h e = run-act n w′ r′ (λ q. omega arith) h e
+  run-goal n w′ r′ z h e = run-act n w′ r′ z (omega arith) e
+
+-- The modes, by what is asked before an act.
+module _ (m : ℕ) where
+  pub is-try : m ≤ 1 → (m ≡ 0 → ⊥) → m ≡ 1
+  is-try h z = omega arith
+
+  pub not-take : 1 < m → m ≡ 0 → ⊥
+  not-take h e = omega arith
+
+  pub not-try : 1 < m → m ≡ 1 → ⊥
+  not-try h e = omega arith

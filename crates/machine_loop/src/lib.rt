@@ -11,50 +11,46 @@ use match_acts::comparing::compare_pair;
 use match_acts::range_check::check_node;
 use node_table::members;
 use sheet_format::limits;
+ghost use Prim.Native.Nat.{ℕ, _≤_, _<_};
 ghost use mathlib.Core.Path.{_≡_};
 ghost use Rattle.machine.specs.Records.{made};
 ghost use Rattle.machine.specs.Words.{increment};
 ghost use Rattle.machine.specs.Backchaining.{tried};
-ghost use Rattle.machine.specs.Machine.{dueAct, act, runActs, startMemory, startRegisters, runMachine};
+ghost use Rattle.machine.specs.Machine.{act, runActs, startMemory, startRegisters, runMachine};
 
-// The act that is due.
-pub fn due_act(t: &[u32], c: u32, w: &mut [u32], r: Registers) -> Registers
-    ensures { λ s. ⌜ made (now (w .exit)) s ≡ dueAct (now (t .entry)) c (now (w .entry)) r ⌝ }
-{
-    if r.mode == modes::TAKE {
-        return take_goal(t, c, w, r);
-    }
-    if r.mode == modes::TRY {
-        return try_next(t, c, w, r);
-    }
-    if r.mode == modes::COMPARE {
-        return compare_pair(t, w, r);
-    }
-    check_node(t, w, r)
-}
-
-// One act, counted.
-pub fn act(t: &[u32], c: u32, w: &mut [u32], r: Registers) -> Registers
+// One act, counted: a goal is taken or a member tried.
+fn goal_act(t: &[u32], c: u32, w: &mut [u32], r: Registers) -> Registers
+    requires { ⌜ r .mode ≤ 1 ⌝ }
     ensures { λ s. ⌜ made (now (w .exit)) s ≡ act (now (t .entry)) c (now (w .entry)) r ⌝ }
 {
     let u = increment(r.acts);
-    with_acts(due_act(t, c, w, r), u)
+    if r.mode == modes::TAKE {
+        return with_acts(take_goal(t, c, w, r), u);
+    }
+    with_acts(try_next(t, c, w, r), u)
 }
 
-// At most n acts, each of which takes one of the units left. Members are tried in turn: an act of the outer loop takes a goal or
-// tries a member, those of the inner loop compare its argument pairs, and the first mismatch leaves them for the next member. The
-// state between two acts is in the work buffer and the registers alone.
+// One act, counted: of an argument pair, or of a node in a range check. It does not depend on the number of clauses.
+fn match_act(t: &[u32], w: &mut [u32], r: Registers) -> Registers
+    requires { ⌜ 1 < r .mode ⌝ }
+    ensures { λ s. ⌜ ((c : ℕ) → made (now (w .exit)) s ≡ act (now (t .entry)) c (now (w .entry)) r) ⌝ }
+{
+    let u = increment(r.acts);
+    if r.mode == modes::COMPARE {
+        return with_acts(compare_pair(t, w, r), u);
+    }
+    with_acts(check_node(t, w, r), u)
+}
+
+// At most n acts, each of which takes one of the units left. Members are tried in turn: the inner loop compares the argument pairs of
+// a member, and the first mismatch leaves them for the next member; then the outer loop takes a goal or tries a member. Each act has
+// one call here, so that it is compiled in place. The state between two acts is in the work buffer and the registers alone.
 pub fn run_acts(n: u32, t: &[u32], c: u32, w: &mut [u32], from: Registers) -> Registers
     ensures { λ s. ⌜ made (now (w .exit)) s ≡ runActs n (now (t .entry)) c (now (w .entry)) from ⌝ }
 {
     let mut r = from;
     let mut left = n;
     'members: while 0 < left {
-        if modes::CHECK < r.mode {
-            return r;
-        }
-        r = act(t, c, w, r);
-        left -= 1; // a goal taken or a member tried
         while modes::TRY < r.mode {
             if modes::CHECK < r.mode {
                 return r;
@@ -62,13 +58,18 @@ pub fn run_acts(n: u32, t: &[u32], c: u32, w: &mut [u32], from: Registers) -> Re
             if left == 0 {
                 return r;
             }
-            r = act(t, c, w, r);
+            r = match_act(t, w, r);
             left -= 1; // a pair compared, a node looked at or a binding followed
             // A mismatch: a member is due.
             if r.mode == modes::TRY {
                 continue 'members;
             }
         }
+        if left == 0 {
+            return r;
+        }
+        r = goal_act(t, c, w, r);
+        left -= 1; // a goal taken or a member tried
     }
     r
 }

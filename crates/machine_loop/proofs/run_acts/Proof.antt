@@ -3,7 +3,7 @@ use mathlib.Core.Path.{_≡_, sym, _∙_}
 use lib.ListN.{length}
 use borrow.Author.Needs.{needs}
 use Rattle.machine.specs.Machine.{runActs}
-use Rattle.machine_loop.proofs.Laws.{run-done, run-spent, run-end, run-act, run-on}
+use Rattle.machine_loop.proofs.Laws.{run-done, run-spent, run-end, run-act, run-goal}
 use Rattle.machine_loop.proofs.run_acts.Statement.{statement}
 use Rattle.machine_loop.proofs.run_acts.Tie as tie
 
@@ -20,67 +20,57 @@ abbrev μ-members : tie.MeasureT-members
 μ-members n t c w₀ r₀ left₀ w r left = left
 
 returns : tie.Need-returns Inv-loop μ-loop Inv-members μ-members
-returns c = sym (c .before .before .before .members .inv .1 ∙ run-done _ _ _ _ _ (c .if1 .taken))
-
-members-again : tie.Need-members-again Inv-loop μ-loop Inv-members μ-members
-members-again c =
-    let at-act = c .before .before .before .before .before in
-    let at-if1 = at-act .before .before in
-    let at-members-test = at-if1 .before .before in
-    let at-members = at-members-test .before in (
-      search needs,
-      at-members .members .inv .1
-          ∙ run-on _ _ _ _ _ _ _ (at-members-test .members-test .taken) (at-if1 .if1 .left) (at-act .act .ensures)
-          ∙ c .before .before .loop .inv .2,
-    )
+returns c =
+    let at-loop = c .before .before .before .before in
+    let at-members = at-loop .before .before in
+    sym (at-members .members .inv .1 ∙ at-loop .loop .inv .2 ∙ run-done _ _ _ _ _ (c .if2 .taken))
 
 returns-2 : tie.Need-returns-2 Inv-loop μ-loop Inv-members μ-members
 returns-2 c =
-    let at-loop = c .before .before .before .before in
-    let at-act = at-loop .before .before .before in
-    let at-if1 = at-act .before .before in
-    let at-members-test = at-if1 .before .before in
-    let at-members = at-members-test .before in
-    sym (at-members .members .inv .1 ∙ run-on _ _ _ _ _ _ _ (at-members-test .members-test .taken) (at-if1 .if1 .left)
-    (at-act .act .ensures) ∙ at-loop .loop .inv .2 ∙ run-done _ _ _ _ _ (c .if3 .taken))
-
-returns-3 : tie.Need-returns-3 Inv-loop μ-loop Inv-members μ-members
-returns-3 c =
     let at-loop = c .before .before .before .before .before in
-    let at-act = at-loop .before .before .before in
-    let at-if1 = at-act .before .before in
-    let at-members-test = at-if1 .before .before in
-    let at-members = at-members-test .before in
-    sym (at-members .members .inv .1 ∙ run-on _ _ _ _ _ _ _ (at-members-test .members-test .taken) (at-if1 .if1 .left)
-    (at-act .act .ensures) ∙ at-loop .loop .inv .2 ∙ run-spent _ _ _ _ _ (c .if4 .taken))
+    let at-members = at-loop .before .before in
+    sym (at-members .members .inv .1 ∙ at-loop .loop .inv .2 ∙ run-spent _ _ _ _ _ (c .if3 .taken))
 
-members-again-2 : tie.Need-members-again-2 Inv-loop μ-loop Inv-members μ-members
-members-again-2 c =
-    let at-act2 = c .before .before .before .before in
-    let at-if4 = at-act2 .before .before in
-    let at-if3 = at-if4 .before in
-    let at-loop = at-if3 .before .before .before .before in
-    let at-act = at-loop .before .before .before in
-    let at-if1 = at-act .before .before in
-    let at-members-test = at-if1 .before .before in
-    let at-members = at-members-test .before in (
-      at-act2 .act2 .kept .1 .1 .0 ∙ at-loop .loop .inv .0 ∙ at-act .act .kept .1 .1 .0
-          ∙ at-members .members .inv .0,
-      at-members .members .inv .1
-          ∙ run-on _ _ _ _ _ _ _ (at-members-test .members-test .taken) (at-if1 .if1 .left) (at-act .act .ensures) ∙ at-loop .loop .inv .2
-          ∙ run-act _ _ _ _ _ _ _ (at-if4 .if4 .left) (at-if3 .if3 .left) (at-act2 .act2 .ensures),
+members-again : tie.Need-members-again Inv-loop μ-loop Inv-members μ-members
+members-again c =
+    let at-match = c .before .before .before .before in
+    let at-if3 = at-match .before .before in
+    let at-if2 = at-if3 .before in
+    let at-loop = at-if2 .before .before .before .before in
+    let at-members = at-loop .before .before in (
+      at-match .match-act .kept .1 .0 ∙ at-loop .loop .inv .0 ∙ at-members .members .inv .0,
+      at-members .members .inv .1 ∙ at-loop .loop .inv .2
+          ∙ run-act _ _ _ _ _ _ _ (at-if3 .if3 .left) (at-if2 .if2 .left) (at-match .match-act .ensures _),
     )
 
 loop-again : tie.Need-loop-again Inv-loop μ-loop Inv-members μ-members
 loop-again c =
-    let at-act2 = c .before .before .before .before in
-    let at-if4 = at-act2 .before .before in
-    let at-if3 = at-if4 .before in
-    let at-loop = at-if3 .before .before .before .before in (
+    let at-match = c .before .before .before .before in
+    let at-if3 = at-match .before .before in
+    let at-if2 = at-if3 .before in
+    let at-loop = at-if2 .before .before .before .before in (
       search needs,
       search needs,
       at-loop .loop .inv .2
-          ∙ run-act _ _ _ _ _ _ _ (at-if4 .if4 .left) (at-if3 .if3 .left) (at-act2 .act2 .ensures),
+          ∙ run-act _ _ _ _ _ _ _ (at-if3 .if3 .left) (at-if2 .if2 .left) (at-match .match-act .ensures _),
+    )
+
+returns-3 : tie.Need-returns-3 Inv-loop μ-loop Inv-members μ-members
+returns-3 c =
+    let at-loop = c .before .before .before in
+    let at-members = at-loop .before .before in
+    sym (at-members .members .inv .1 ∙ at-loop .loop .inv .2 ∙ run-spent _ _ _ _ _ (c .if5 .taken))
+
+members-again-2 : tie.Need-members-again-2 Inv-loop μ-loop Inv-members μ-members
+members-again-2 c =
+    let at-goal = c .before .before in
+    let at-if5 = at-goal .before .before in
+    let at-if1 = at-if5 .before in
+    let at-loop = at-if1 .before .before in
+    let at-members = at-loop .before .before in (
+      at-goal .goal-act .kept .1 .1 .0 ∙ at-loop .loop .inv .0 ∙ at-members .members .inv .0,
+      at-members .members .inv .1 ∙ at-loop .loop .inv .2
+          ∙ run-goal _ _ _ _ _ _ _ (at-if5 .if5 .left) (at-if1 .if1 .left) (at-goal .goal-act .ensures),
     )
 
 returns-4 : tie.Need-returns-4 Inv-loop μ-loop Inv-members μ-members
@@ -89,7 +79,7 @@ returns-4 c = sym (c .before .members .inv .1 ∙ run-end _ _ _ _ _ (c .members-
 pub run-acts-spec : {M : Type 1} → statement M
 run-acts-spec =
     tie.close
-    (tie.spec Inv-loop μ-loop Inv-members μ-members (λ c. search needs) (λ c. search needs) returns (λ c κs. search needs)
-    (λ c. search needs) (λ c. search needs) (λ c. search needs) members-again (λ c. search needs) returns-2 (λ c. search needs)
-    returns-3 (λ c κs. search needs) (λ c. search needs) (λ c. search needs) members-again-2 (λ c. search needs) loop-again
-    (λ c. search needs) returns-4)
+    (tie.spec Inv-loop μ-loop Inv-members μ-members (λ c. search needs) (λ c. search needs) (λ c. search needs) returns
+    (λ c. search needs) returns-2 (λ c κs. search needs) (λ c. search needs) (λ c. search needs) members-again
+    (λ c. search needs) loop-again (λ c. search needs) returns-3 (λ c κs. search needs) (λ c. search needs) (λ c. search needs)
+    members-again-2 (λ c. search needs) returns-4)
