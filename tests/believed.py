@@ -11,8 +11,8 @@ ROOT = os.path.join(os.path.dirname(os.path.abspath(__file__)), "..", "crates")
 STATEMENTS = [
     ("engine_spec", "Promises", ["RunContract", "AnswersAsBefore", "AnswersWithoutNumbers", "CallersTold", "ToldAgain", "Retry", "BuffersDoNotMatter"]),
     ("checker_spec", "Promises", ["CheckContract", "CallersJudged", "BuffersDoNotMatter", "OldProofsCheck"]),
-    ("engine_spec", "Orders", ["OneOutcome", "AnswersInFormerOrder"]),
-    ("checker_spec", "Orders", ["JudgedInFormerOrder"]),
+    ("engine_spec", "Orders", ["OneOutcome", "AnswersInFormerOrder", "OtherOrderLinesTurnedBack"]),
+    ("checker_spec", "Orders", ["JudgedInFormerOrder", "OtherOrderLinesTurnedBack"]),
     ("promises", "Accepted", ["RunChecks"]),
     ("engine_spec", "Handed", ["handed"]),
     ("checker_spec", "Handed", ["handed"]),

@@ -1,11 +1,16 @@
--- Request W-207 of the checker: "Places in D lines follow the order in force."
+-- Request W-207 of the checker: "Places in D lines follow the order in force"; and O lines that are refused.
 use Prim.Native.Nat.{ℕ, _≤_}
+use Prim.Native.Char.{code}
 use mathlib.Core.Path.{_≡_}
-use mathlib.Core.List.{List}
+use mathlib.Core.List.{List, _∷_, _++_}
 use lib.ListN.{length}
-use Rattle.sheet_format.specs.Limits.{maxSheetBytes}
+use Rattle.sheet_format.specs.Limits.{maxSheetBytes, tableNumbers, maxTextBytes}
+use Rattle.sheet_format.specs.Buffers.{demanded}
+use Rattle.sheet_format.specs.Bytes.{linesOf}
+use Rattle.sheet_format.specs.Sheets.{readSheet}
 use Rattle.sheet_format.specs.FormerOrder.{readFormerly, oneLineLower, withOrderLine}
-use Rattle.checker_spec.specs.CheckText.{Checked, checkTextBy, checkText, tableAfter, workAfter}
+use Rattle.sheet_format.specs.OrderLines.{OtherOrderLine, orderLineRefusal}
+use Rattle.checker_spec.specs.CheckText.{Checked, checkRefused, countLf, checkTextBy, checkText, tableAfter, workAfter}
 use Rattle.checker_spec.specs.Promises.{HandedBack, handedBack, CheckContract}
 
 -- The check before this request: every sheet is in the former order. A refusal of a line tells the next line, since `O latest` counts as
@@ -26,3 +31,14 @@ JudgedInFormerOrder =
     → CheckContract (withOrderLine bytes) text table work table′ work′ r
     → let former = formerCheck bytes text (length table) (length work) in
     (r ≡ handedBack former) × (table′ ≡ tableAfter former table) × (work′ ≡ workAfter former text work)
+
+-- "An O line elsewhere, or with another word, is refused under 6, after a Q line under 11": whatever stands before and after it, and for
+-- every text, this refusal is handed back, if refusals 1 to 5 do not arise.
+abbrev pub OtherOrderLinesTurnedBack : Type 0
+OtherOrderLinesTurnedBack =
+    (before after : List ℕ) → OtherOrderLine before after → (text table work table′ work′ : List ℕ) (r : HandedBack)
+    → CheckContract (before ++ (code "O" ∷ after)) text table work table′ work′ r
+    → length (before ++ (code "O" ∷ after)) ≤ maxSheetBytes → tableNumbers ≤ length table → length text ≤ maxTextBytes
+    → demanded (countLf text) ≤ length work
+    → let told = checkRefused (orderLineRefusal (length (linesOf before .whole)) (readSheet before)) in
+    (r ≡ handedBack told) × (table′ ≡ tableAfter told table) × (work′ ≡ workAfter told text work)

@@ -1,25 +1,30 @@
 -- Request W-207 of the run, kept: both orders have the same derivations, so that T5 under one and T7 under the other leave one outcome.
 use Prim.Native.Nat.{ℕ, _≤_, _<_}
+use Prim.Native.Char.{code}
 use mathlib.Core.Path.{_≡_, refl, sym, _∙_, ap, subst}
 use mathlib.Core.Bool.{Bool, true, false}
-use mathlib.Core.List.{List}
+use mathlib.Core.List.{List, _∷_, _++_}
 use native.Mathlib.Omega.{arith}
 use lib.Dec.{ltb}
 use lib.ListN.{length}
-use borrow.Author.Tests.{ltb-true, ltb-false, le-ltb}
+use borrow.Author.Tests.{ltb-true, ltb-false, le-ltb, ne-eqb}
 use Rattle.formulas.specs.Rules.{Order, oldest, latest}
 use Rattle.sequents.specs.Symbols.{Symbol}
 use Rattle.sequents.specs.Sequents.{Environment}
 use Rattle.sequents.specs.Derivations.{InstanceDerivation}
 use Rattle.sequents.proofs.Promises.{anyOrder}
-use Rattle.sheet_format.specs.Limits.{maxSheetBytes}
-use Rattle.sheet_format.specs.Sheets.{Sheet, rulesOf, Read, sheet, readSheet}
+use Rattle.sheet_format.specs.Limits.{maxSheetBytes, tableNumbers, maxBudget}
+use Rattle.sheet_format.specs.Buffers.{demanded}
+use Rattle.sheet_format.specs.Bytes.{linesOf}
+use Rattle.sheet_format.specs.Sheets.{Sheet, rulesOf, Refusal, turnBackIf, Read, sheet, refused, readSheet}
 use Rattle.sheet_format.specs.FormerOrder.{readFormerly, oneLineLower, inOrder, withOrderLine}
-use Rattle.sheet_format.proofs.Promises.{readsFormerOrder}
+use Rattle.sheet_format.specs.OrderLines.{orderLineRefusal}
+use Rattle.sheet_format.proofs.Promises.{readsFormerOrder, otherOrderLinesRefused}
 use Rattle.sheet_format.proofs.OrderLine.{two-sheets, line-longer}
-use Rattle.engine_spec.specs.EngineRun.{Result, engineRunBy, engineRun, tableAfter, workAfter, answerAfter}
+use Rattle.engine_spec.specs.EngineRun.{Result, turnedBack, runSheet, engineRunBy, engineRun, tableAfter, workAfter, answerAfter}
 use Rattle.engine_spec.specs.Promises.{HandedBack, handedBack, RunContract, CallerTold, CallersTold}
-use Rattle.engine_spec.specs.Orders.{OneOutcome, formerRun, RunsInFormerOrder, AnswersInFormerOrder}
+use Rattle.engine_spec.specs.Orders.{OneOutcome, formerRun, RunsInFormerOrder, AnswersInFormerOrder, OtherOrderLinesTurnedBack}
+use Rattle.engine_spec.proofs.Answered.{Passed}
 use Rattle.engine_spec.proofs.Promises.{callersTold}
 
 -- Who is told proved holds a derivation.
@@ -71,6 +76,33 @@ runsInFormerOrder bytes h budget t w a =
 pub answersInFormerOrder : AnswersInFormerOrder
 answersInFormerOrder bytes h budget table work answer table′ work′ answer′ r c =
     let e = runsInFormerOrder bytes h budget (length table) (length work) (length answer) in (
+      c .value ∙ ap handedBack e,
+      c .tableEnd ∙ ap (λ (x : Result). tableAfter x table) e,
+      c .workEnd ∙ ap (λ (x : Result). workAfter x budget work) e,
+      c .answerEnd ∙ ap (λ (x : Result). answerAfter x answer) e,
+    )
+
+-- Past refusals 1 to 5, a refusal of the reader is the run's.
+reader-refuses : (bytes : List ℕ) (budget t w a : ℕ) (f : Refusal) → Passed bytes budget t w → readSheet bytes ≡ refused f
+    → engineRun bytes budget t w a ≡ turnedBack f
+unfolding engineRun engineRunBy turnBackIf runSheet
+reader-refuses bytes budget t w a f p e =
+    rw (
+      le-ltb maxSheetBytes (length bytes) (p .sheetFits),
+      le-ltb t tableNumbers (p .tableFits),
+      ne-eqb budget 0 (λ q. let k = p .least in omega arith),
+      le-ltb maxBudget budget (p .most),
+      le-ltb w (demanded budget) (p .workFits),
+      e,
+    )
+
+-- An O line elsewhere, or with another word, is handed back as such a refusal.
+pub otherOrderLinesTurnedBack : OtherOrderLinesTurnedBack
+unfolding answerAfter
+otherOrderLinesTurnedBack before after o budget table work answer table′ work′ answer′ r c short room least most spare =
+    let e = reader-refuses (before ++ (code "O" ∷ after)) budget (length table) (length work) (length answer)
+    (orderLineRefusal (length (linesOf before .whole)) (readSheet before))
+    (record { sheetFits = short; tableFits = room; least = least; most = most; workFits = spare }) (otherOrderLinesRefused before after o) in (
       c .value ∙ ap handedBack e,
       c .tableEnd ∙ ap (λ (x : Result). tableAfter x table) e,
       c .workEnd ∙ ap (λ (x : Result). workAfter x budget work) e,

@@ -1,11 +1,16 @@
--- Request W-207 of the run: the bytes of a sheet, and the same bytes with the first line `O latest` in front.
+-- Request W-207 of the run: the bytes of a sheet, and the same bytes with the first line `O latest` in front; and other O lines.
 use Prim.Native.Nat.{ℕ, _≤_}
+use Prim.Native.Char.{code}
 use mathlib.Core.Path.{_≡_}
-use mathlib.Core.List.{List}
+use mathlib.Core.List.{List, _∷_, _++_}
 use lib.ListN.{length}
-use Rattle.sheet_format.specs.Limits.{maxSheetBytes}
+use Rattle.sheet_format.specs.Limits.{maxSheetBytes, tableNumbers, maxBudget}
+use Rattle.sheet_format.specs.Buffers.{demanded}
+use Rattle.sheet_format.specs.Bytes.{linesOf}
+use Rattle.sheet_format.specs.Sheets.{readSheet}
 use Rattle.sheet_format.specs.FormerOrder.{readFormerly, oneLineLower, withOrderLine}
-use Rattle.engine_spec.specs.EngineRun.{Result, engineRunBy, engineRun, tableAfter, workAfter, answerAfter}
+use Rattle.sheet_format.specs.OrderLines.{OtherOrderLine, orderLineRefusal}
+use Rattle.engine_spec.specs.EngineRun.{Result, turnedBack, engineRunBy, engineRun, tableAfter, workAfter, answerAfter}
 use Rattle.engine_spec.specs.Promises.{HandedBack, handedBack, RunContract}
 
 -- "No goal is told proved under one order and no under the other; a goal may be spent under one only": who is told proved or no on both
@@ -37,3 +42,15 @@ AnswersInFormerOrder =
     → let former = formerRun bytes budget (length table) (length work) (length answer) in
     (r ≡ handedBack former) × (table′ ≡ tableAfter former table) × (work′ ≡ workAfter former budget work)
     × (answer′ ≡ answerAfter former answer)
+
+-- "An O line elsewhere, or with another word, is refused under 6, after a Q line under 11": whatever stands before and after it, this
+-- refusal is handed back, and the answer buffer stays, if refusals 1 to 5 do not arise.
+abbrev pub OtherOrderLinesTurnedBack : Type 0
+OtherOrderLinesTurnedBack =
+    (before after : List ℕ) → OtherOrderLine before after
+    → (budget : ℕ) (table work answer table′ work′ answer′ : List ℕ) (r : HandedBack)
+    → RunContract (before ++ (code "O" ∷ after)) budget table work answer table′ work′ answer′ r
+    → length (before ++ (code "O" ∷ after)) ≤ maxSheetBytes → tableNumbers ≤ length table → 1 ≤ budget → budget ≤ maxBudget
+    → demanded budget ≤ length work
+    → let told = turnedBack (orderLineRefusal (length (linesOf before .whole)) (readSheet before)) in
+    (r ≡ handedBack told) × (table′ ≡ tableAfter told table) × (work′ ≡ workAfter told budget work) × (answer′ ≡ answer)

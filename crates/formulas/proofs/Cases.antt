@@ -7,7 +7,6 @@ use Rattle.terms.specs.Lists.{elem}
 use Rattle.terms.specs.Terms.{Terms, leaf, nil, cons}
 use Rattle.formulas.specs.Formulas.{Goal, atom, exists, Clause, fact, rule, both, each, freeT, freeG, freeB, freeFrom, freeVariables}
 use Rattle.formulas.specs.Members.{Member, standsFree, quantify, members}
-use Rattle.formulas.specs.Rules.{oldest, latest, joined}
 
 -- These are the predicates and the prefixes of the members, in order.
 unfoldable predicates : Clause → List ℕ
@@ -47,12 +46,3 @@ of-the-body = refl
 free : freeVariables (exists 2 (atom 0 (cons (leaf 5) (cons (leaf 2) (of 1))))) ≡ 1 ∷ 5 ∷ []
 unfolding freeVariables freeFrom freeG freeT
 free = refl
-
--- The clauses 0 and 1 of a sheet, then the assumptions 2 and 3: the default order, and that of `O latest`.
-oldest-first : joined {A = ℕ} oldest 3 (joined oldest 2 (0 ∷ 1 ∷ [])) ≡ 0 ∷ 1 ∷ 2 ∷ 3 ∷ []
-unfolding joined
-oldest-first = refl
-
-latest-first : joined {A = ℕ} latest 3 (joined latest 2 (0 ∷ 1 ∷ [])) ≡ 3 ∷ 2 ∷ 0 ∷ 1 ∷ []
-unfolding joined
-latest-first = refl

@@ -1,10 +1,20 @@
 -- Laws of `specs/Rules.antt`: what is assumed under either order.
+use Prim.Native.Nat.{ℕ}
 use mathlib.Core.Path.{_≡_, refl, sym, ap, subst}
 use mathlib.Core.List.{List, [], _∷_, _++_, map}
 use mathlib.Core.Logic.{_⊎_, inl, inr}
 use Rattle.terms.specs.Lists.{All, Mem, here, there}
 use Rattle.terms.proofs.Lists.{all-append, mem-nil, map-append}
 use Rattle.formulas.specs.Rules.{Order, oldest, latest, Rules, rules, joined, assume, mapRules}
+
+-- The clauses 0 and 1 of a sheet, then the assumptions 2 and 3: the default order, and that of `O latest`.
+oldest-first : joined {A = ℕ} oldest 3 (joined oldest 2 (0 ∷ 1 ∷ [])) ≡ 0 ∷ 1 ∷ 2 ∷ 3 ∷ []
+unfolding joined
+oldest-first = refl
+
+latest-first : joined {A = ℕ} latest 3 (joined latest 2 (0 ∷ 1 ∷ [])) ≡ 3 ∷ 2 ∷ 0 ∷ 1 ∷ []
+unfolding joined
+latest-first = refl
 
 -- Assuming goes through what is put in the place of each clause.
 pub joined-map : {A B : Type 0} (f : A → B) (o : Order) (a : A) (l : List A) → map f (joined o a l) ≡ joined o (f a) (map f l)

@@ -127,15 +127,12 @@ find-climb (suc f) n w p d l h k = go (leb (depthOf w p) d) refl (λ m q i a b. 
 
 -- The oldest is the one that all steps but one come to.
 pub oldest-climb : (n : ℕ) (w : List ℕ) (p : ℕ) → Linked (suc n) w p → oldestOf w p ≡ climb n w p
-unfolding oldestOf
-oldest-climb n w p l =
-    let d = linked-deep (suc n) w p l in
-    let z : suc n - 1 ≡ n = omega arith in
-    find-climb (depthOf w p) (suc n) w p 1 l (omega arith) (omega arith) ∙ ap (λ (k : ℕ). climb k w p) z
+unfolding Linked
+oldest-climb n w p l = l .0 .oldest
 
 -- No assumption is the oldest of none.
 pub oldest-none : (w : List ℕ) → oldestOf w 0 ≡ 0
-unfolding oldestOf assumptionField findAncestor
+unfolding assumptionField
 oldest-none w = refl
 
 -- Each is made after its parent.
@@ -199,7 +196,7 @@ oldest-first-at (suc n) w p i h = go (ltb i n) refl (λ k. oldest-first-at n w (
 -- Its first is the oldest.
 first-found : (n : ℕ) (w : List ℕ) (p : ℕ) → Linked n w p → oldestOf w p ≡ getD (oldestFirst n w p) 0 0
 unfolding Linked oldestFirst
-first-found zero w p l = ap (oldestOf w) l ∙ oldest-none w
+first-found zero w p l = ap (λ (q : ℕ). oldestOf w q) l ∙ oldest-none w
 first-found (suc n) w p l =
     let z : suc n - suc 0 ≡ n = omega arith in
     oldest-climb n w p l ∙ sym (oldest-first-at (suc n) w p 0 (omega arith) ∙ ap (λ (k : ℕ). climb k w p) z)

@@ -7,12 +7,13 @@ use mathlib.Core.List.{List, [], _∷_}
 use mathlib.Core.Logic.{_⊎_, inl}
 use lib.Dec.{eqb, leb, ltb}
 use lib.ListN.{length, getD}
-use borrow.Author.Tests.{ne-eqb}
+use borrow.Author.Tests.{eq-eqb, ne-eqb}
 use Rattle.sheet_format.specs.Limits.{numbersPerUnit}
 use Rattle.machine.specs.Fields as fields
 use Rattle.machine.specs.AssumptionChains.{assumptionField, parentOf, depthOf, jumpOf, jumpFor, putChain, stepTowards, findAncestor}
-use Rattle.machine.specs.AssumptionChains.{depthFor, oldestOf, laterOf}
+use Rattle.machine.specs.AssumptionChains.{depthFor, oldestOf, oldestFor, laterOf}
 use Rattle.machine.specs.LinkedChains.{climb, Linked}
+use Rattle.machine.specs.Words.{increment}
 use Rattle.machine.proofs.Words.{increment-small}
 use Rattle.machine.proofs.MemoryOrder.{Extends, extends-22, Grow, grow-puts}
 use Rattle.machine.proofs.AssumptionChains.{linked-deep, linked-small, climb-climb, climb-linked, climb-small}
@@ -57,6 +58,10 @@ module _ (n : ℕ) (w w′ : List ℕ) (e : Extends fields.constantLevel n w w�
   pub jump-extends : (p : ℕ) → p ≤ n → jumpOf w′ p ≡ jumpOf w p
   jump-extends p h = assumption-field-extends p fields.assumptionJump h (omega arith) (omega arith)
 
+  -- The oldest of their chains.
+  pub oldest-extends : (p : ℕ) → p ≤ n → oldestOf w′ p ≡ oldestOf w p
+  oldest-extends p h = assumption-field-extends p fields.assumptionOldest h (omega arith) (omega arith)
+
   -- What walking along the parents comes to.
   pub climb-extends : (k m p : ℕ) → p ≤ n → k ≤ m → Linked m w p → climb k w′ p ≡ climb k w p
   unfolding climb Linked
@@ -82,6 +87,7 @@ module _ (n : ℕ) (w w′ : List ℕ) (e : Extends fields.constantLevel n w w�
           few = l .0 .few;
           jumps = jump-extends p h ∙ l .0 .jumps ∙ sym (climb-extends s m (parentOf w p) (omega arith) (l .0 .few) (l .1))
               ∙ ap (climb s w′) (sym parent);
+          oldest = oldest-extends p h ∙ l .0 .oldest ∙ sym (climb-extends m (suc m) p h (omega arith) l);
         },
         subst (Linked m w′) (sym parent) (linked-extends m (parentOf w p) (omega arith) (l .1)),
       )
@@ -105,11 +111,6 @@ module _ (n : ℕ) (w w′ : List ℕ) (e : Extends fields.constantLevel n w w�
       let next = find-extends f (m - s .0) (climb (s .0) w p) d (omega arith) (climb-linked (s .0) m w p (s .1) l) in
       ap₂ (λ (x y : ℕ). cond (leb x d) p y) (depth-extends p h)
       (ap (λ (q : ℕ). findAncestor f w′ q d) (step-extends m p d h l ∙ s .2) ∙ next ∙ ap (λ (q : ℕ). findAncestor f w q d) (sym (s .2)))
-
-  -- Its oldest stays.
-  pub oldest-extends : (m p : ℕ) → p ≤ n → Linked m w p → oldestOf w′ p ≡ oldestOf w p
-  unfolding oldestOf
-  oldest-extends m p h l = ap (λ (k : ℕ). findAncestor k w′ p 1) (depth-extends p h) ∙ find-extends (depthOf w p) m p 1 h l
 
   -- What was made after one of its records stays.
   pub later-extends : (m p h : ℕ) → p ≤ n → h ≤ n → Linked m w p → laterOf w′ p h ≡ laterOf w p h
@@ -154,11 +155,20 @@ jump-for-climb n w p l = go (eqb (depthOf w p + depthOf w (jumpOf w (jumpOf w p)
         let lb = b .1 in
         (a .0 + b .0, omega arith, ap (jumpOf w) (a .2) ∙ b .2 ∙ climb-climb (a .0) (b .0) w p)
 
--- A record u that has a chain's pointer, the depth after the chain's and that jump is the latest of a longer chain.
-pub link-made : (n : ℕ) (w : List ℕ) (u p : ℕ) → Linked n w p → p ≤ u → parentOf w (suc u) ≡ p → depthOf w (suc u) ≡ suc n
-    → jumpOf w (suc u) ≡ jumpFor w p → Linked (suc n) w (suc u)
+-- Its oldest is the one that all steps come to.
+oldest-for-climb : (n : ℕ) (w : List ℕ) (u p : ℕ) → Linked n w p → u < 4294967295 → parentOf w (suc u) ≡ p
+    → oldestFor w u p ≡ climb n w (suc u)
+unfolding oldestFor climb Linked
+oldest-for-climb zero w u p l small parent = rw (eq-eqb p 0 l) (increment-small u small)
+oldest-for-climb (suc n) w u p l small parent =
+    let some = l .0 .some in
+    rw (ne-eqb p 0 (λ q. omega arith)) (l .0 .oldest ∙ ap (climb n w) (sym parent))
+
+-- A record u that has a chain's pointer, the depth after the chain's, that jump and that oldest is the latest of a longer chain.
+pub link-made : (n : ℕ) (w : List ℕ) (u p : ℕ) → Linked n w p → p ≤ u → u < 4294967295 → parentOf w (suc u) ≡ p
+    → depthOf w (suc u) ≡ suc n → jumpOf w (suc u) ≡ jumpFor w p → oldestOf w (suc u) ≡ oldestFor w u p → Linked (suc n) w (suc u)
 unfolding Linked
-link-made n w u p l h parent deep jump =
+link-made n w u p l h small parent deep jump first =
     let j = jump-for-climb n w p l in (
       record {
         some = omega arith;
@@ -167,33 +177,37 @@ link-made n w u p l h parent deep jump =
         steps = j .0;
         few = j .1;
         jumps = jump ∙ j .2 ∙ ap (climb (j .0) w) (sym parent);
+        oldest = first ∙ oldest-for-climb n w u p l small parent;
       },
       subst (Linked n w) (sym parent) l,
     )
 
--- The two fields are written in a row.
-pub put-chain-is : (w : List ℕ) (u p : ℕ)
-    → putChain w u p ≡ puts (depthFor w p ∷ jumpFor w p ∷ []) w u fields.assumptionDepth
+-- What is written.
+abbrev links : List ℕ → ℕ → ℕ → List ℕ
+links w u p = depthFor w p ∷ jumpFor w p ∷ oldestFor w u p ∷ []
+
+-- The three fields are written in a row.
+pub put-chain-is : (w : List ℕ) (u p : ℕ) → putChain w u p ≡ puts (links w u p) w u fields.assumptionDepth
 unfolding putChain puts
 put-chain-is w u p = refl
 
 -- Writing them keeps the length.
 pub length-chain : (w : List ℕ) (u p : ℕ) → length (putChain w u p) ≡ length w
 length-chain w u p =
-    ap length (put-chain-is w u p) ∙ length-puts (depthFor w p ∷ jumpFor w p ∷ []) w u fields.assumptionDepth
+    ap length (put-chain-is w u p) ∙ length-puts (links w u p) w u fields.assumptionDepth
 
 -- Other fields stay.
-pub chain-other : (w : List ℕ) (u p v g : ℕ) → g < numbersPerUnit → (g < fields.assumptionDepth ⊎ fields.variables ≤ g)
+pub chain-other : (w : List ℕ) (u p v g : ℕ) → g < numbersPerUnit → (g < fields.assumptionDepth ⊎ fields.variables < g)
     → field (putChain w u p) v g ≡ field w v g
 chain-other w u p v g h o =
     ap (λ (l : List ℕ). field l v g) (put-chain-is w u p)
-    ∙ puts-out (depthFor w p ∷ jumpFor w p ∷ []) w u fields.assumptionDepth v g (omega arith) h o
+    ∙ puts-out (links w u p) w u fields.assumptionDepth v g (omega arith) h o
 
 -- Older records and all variables stay.
 pub grow-chain : (n k : ℕ) (w : List ℕ) (u p : ℕ) → n ≤ u → Grow n k w (putChain w u p)
 grow-chain n k w u p h =
     subst (Grow n k w) (sym (put-chain-is w u p))
-    (grow-puts (depthFor w p ∷ jumpFor w p ∷ []) w n k u fields.assumptionDepth h (omega arith) (omega arith))
+    (grow-puts (links w u p) w n k u fields.assumptionDepth h (omega arith) (omega arith))
 
 -- Older chains stay.
 pub extends-chain : (n : ℕ) (w : List ℕ) (u p : ℕ) → n ≤ u → Extends fields.constantLevel n w (putChain w u p)
@@ -202,10 +216,13 @@ extends-chain n w u p h = extends-22 n w (putChain w u p) (grow-chain n 0 w u p 
 -- A record whose parent is a chain makes it longer by one.
 pub linked-chain : (n : ℕ) (w : List ℕ) (u p : ℕ) → Linked n w p → p ≤ u → u < 4294967295 → numbersPerUnit * suc u ≤ length w
     → field w u fields.assumptionNext ≡ p → Linked (suc n) (putChain w u p) (suc u)
+unfolding oldestFor
 linked-chain n w u p l h few room parent =
-    link-made n v u p (linked-extends u w v e n p h l) h (assumption-field v u fields.assumptionNext ∙ other ∙ parent)
+    link-made n v u p (linked-extends u w v e n p h l) h few (assumption-field v u fields.assumptionNext ∙ other ∙ parent)
     (assumption-field v u fields.assumptionDepth ∙ written 0 (omega arith) ∙ increment-small (depthOf w p) small ∙ ap suc deep)
     (assumption-field v u fields.assumptionJump ∙ written 1 (omega arith) ∙ sym (jump-for-extends u w v e n p h l))
+    (assumption-field v u fields.assumptionOldest ∙ written 2 (omega arith)
+    ∙ ap (λ (q : ℕ). cond (eqb p 0) (increment u) q) (sym (oldest-extends u w v e p h)))
   where
     v : List ℕ
     v = putChain w u p
@@ -222,8 +239,7 @@ linked-chain n w u p l h few room parent =
     other : field (putChain w u p) u fields.assumptionNext ≡ field w u fields.assumptionNext
     other = chain-other w u p u fields.assumptionNext (omega arith) (inl (omega arith))
 
-    written : (i : ℕ) → i < 2
-        → field (putChain w u p) u (fields.assumptionDepth + i) ≡ getD (depthFor w p ∷ jumpFor w p ∷ []) i 0
+    written : (i : ℕ) → i < 3 → field (putChain w u p) u (fields.assumptionDepth + i) ≡ getD (links w u p) i 0
     written i k =
         ap (λ (l : List ℕ). field l u (fields.assumptionDepth + i)) (put-chain-is w u p)
-        ∙ puts-at (depthFor w p ∷ jumpFor w p ∷ []) w u fields.assumptionDepth i (omega arith) (omega arith) k
+        ∙ puts-at (links w u p) w u fields.assumptionDepth i (omega arith) (omega arith) k

@@ -169,7 +169,7 @@ module _ (T : Table) where
         go : (k : ℕ) → length l ≡ k → R (oldestOf w (r .program)) k
         go zero z =
             let e : r .program ≡ 0 = subst (λ (k : ℕ). Linked k w (r .program)) z linked in
-            subst (λ (q : ℕ). R q 0) (sym (ap (oldestOf w) e ∙ oldest-none w)) (none-left (none-at p) refl)
+            subst (λ (q : ℕ). R q 0) (sym (ap (λ (q : ℕ). oldestOf w q) e ∙ oldest-none w)) (none-left (none-at p) refl)
         go (suc k) z =
             subst (λ (q : ℕ). R q (suc k)) (sym (oldest-climb k w (r .program) (subst (λ (m : ℕ). Linked m w (r .program)) z linked)))
             (oldest-at p k o (omega arith))

@@ -1,7 +1,7 @@
 -- The assumptions of a program are a chain of records, linked from the latest to the oldest. In the default order they are tried
--- oldest first (W-207), so each record has its depth, the number of assumptions from it on, and a jump to an older assumption or to the
--- end: the one of a given depth is found in a number of steps that is logarithmic in the chain's length (skew binary numbers:
--- E. W. Myers, An applicative random-access stack, 1983). A pointer is the number of a record plus 1, 0 for none.
+-- oldest first (W-207), so each record has the oldest of its chain, its depth, the number of assumptions from it on, and a jump to an
+-- older assumption or to the end: the one of a given depth is found in a number of steps that is logarithmic in the chain's length (skew
+-- binary numbers: E. W. Myers, An applicative random-access stack, 1983). A pointer is the number of a record plus 1, 0 for none.
 use Prim.Native.Nat.{ℕ, zero, suc, _+_, _-_, _*_}
 use mathlib.Core.Bool.{cond}
 use mathlib.Core.List.{List}
@@ -35,9 +35,19 @@ unfoldable pub jumpFor : List ℕ → ℕ → ℕ
 jumpFor w p =
     cond (eqb (depthOf w p + depthOf w (jumpOf w (jumpOf w p))) (2 * depthOf w (jumpOf w p))) (jumpOf w (jumpOf w p)) p
 
--- Writes the depth and the jump of record u, whose parent is p.
+-- The oldest assumption of the chain p, 0 if it has none.
+abbrev pub oldestOf : List ℕ → ℕ → ℕ
+oldestOf w p = assumptionField w p fields.assumptionOldest
+
+-- The oldest of the chain of record u, whose parent is p: the record itself, if it is the first.
+unfoldable pub oldestFor : List ℕ → ℕ → ℕ → ℕ
+oldestFor w u p = cond (eqb p 0) (increment u) (oldestOf w p)
+
+-- Writes the depth, the jump and the oldest of record u, whose parent is p.
 unfoldable pub putChain : List ℕ → ℕ → ℕ → List ℕ
-putChain w u p = putField (putField w u fields.assumptionDepth (depthFor w p)) u fields.assumptionJump (jumpFor w p)
+putChain w u p =
+    putField (putField (putField w u fields.assumptionDepth (depthFor w p)) u fields.assumptionJump (jumpFor w p)) u fields.assumptionOldest
+    (oldestFor w u p)
 
 -- One step from p towards the assumption of depth d: along the jump, unless it goes past that one; then to the parent.
 unfoldable pub stepTowards : List ℕ → ℕ → ℕ → ℕ
@@ -47,10 +57,6 @@ stepTowards w p d = cond (ltb (depthOf w (jumpOf w p)) d) (parentOf w p) (jumpOf
 unfoldable pub findAncestor : ℕ → List ℕ → ℕ → ℕ → ℕ
 findAncestor zero w p d = p
 findAncestor (suc n) w p d = cond (leb (depthOf w p) d) p (findAncestor n w (stepTowards w p d) d)
-
--- The oldest assumption of the chain p, 0 if it has none.
-unfoldable pub oldestOf : List ℕ → ℕ → ℕ
-oldestOf w p = findAncestor (depthOf w p) w p 1
 
 -- The assumption of the chain p that was made after h, 0 if h is the latest.
 unfoldable pub laterOf : List ℕ → ℕ → ℕ → ℕ

@@ -50,8 +50,8 @@ goalLevel = 34
 abbrev pub goalNext : ℕ
 goalNext = 35
 
--- Assumption: clause's node, frame, next assumption; depth and jump (AssumptionChains) have the numbers of `usePlace` and `useCount`,
--- since no act both assumes a clause and uses a member (W-207).
+-- Assumption: clause's node, frame, next assumption; depth, jump and oldest (AssumptionChains) have the numbers of `usePlace`, `useCount`
+-- and `variables`, since an act that assumes a clause uses no member, makes no variable and saves no choice point (W-207).
 abbrev pub assumptionNode : ℕ
 assumptionNode = 36
 
@@ -66,6 +66,9 @@ assumptionDepth = 41
 
 abbrev pub assumptionJump : ℕ
 assumptionJump = 42
+
+abbrev pub assumptionOldest : ℕ
+assumptionOldest = 43
 
 -- Path: line before (pointer, then which line it is), place, number of names, number of variables before this act.
 abbrev pub pathBefore : ℕ

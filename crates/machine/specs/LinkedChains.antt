@@ -16,8 +16,8 @@ unfoldable pub oldestFirst : ℕ → List ℕ → ℕ → List ℕ
 oldestFirst zero w p = []
 oldestFirst (suc n) w p = oldestFirst n w (parentOf w p) ++ (p ∷ [])
 
--- What holds of the latest record of a chain in which n records are older: they were written before it, and its jump goes to one of
--- them or to the end.
+-- What holds of the latest record of a chain in which n records are older: they were written before it, its jump goes to one of them or
+-- to the end, and its oldest is the one that n steps lead to.
 pub record Link (n : ℕ) (w : List ℕ) (p : ℕ) : Type 0 where
   pub some : 0 < p
   pub deep : depthOf w p ≡ suc n
@@ -25,8 +25,9 @@ pub record Link (n : ℕ) (w : List ℕ) (p : ℕ) : Type 0 where
   pub steps : ℕ
   pub few : steps ≤ n
   pub jumps : jumpOf w p ≡ climb steps w (parentOf w p)
+  pub oldest : oldestOf w p ≡ climb n w p
 
--- The chain p has n records, linked by parents, depths and jumps.
+-- The chain p has n records, linked by parents, depths, jumps and oldest ones.
 unfoldable pub Linked : ℕ → List ℕ → ℕ → Type 0
 Linked zero w p = p ≡ 0
 Linked (suc n) w p = Link n w p × Linked n w (parentOf w p)

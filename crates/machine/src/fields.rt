@@ -36,10 +36,13 @@ pub const ASSUMPTION_FRAME: u32 = 37;
 
 pub const ASSUMPTION_NEXT: u32 = 38;
 
-// An assumption's record is no member's use, so these share numbers with the place and the count of one.
+// An assumption's record is no member's use and no choice point, so these share numbers with the place and the count of a use and with
+// the variables before an act.
 pub const ASSUMPTION_DEPTH: u32 = 41;
 
 pub const ASSUMPTION_JUMP: u32 = 42;
+
+pub const ASSUMPTION_OLDEST: u32 = 43;
 
 pub const PATH_BEFORE: u32 = 39;
 

@@ -8,8 +8,8 @@ use memory::put_field;
 use memory::widen;
 ghost use mathlib.Core.Path.{_≡_};
 ghost use Prim.Native.Nat.{_<_, _+_};
-ghost use Rattle.machine.specs.AssumptionChains.{assumptionField, parentOf, jumpFor, putChain, stepTowards, findAncestor, oldestOf};
-ghost use Rattle.machine.specs.AssumptionChains.{laterOf};
+ghost use Rattle.machine.specs.AssumptionChains.{assumptionField, parentOf, jumpFor, putChain, stepTowards, findAncestor};
+ghost use Rattle.machine.specs.AssumptionChains.{oldestOf, oldestFor, laterOf};
 
 // Field f of the assumption that p names, 0 for none.
 fn assumption_field(w: &[u32], p: u32, f: u32) -> u32
@@ -43,14 +43,33 @@ fn jump_for(w: &[u32], p: u32) -> u32
     p
 }
 
-// Writes the depth and the jump of record u, whose parent is p.
+// The oldest assumption of the chain p, 0 if it has none.
+pub fn oldest_of(w: &[u32], p: u32) -> u32
+    ensures { λ r. ⌜ r ≡ oldestOf (now (w .entry)) p ⌝ }
+{
+    assumption_field(w, p, fields::ASSUMPTION_OLDEST)
+}
+
+// The oldest of the chain of record u, whose parent is p.
+fn oldest_for(w: &[u32], u: u32, p: u32) -> u32
+    ensures { λ r. ⌜ r ≡ oldestFor (now (w .entry)) u p ⌝ }
+{
+    if p == 0 {
+        return increment(u);
+    }
+    oldest_of(w, p)
+}
+
+// Writes the depth, the jump and the oldest of record u, whose parent is p.
 pub fn put_chain(w: &mut [u32], u: u32, p: u32)
     ensures { λ _. ⌜ now (w .exit) ≡ putChain (now (w .entry)) u p ⌝ }
 {
     let depth = increment(assumption_field(w, p, fields::ASSUMPTION_DEPTH));
     let jump = jump_for(w, p);
+    let oldest = oldest_for(w, u, p);
     put_field(w, u, fields::ASSUMPTION_DEPTH, depth);
     put_field(w, u, fields::ASSUMPTION_JUMP, jump);
+    put_field(w, u, fields::ASSUMPTION_OLDEST, oldest);
 }
 
 // One step from p towards the assumption of depth d: along the jump, unless it goes past that one.
@@ -78,13 +97,6 @@ fn find_ancestor(n: u32, w: &[u32], p: u32, d: u32) -> u32
         left -= 1;
     }
     at
-}
-
-// The oldest assumption of the chain p, 0 if it has none.
-pub fn oldest_of(w: &[u32], p: u32) -> u32
-    ensures { λ r. ⌜ r ≡ oldestOf (now (w .entry)) p ⌝ }
-{
-    find_ancestor(assumption_field(w, p, fields::ASSUMPTION_DEPTH), w, p, 1)
 }
 
 // The assumption of the chain p that was made after h, 0 if h is the latest.

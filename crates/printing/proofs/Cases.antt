@@ -16,7 +16,7 @@ use Rattle.machine.specs.Frames.{copyFrame, putVariable, putFresh, putVariables
 use Rattle.machine.specs.ChoicePoints.{saveChoice, resumeGoal, resumeMember, resumeBranch, resume, backtrack, failed}
 use Rattle.machine.specs.Goals.{dueGoal, proceed, membersLeft, tryFrom, takeAtom, takeTrue, takeAnd, rightBranch, takeOr, takeImplies}
 use Rattle.machine.specs.Goals.{takeExists, putConstant, takeForall, takeGoal, afterSheet, fromClause, firstMember}
-use Rattle.machine.specs.AssumptionChains.{assumptionField, jumpFor, putChain, stepTowards, findAncestor, oldestOf, laterOf}
+use Rattle.machine.specs.AssumptionChains.{assumptionField, jumpFor, putChain, stepTowards, findAncestor, oldestFor, laterOf}
 use Rattle.machine.specs.Matching.{positionWord, pairsFrom, nodesFrom, argumentWord, pairsAfter, duePairs, compareClosures, compareLeaves}
 use Rattle.machine.specs.Matching.{compareWords, leftWord, rightWord, compareSides, comparePair, bindValue, passNode, visitVariable}
 use Rattle.machine.specs.Matching.{visitConstant, visitClosure, visitWord, dueWord, nodesAfter, checkWord, checkNode}
@@ -51,7 +51,7 @@ unfolding field putField cellOf levelOf putCell putLevel putEntry putGoal putAss
     comparePair bindValue passNode visitVariable visitConstant visitClosure visitWord dueWord checkWord checkNode clauseOf clauseFrame
     nextClause nextMember putPrefix saveAlternative putBody putTry tried tryMember tryFound tryNext dueAct act runActs startMemory
     startRegisters runMachine kindOf childCount labelOf childOf infoOf packInfo maskOf goalBit membersOf sizeOf bitOf nameStart nameLength
-    isFunctionBit arityOf clauseNode orderNumber assumptionField jumpFor putChain stepTowards findAncestor oldestOf laterOf afterSheet
+    isFunctionBit arityOf clauseNode orderNumber assumptionField jumpFor putChain stepTowards findAncestor oldestFor laterOf afterSheet
     fromClause firstMember afterAssumption emit writeBytes copyBytes writeDigits writeNumber writeSymbol withPosition withVariables
     withConstants wrote numberVariable numberConstant writeVariable writeConstant emitTo writeName writeFunctor separator argumentsBy
     bracketedBy applicationBy wordBy writeTerm termTo bytesTo numberTo resultTo plainBytes termLine bindingsTo prefixTo clauseTo lineTo

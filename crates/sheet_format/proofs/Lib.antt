@@ -16,4 +16,5 @@ pub mod Forms
 pub mod FormerNames
 pub mod FormerLines
 pub mod OrderLine
+pub mod OtherOrderLines
 pub mod Promises

@@ -15,7 +15,7 @@ use Rattle.sheet_format.specs.SheetLines.{lineOf, ofFields, parseLine}
 use Rattle.sheet_format.specs.Sheets.{Sheet, Form, refusal, Read, sheet, refused, Table, Taken, next, stop, last, takeLine, atEnd}
 use Rattle.sheet_format.specs.Sheets.{afterGoal, readFrom, emptyTable, orderLine, readLines, readSheetBy, sheetForm, readSheet}
 use Rattle.sheet_format.specs.FormerOrder.{readFormerly, oneLineLower, inOrder, withOrderLine}
-use Rattle.sheet_format.specs.Promises.{ReadsFormerOrder, SameSheetInBothOrders, OrderInForce, OrderLineOnce, NoOtherOrderLine}
+use Rattle.sheet_format.specs.Promises.{ReadsFormerOrder, SameSheetInBothOrders, OrderInForce}
 use Rattle.sheet_format.proofs.Bytes.{same-equal}
 
 -- one line lower
@@ -255,12 +255,13 @@ letter-none [] = refl
 letter-none ([] ∷ fs) = refl
 letter-none ((d ∷ ds) ∷ fs) = refl
 
-pub no-other-order-line : NoOtherOrderLine
+-- So no line does that begins with this letter.
+pub no-other-order-line : (l : List ℕ) → parseLine (code "O" ∷ l) ≡ none
 unfolding parseLine fields
 no-other-order-line l = letter-none (fields l)
 
--- The line is malformed where it is no first line.
-pub order-line-once : OrderLineOnce
+-- A second such line is refused.
+order-line-once : (rest : List ℕ) → readSheet (withOrderLine (withOrderLine rest)) ≡ refused (refusal 6 2)
 unfolding readFrom takeLine parseLine ofFields lineOf fields extendField ascii linesOf extendLine sheetForm
 order-line-once rest = front-line (withOrderLine rest)
 

@@ -1,7 +1,7 @@
 -- The promises of `specs/Promises.antt`, kept. Those of requests W-201 and W-204 are kept in FormerNames and FormerLines.
-use Rattle.sheet_format.specs.Promises.{ReadsFormerOrder, SameSheetInBothOrders, OrderInForce, OrderLineOnce, NoOtherOrderLine}
-use Rattle.sheet_format.proofs.OrderLine.{reads-former-order, same-in-both-orders, order-in-force, order-line-once}
-use Rattle.sheet_format.proofs.OrderLine.{no-other-order-line}
+use Rattle.sheet_format.specs.Promises.{ReadsFormerOrder, SameSheetInBothOrders, OrderInForce, OtherOrderLinesRefused}
+use Rattle.sheet_format.proofs.OrderLine.{reads-former-order, same-in-both-orders, order-in-force}
+use Rattle.sheet_format.proofs.OtherOrderLines.{other-order-lines}
 
 -- With the line `O latest` in front, bytes are read as they were before, one line lower.
 pub readsFormerOrder : ReadsFormerOrder
@@ -15,10 +15,6 @@ sameSheetInBothOrders = same-in-both-orders
 pub orderInForce : OrderInForce
 orderInForce = order-in-force
 
--- A second such line is refused.
-pub orderLineOnce : OrderLineOnce
-orderLineOnce = order-line-once
-
--- Every other line that begins with the letter O is malformed.
-pub noOtherOrderLine : NoOtherOrderLine
-noOtherOrderLine = no-other-order-line
+-- An O line elsewhere, or with another word, is refused under 6, after a Q line under 11.
+pub otherOrderLinesRefused : OtherOrderLinesRefused
+otherOrderLinesRefused = other-order-lines

@@ -8,4 +8,5 @@ pub mod Sheets
 pub mod FormerNames
 pub mod FormerLines
 pub mod FormerOrder
+pub mod OrderLines
 pub mod Promises

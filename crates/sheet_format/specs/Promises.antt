@@ -1,16 +1,17 @@
 -- Requests W-201, W-204 and W-207 of the reader.
 use mathlib.Core.Path.{_≡_}
 use mathlib.Core.Logic.{_↔_}
-use mathlib.Core.List.{List, _∷_}
-use mathlib.Core.Option.{none}
+use mathlib.Core.List.{List, _∷_, _++_}
 use Prim.Native.Nat.{ℕ}
 use Prim.Native.Char.{code}
+use lib.ListN.{length}
 use Rattle.formulas.specs.Rules.{oldest, latest}
-use Rattle.sheet_format.specs.SheetLines.{parseLine}
-use Rattle.sheet_format.specs.Sheets.{Sheet, refusal, sheet, refused, readSheetBy, readSheet}
+use Rattle.sheet_format.specs.Bytes.{linesOf}
+use Rattle.sheet_format.specs.Sheets.{Sheet, sheet, refused, readSheetBy, readSheet}
 use Rattle.sheet_format.specs.FormerNames.{formerForm, NamesInSmallLetters}
 use Rattle.sheet_format.specs.FormerLines.{formWithoutNumbers, WithoutNumberLines}
 use Rattle.sheet_format.specs.FormerOrder.{readFormerly, oneLineLower, inOrder, withOrderLine}
+use Rattle.sheet_format.specs.OrderLines.{OtherOrderLine, orderLineRefusal}
 
 -- W-201: a sheet with names all in small letters is read as before, and what is no sheet is refused as before.
 abbrev pub ReadsAsBefore : Type 0
@@ -34,10 +35,7 @@ abbrev pub OrderInForce : Type 0
 OrderInForce = (bytes : List ℕ) (s : Sheet) → readSheet bytes ≡ sheet s
     → (s .order ≡ latest) ↔ ((rest : List ℕ) × (bytes ≡ withOrderLine rest))
 
--- W-207: a second such line is refused.
-abbrev pub OrderLineOnce : Type 0
-OrderLineOnce = (rest : List ℕ) → readSheet (withOrderLine (withOrderLine rest)) ≡ refused (refusal 6 2)
-
--- W-207: wherever else a line that begins with the letter O is read, it is malformed, which is refusal 6.
-abbrev pub NoOtherOrderLine : Type 0
-NoOtherOrderLine = (l : List ℕ) → parseLine (code "O" ∷ l) ≡ none
+-- W-207: an O line elsewhere, or with another word, is refused under 6, after a Q line under 11, whatever stands before and after it.
+abbrev pub OtherOrderLinesRefused : Type 0
+OtherOrderLinesRefused = (before after : List ℕ) → OtherOrderLine before after
+    → readSheet (before ++ (code "O" ∷ after)) ≡ refused (orderLineRefusal (length (linesOf before .whole)) (readSheet before))

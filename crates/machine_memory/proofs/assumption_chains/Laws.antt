@@ -8,6 +8,7 @@ use lib.Dec.{eqb}
 use borrow.Author.Tests.{lt-ltb, le-ltb, le-leb, lt-leb, eq-eqb, ne-eqb}
 use Rattle.machine.specs.Words.{increment}
 use Rattle.machine.specs.AssumptionChains.{parentOf, depthOf, jumpOf, jumpFor, putChain, stepTowards, findAncestor, laterOf}
+use Rattle.machine.specs.AssumptionChains.{oldestOf, oldestFor}
 use Rattle.machine.specs.Fields as fields
 use Rattle.memory.specs.Records.{putField}
 
@@ -26,10 +27,20 @@ module _ (w : List ℕ) (p j k : ℕ) (ej : j ≡ jumpOf w p) (ek : k ≡ jumpOf
     unfolding jumpFor
     jump-for-near h = rw (jump-test, ne-eqb (a′ + b′) (2 * m′) h) refl
 
-pub put-chain-made : (w w₁ w₂ : List ℕ) (u p n d j : ℕ) → n ≡ depthOf w p → d ≡ increment n → j ≡ jumpFor w p
-    → w₁ ≡ putField w u fields.assumptionDepth d → w₂ ≡ putField w₁ u fields.assumptionJump j → w₂ ≡ putChain w u p
+-- The oldest of a new record's chain.
+pub oldest-for-first : (w : List ℕ) (u p r : ℕ) → p ≡ 0 → r ≡ increment u → r ≡ oldestFor w u p
+unfolding oldestFor
+oldest-for-first w u p r h e = rw (eq-eqb p 0 h) e
+
+pub oldest-for-later : (w : List ℕ) (u p r : ℕ) → (p ≡ 0 → ⊥) → r ≡ oldestOf w p → r ≡ oldestFor w u p
+unfolding oldestFor
+oldest-for-later w u p r h e = rw (ne-eqb p 0 h) e
+
+pub put-chain-made : (w w₁ w₂ w₃ : List ℕ) (u p n d j o : ℕ) → n ≡ depthOf w p → d ≡ increment n → j ≡ jumpFor w p → o ≡ oldestFor w u p
+    → w₁ ≡ putField w u fields.assumptionDepth d → w₂ ≡ putField w₁ u fields.assumptionJump j
+    → w₃ ≡ putField w₂ u fields.assumptionOldest o → w₃ ≡ putChain w u p
 unfolding putChain
-put-chain-made w w₁ w₂ u p n d j en ed ej e₁ e₂ = rw (← en, ← ed, ← ej, ← e₁) e₂
+put-chain-made w w₁ w₂ w₃ u p n d j o en ed ej eo e₁ e₂ e₃ = rw (← en, ← ed, ← ej, ← eo, ← e₁, ← e₂) e₃
 
 -- A step towards a depth.
 pub step-towards-parent : (w : List ℕ) (p d j n r : ℕ) → j ≡ jumpOf w p → n ≡ depthOf w j → n < d → r ≡ parentOf w p

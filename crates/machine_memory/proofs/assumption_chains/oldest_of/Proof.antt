@@ -1,12 +1,9 @@
-use Rattle.machine.specs.AssumptionChains.{oldestOf}
 use borrow.Author.Needs.{needs}
 use Rattle.machine_memory.proofs.assumption_chains.oldest_of.Statement.{statement}
 use Rattle.machine_memory.proofs.assumption_chains.oldest_of.Tie as tie
 
 returns : tie.Need-returns
-unfolding oldestOf
-returns c =
-    simp (oldestOf, ← c .find-ancestor .ensures, ← c .before .assumption-field .ensures)
+returns c = c .assumption-field .ensures
 
 pub oldest-of-spec : {M : Type 1} → statement M
-oldest-of-spec = tie.close (tie.spec (λ c κs. search needs) (λ c κs. search needs) returns)
+oldest-of-spec = tie.close (tie.spec (λ c κs. search needs) returns)
