@@ -15,7 +15,7 @@ use Rattle.sheet_format.specs.OrderLines.{orderLineRefusal}
 use Rattle.sheet_format.proofs.Promises.{readsFormerOrder, otherOrderLinesRefused}
 use Rattle.sheet_format.proofs.OrderLine.{line-longer}
 use Rattle.checker_spec.specs.CheckText.{Checked, checkRefused, countLf, checkSheet, checkText, tableAfter, workAfter}
-use Rattle.checker_spec.specs.Promises.{HandedBack, handedBack, CheckContract}
+use Rattle.checker_spec.specs.Promises.{handedBack}
 use Rattle.checker_spec.specs.Orders.{formerCheck, ChecksInFormerOrder, JudgedInFormerOrder, OtherOrderLinesTurnedBack}
 use Rattle.checker_spec.proofs.Passed.{Passed, passed-checks}
 

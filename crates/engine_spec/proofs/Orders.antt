@@ -1,5 +1,5 @@
 -- Request W-207 of the run, kept: both orders have the same derivations, so that T5 under one and T7 under the other leave one outcome.
-use Prim.Native.Nat.{ℕ, _≤_, _<_}
+use Prim.Native.Nat.{ℕ, _≤_}
 use Prim.Native.Char.{code}
 use mathlib.Core.Path.{_≡_, refl, sym, _∙_, ap, subst}
 use mathlib.Core.Bool.{Bool, true, false}
@@ -8,7 +8,7 @@ use native.Mathlib.Omega.{arith}
 use lib.Dec.{ltb}
 use lib.ListN.{length}
 use borrow.Author.Tests.{ltb-true, ltb-false, le-ltb, ne-eqb}
-use Rattle.formulas.specs.Rules.{Order, oldest, latest}
+use Rattle.formulas.specs.Rules.{oldest, latest}
 use Rattle.sequents.specs.Symbols.{Symbol}
 use Rattle.sequents.specs.Sequents.{Environment}
 use Rattle.sequents.specs.Derivations.{InstanceDerivation}
@@ -16,13 +16,13 @@ use Rattle.sequents.proofs.Promises.{anyOrder}
 use Rattle.sheet_format.specs.Limits.{maxSheetBytes, tableNumbers, maxBudget}
 use Rattle.sheet_format.specs.Buffers.{demanded}
 use Rattle.sheet_format.specs.Bytes.{linesOf}
-use Rattle.sheet_format.specs.Sheets.{Sheet, rulesOf, Refusal, turnBackIf, Read, sheet, refused, readSheet}
-use Rattle.sheet_format.specs.FormerOrder.{readFormerly, oneLineLower, inOrder, withOrderLine}
+use Rattle.sheet_format.specs.Sheets.{Sheet, rulesOf, Refusal, turnBackIf, sheet, refused, readSheet}
+use Rattle.sheet_format.specs.FormerOrder.{inOrder, withOrderLine}
 use Rattle.sheet_format.specs.OrderLines.{orderLineRefusal}
 use Rattle.sheet_format.proofs.Promises.{readsFormerOrder, otherOrderLinesRefused}
 use Rattle.sheet_format.proofs.OrderLine.{two-sheets, line-longer}
 use Rattle.engine_spec.specs.EngineRun.{Result, turnedBack, runSheet, engineRunBy, engineRun, tableAfter, workAfter, answerAfter}
-use Rattle.engine_spec.specs.Promises.{HandedBack, handedBack, RunContract, CallerTold, CallersTold}
+use Rattle.engine_spec.specs.Promises.{HandedBack, handedBack, CallerTold}
 use Rattle.engine_spec.specs.Orders.{OneOutcome, formerRun, RunsInFormerOrder, AnswersInFormerOrder, OtherOrderLinesTurnedBack}
 use Rattle.engine_spec.proofs.Answered.{Passed}
 use Rattle.engine_spec.proofs.Promises.{callersTold}

@@ -50,12 +50,6 @@ climb-small (suc k) zero w p h l = absurd (omega arith)
 climb-small (suc k) (suc n) w p h l =
     let i = climb-small k n w (parentOf w p) (omega arith) (l .1) in let e = l .0 .earlier in omega arith
 
--- A parent is no step away, at the end, or one.
-pub parent-climb : (n : ℕ) (w : List ℕ) (p : ℕ) → Linked n w p → (s : ℕ) × (s ≤ n) × (parentOf w p ≡ climb s w p)
-unfolding Linked climb assumptionField
-parent-climb zero w p h = (0, omega arith, subst (λ (q : ℕ). assumptionField w q fields.assumptionNext ≡ q) (sym h) refl)
-parent-climb (suc n) w p h = (1, omega arith, refl)
-
 -- A jump goes some steps along the parents.
 pub jump-climb : (n : ℕ) (w : List ℕ) (p : ℕ) → Linked n w p → (s : ℕ) × (s ≤ n) × (jumpOf w p ≡ climb s w p)
 unfolding Linked climb assumptionField

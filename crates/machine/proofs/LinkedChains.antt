@@ -2,22 +2,22 @@
 use Prim.Native.Nat.{ℕ, zero, suc, _+_, _-_, _*_, _≤_, _<_}
 use native.Mathlib.Omega.{arith}
 use mathlib.Core.Bool.{Bool, true, false, cond}
-use mathlib.Core.Path.{_≡_, refl, sym, _∙_, ap, ap₂, subst}
+use mathlib.Core.Path.{_≡_, refl, sym, _∙_, ap, subst}
 use mathlib.Core.List.{List, [], _∷_}
 use mathlib.Core.Logic.{_⊎_, inl}
-use lib.Dec.{eqb, leb, ltb}
+use lib.Dec.{eqb}
 use lib.ListN.{length, getD}
 use borrow.Author.Tests.{eq-eqb, ne-eqb}
 use Rattle.sheet_format.specs.Limits.{numbersPerUnit}
 use Rattle.machine.specs.Fields as fields
-use Rattle.machine.specs.AssumptionChains.{assumptionField, parentOf, depthOf, jumpOf, jumpFor, putChain, stepTowards, findAncestor}
-use Rattle.machine.specs.AssumptionChains.{depthFor, oldestOf, oldestFor, laterOf}
+use Rattle.machine.specs.AssumptionChains.{assumptionField, parentOf, depthOf, depthFor, jumpOf, jumpFor, oldestOf, oldestFor}
+use Rattle.machine.specs.AssumptionChains.{putChain}
 use Rattle.machine.specs.LinkedChains.{climb, Linked}
 use Rattle.machine.specs.Words.{increment}
 use Rattle.machine.proofs.Words.{increment-small}
 use Rattle.machine.proofs.MemoryOrder.{Extends, extends-22, Grow, grow-puts}
 use Rattle.machine.proofs.AssumptionChains.{linked-deep, linked-small, climb-climb, climb-linked, climb-small}
-use Rattle.machine.proofs.AssumptionChains.{parent-climb, jump-climb}
+use Rattle.machine.proofs.AssumptionChains.{jump-climb}
 use Rattle.memory.proofs.Records.{puts, puts-at, puts-out, length-puts}
 use Rattle.memory.specs.Records.{field}
 
@@ -27,15 +27,6 @@ unfolding assumptionField
 assumption-field w u f = let z : suc u - 1 ≡ u = omega arith in rw (ne-eqb (suc u) 0 (λ q. omega arith), z) refl
 
 -- Older chains
-
--- A step towards some depth goes some steps along the parents.
-step-some : (m : ℕ) (w : List ℕ) (p d : ℕ) → Linked m w p → (s : ℕ) × (s ≤ m) × (stepTowards w p d ≡ climb s w p)
-unfolding stepTowards
-step-some m w p d l = go (ltb (depthOf w (jumpOf w p)) d)
-  where
-    go : (b : Bool) → (s : ℕ) × (s ≤ m) × (cond b (parentOf w p) (jumpOf w p) ≡ climb s w p)
-    go true = parent-climb m w p l
-    go false = jump-climb m w p l
 
 module _ (n : ℕ) (w w′ : List ℕ) (e : Extends fields.constantLevel n w w′) where
   -- An act that leaves the records below n leaves the fields of their assumptions.
@@ -91,33 +82,6 @@ module _ (n : ℕ) (w w′ : List ℕ) (e : Extends fields.constantLevel n w w�
         },
         subst (Linked m w′) (sym parent) (linked-extends m (parentOf w p) (omega arith) (l .1)),
       )
-
-  -- A step on it stays.
-  step-extends : (m p d : ℕ) → p ≤ n → Linked m w p → stepTowards w′ p d ≡ stepTowards w p d
-  unfolding stepTowards
-  step-extends m p d h l =
-      let j = jump-climb m w p l in
-      let b = climb-small (j .0) m w p (j .1) l in
-      let i : jumpOf w p ≤ n = subst (λ (q : ℕ). q ≤ n) (sym (j .2)) (omega arith) in
-      rw (jump-extends p h, parent-extends p h, depth-extends (jumpOf w p) i) refl
-
-  -- What is found on it stays.
-  pub find-extends : (f m p d : ℕ) → p ≤ n → Linked m w p → findAncestor f w′ p d ≡ findAncestor f w p d
-  unfolding findAncestor
-  find-extends zero m p d h l = refl
-  find-extends (suc f) m p d h l =
-      let s = step-some m w p d l in
-      let b = climb-small (s .0) m w p (s .1) l in
-      let next = find-extends f (m - s .0) (climb (s .0) w p) d (omega arith) (climb-linked (s .0) m w p (s .1) l) in
-      ap₂ (λ (x y : ℕ). cond (leb x d) p y) (depth-extends p h)
-      (ap (λ (q : ℕ). findAncestor f w′ q d) (step-extends m p d h l ∙ s .2) ∙ next ∙ ap (λ (q : ℕ). findAncestor f w q d) (sym (s .2)))
-
-  -- What was made after one of its records stays.
-  pub later-extends : (m p h : ℕ) → p ≤ n → h ≤ n → Linked m w p → laterOf w′ p h ≡ laterOf w p h
-  unfolding laterOf
-  later-extends m p h i j l =
-      ap₂ (λ (x y : ℕ). cond (ltb x y) (findAncestor y w′ p (x + 1)) 0) (depth-extends h j) (depth-extends p i)
-      ∙ ap (λ (q : ℕ). cond (ltb (depthOf w h) (depthOf w p)) q 0) (find-extends (depthOf w p) m p (depthOf w h + 1) i l)
 
   -- The jump of a record that is linked to it stays.
   pub jump-for-extends : (m p : ℕ) → p ≤ n → Linked m w p → jumpFor w′ p ≡ jumpFor w p

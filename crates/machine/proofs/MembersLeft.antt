@@ -13,7 +13,6 @@ use Rattle.formulas.specs.Rules.{Order, oldest, latest, rules, joined, assume}
 use Rattle.sequents.specs.Sequents.{Environment, Program, Hypothesis, hypothesis, Entry, entry, entriesOf, entries}
 use Rattle.unification.specs.Store.{Leaf}
 use Rattle.search.specs.Search.{startEnvironment}
-use Rattle.sheet_format.specs.Limits.{maxNodes}
 use Rattle.node_table.specs.Layout.{clauseNode, membersOf, orderNumber}
 use Rattle.node_table.specs.Decoding.{clauseAtNode, clausesFrom, orderOf}
 use Rattle.machine.specs.declared.Registers.{Registers}

@@ -255,7 +255,7 @@ letter-none [] = refl
 letter-none ([] ∷ fs) = refl
 letter-none ((d ∷ ds) ∷ fs) = refl
 
--- So no line does that begins with this letter.
+-- No line that begins with this letter is a line of a sheet.
 pub no-other-order-line : (l : List ℕ) → parseLine (code "O" ∷ l) ≡ none
 unfolding parseLine fields
 no-other-order-line l = letter-none (fields l)

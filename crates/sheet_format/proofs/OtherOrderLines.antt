@@ -5,15 +5,15 @@ use mathlib.Core.Path.{_≡_, refl, sym, _∙_, ap}
 use mathlib.Core.Bool.{Bool, true, false, cond}
 use mathlib.Core.List.{List, [], _∷_, _++_}
 use mathlib.Core.Option.{none}
-use lib.Dec.{eqb, ltb}
+use lib.Dec.{eqb}
 use lib.ListN.{length}
 use borrow.Author.Tests.{lt-ltb, le-ltb}
 use native.Mathlib.Omega.{arith}
 use Rattle.formulas.specs.Rules.{Order, oldest, latest}
 use Rattle.sheet_format.specs.Bytes.{lf, SplitLines, extendLine, linesOf, sameBytes}
-use Rattle.sheet_format.specs.Sheets.{Sheet, Form, Refusal, refusal, Read, sheet, refused, Table, Taken, next, stop, last, takeLine}
+use Rattle.sheet_format.specs.Sheets.{Sheet, Form, Refusal, refusal, refused, Table, Taken, next, stop, last, takeLine}
 use Rattle.sheet_format.specs.Sheets.{atEnd, afterGoal, readFrom, emptyTable, orderLine, readLines, readSheetBy, sheetForm, readSheet}
-use Rattle.sheet_format.specs.OrderLines.{OtherOrderLine, orderLineRefusal}
+use Rattle.sheet_format.specs.OrderLines.{orderLineRefusal}
 use Rattle.sheet_format.specs.Promises.{OtherOrderLinesRefused}
 use Rattle.sheet_format.proofs.OrderLine.{other-front, no-other-order-line}
 
