@@ -178,6 +178,14 @@ pub fn member(t: &[u32], n: u32, k: u32) -> Found
     find_member(limits::MAX_NODES, t, n, k)
 }
 
+// The leaf of member k of the clause at node n.
+pub fn member_leaf(t: &[u32], n: u32, k: u32) -> u32
+    ensures { λ r. ⌜ r ≡ member (now (t .entry)) n k .leaf ⌝ }
+{
+    let m = member(t, n, k);
+    m.leaf
+}
+
 // The node of a member's head; an implication has a body.
 pub fn head_of(t: &[u32], n: u32) -> u32
     ensures { λ r. ⌜ r ≡ headOf (now (t .entry)) n ⌝ }
