@@ -5,7 +5,7 @@ use machine::Registers;
 use machine::fields;
 use machine::lines;
 use machine::modes;
-use machine_memory::choice_points::failed;
+use machine_memory::choice_points::fail;
 use machine_memory::records::put_path;
 use machine_memory::registers::with_goal;
 use machine_memory::registers::with_goals;
@@ -14,8 +14,11 @@ use machine_memory::registers::with_path;
 use machine_memory::words::increment;
 use memory::field;
 ghost use mathlib.Core.Path.{_≡_};
+ghost use mathlib.Core.List.{List};
+ghost use Prim.Native.Nat.{ℕ};
 ghost use Rattle.machine.specs.Records.{made};
 ghost use Rattle.machine.specs.Goals.{dueGoal, proceed, membersLeft, tryFrom, takeAtom, takeTrue};
+ghost use Rattle.machine_memory.specs.Settling.{settled};
 
 // The goal that waits in record q is due.
 pub fn due_goal(w: &[u32], r: Registers, q: u32) -> Registers
@@ -53,20 +56,20 @@ pub fn members_left(c: u32, r: Registers) -> bool
 }
 
 // That member is due.
-pub fn try_from(c: u32, w: &mut [u32], r: Registers) -> Registers
-    ensures { λ s. ⌜ made (now (w .exit)) s ≡ tryFrom c (now (w .entry)) r ⌝ }
+pub fn try_from(c: u32, r: Registers) -> Registers
+    ensures { λ s. ⌜ ((w : List ℕ) → settled w s ≡ tryFrom c w r) ⌝ }
 {
     if members_left(c, r) {
         return with_mode(r, modes::TRY);
     }
-    failed(w, r)
+    fail(r)
 }
 
 // An atom: members in turn.
-pub fn take_atom(t: &[u32], c: u32, w: &mut [u32], r: Registers) -> Registers
-    ensures { λ s. ⌜ made (now (w .exit)) s ≡ takeAtom (now (t .entry)) c (now (w .entry)) r ⌝ }
+pub fn take_atom(t: &[u32], c: u32, w: &[u32], r: Registers) -> Registers
+    ensures { λ s. ⌜ settled (now (w .entry)) s ≡ takeAtom (now (t .entry)) c (now (w .entry)) r ⌝ }
 {
-    try_from(c, w, first_member(t, c, w, r))
+    try_from(c, first_member(t, c, w, r))
 }
 
 // Y: nothing.

@@ -15,12 +15,12 @@ use node_table::kinds;
 use quantifiers::take_exists;
 use quantifiers::take_forall;
 ghost use mathlib.Core.Path.{_≡_};
-ghost use Rattle.machine.specs.Records.{made};
 ghost use Rattle.machine.specs.Goals.{takeGoal};
+ghost use Rattle.machine_memory.specs.Settling.{settled};
 
 // By the kind of the goal's node.
 pub fn take_goal(t: &[u32], c: u32, w: &mut [u32], r: Registers) -> Registers
-    ensures { λ s. ⌜ made (now (w .exit)) s ≡ takeGoal (now (t .entry)) c (now (w .entry)) r ⌝ }
+    ensures { λ s. ⌜ settled (now (w .exit)) s ≡ takeGoal (now (t .entry)) c (now (w .entry)) r ⌝ }
 {
     let sort = kind(t, r.node);
     match sort {

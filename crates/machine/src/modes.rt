@@ -11,3 +11,6 @@ pub const CHECK: u32 = 3;
 pub const PROVED: u32 = 4;
 
 pub const NO: u32 = 5;
+
+// A failure that the loop over acts has yet to settle: a mode of the code alone, which no definition has.
+pub const FAILED: u32 = 6;

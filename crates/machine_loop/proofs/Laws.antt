@@ -2,12 +2,16 @@
 use Prim.Native.Nat.{ℕ, zero, suc, _-_, _≤_, _<_}
 use native.Mathlib.Numerals.{sub-one}
 use native.Mathlib.Omega.{arith}
-use mathlib.Core.Path.{_≡_, refl}
+use mathlib.Core.Path.{_≡_, refl, _∙_}
 use mathlib.Core.List.{List}
 use borrow.Author.Tests.{lt-ltb, le-ltb}
 use Rattle.machine.specs.declared.Registers.{Registers}
 use Rattle.machine.specs.Records.{made}
-use Rattle.machine.specs.Machine.{act, runActs}
+use Rattle.machine.specs.RegisterUpdates.{withActs}
+use Rattle.machine.specs.Words.{increment}
+use Rattle.machine.specs.Machine.{dueAct, act, runActs}
+use Rattle.machine_memory.specs.Settling.{failedMode, settled}
+use Rattle.machine_memory.proofs.Settling.{settled-kept, settled-counted}
 
 module _ (t : List ℕ) (c : ℕ) (w : List ℕ) (r : Registers) where
   -- A verdict.
@@ -24,21 +28,39 @@ module _ (t : List ℕ) (c : ℕ) (w : List ℕ) (r : Registers) where
   run-spent zero e = refl
   run-spent (suc n) e = absurd (omega arith)
 
-  pub run-end : (n : ℕ) → n ≤ 0 → runActs n t c w r ≡ made w r
-  run-end n h = run-spent n (omega arith)
+  -- The state, once a failure is settled.
+  pub run-settled : (n : ℕ) (w′ : List ℕ) (r′ : Registers) → made w′ r′ ≡ settled w r
+      → runActs n t c (settled w r .memory) (settled w r .registers) ≡ runActs n t c w′ r′
+  run-settled n w′ r′ e = rw (← e)
 
-  -- One act.
-  pub run-act : (n : ℕ) (w′ : List ℕ) (r′ : Registers) → (n ≡ 0 → ⊥) → r .mode ≤ 3 → made w′ r′ ≡ act t c w r
-      → runActs n t c w r ≡ runActs (n - 1) t c w′ r′
+  -- One act. What it comes to may have to be settled.
+  pub run-act : (n : ℕ) (w′ : List ℕ) (r′ : Registers) → (n ≡ 0 → ⊥) → r .mode ≤ 3 → settled w′ r′ ≡ act t c w r
+      → runActs n t c w r ≡ runActs (n - 1) t c (settled w′ r′ .memory) (settled w′ r′ .registers)
   unfolding runActs
   run-act zero w′ r′ z h e = absurd (z refl)
   run-act (suc n) w′ r′ z h e =
       let k : r .mode < 4 = omega arith in
       rw (sub-one (suc n)) (simp (runActs, lt-ltb _ _ k, ← e))
 
-  pub run-goal : (n : ℕ) (w′ : List ℕ) (r′ : Registers) → (n ≡ 0 → ⊥) → r .mode ≤ 1 → made w′ r′ ≡ act t c w r
-      → runActs n t c w r ≡ runActs (n - 1) t c w′ r′
+  pub run-goal : (n : ℕ) (w′ : List ℕ) (r′ : Registers) → (n ≡ 0 → ⊥) → r .mode ≤ 1 → settled w′ r′ ≡ act t c w r
+      → runActs n t c w r ≡ runActs (n - 1) t c (settled w′ r′ .memory) (settled w′ r′ .registers)
   run-goal n w′ r′ z h e = run-act n w′ r′ z (omega arith) e
+
+  -- One act that has not failed.
+  pub run-on : (n : ℕ) (w′ : List ℕ) (r′ : Registers) → (n ≡ 0 → ⊥) → r .mode ≤ 3 → (r′ .mode ≡ failedMode → ⊥)
+      → settled w′ r′ ≡ act t c w r → runActs n t c w r ≡ runActs (n - 1) t c w′ r′
+  run-on n w′ r′ z h k e = run-act n w′ r′ z h e ∙ rw (← settled-kept w′ r′ k)
+
+-- Nothing is to be settled at the start.
+pub run-begins : (n : ℕ) (t : List ℕ) (c : ℕ) (w : List ℕ) (r : Registers) → r .mode ≤ 3
+    → runActs n t c w r ≡ runActs n t c (settled w r .memory) (settled w r .registers)
+run-begins n t c w r h = rw (← settled-kept w r (λ e. omega (arith, h, e)))
+
+-- An act, counted.
+pub act-counted : (t : List ℕ) (c : ℕ) (w w′ : List ℕ) (r s z : Registers) (u : ℕ) → u ≡ increment (r .acts)
+    → settled w′ s ≡ dueAct t c w r → z ≡ withActs s u → settled w′ z ≡ act t c w r
+unfolding act
+act-counted t c w w′ r s z u eu es ez = rw ez (settled-counted w′ s u ∙ rw (es, eu))
 
 -- The modes, by what is asked before an act.
 module _ (m : ℕ) where

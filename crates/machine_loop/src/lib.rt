@@ -4,6 +4,7 @@ use clause_acts::backchaining::try_next;
 use goal_acts::take_goal;
 use machine::Registers;
 use machine::modes;
+use machine_memory::choice_points::settle;
 use machine_memory::frames::put_variables;
 use machine_memory::registers::with_acts;
 use machine_memory::words::increment;
@@ -17,11 +18,12 @@ ghost use Rattle.machine.specs.Records.{made};
 ghost use Rattle.machine.specs.Words.{increment};
 ghost use Rattle.machine.specs.Backchaining.{tried};
 ghost use Rattle.machine.specs.Machine.{act, runActs, startMemory, startRegisters, runMachine};
+ghost use Rattle.machine_memory.specs.Settling.{settled};
 
 // One act, counted: a goal is taken or a member tried.
 fn goal_act(t: &[u32], c: u32, w: &mut [u32], r: Registers) -> Registers
     requires { ⌜ r .mode ≤ 1 ⌝ }
-    ensures { λ s. ⌜ made (now (w .exit)) s ≡ act (now (t .entry)) c (now (w .entry)) r ⌝ }
+    ensures { λ s. ⌜ settled (now (w .exit)) s ≡ act (now (t .entry)) c (now (w .entry)) r ⌝ }
 {
     let u = increment(r.acts);
     if r.mode == modes::TAKE {
@@ -32,8 +34,8 @@ fn goal_act(t: &[u32], c: u32, w: &mut [u32], r: Registers) -> Registers
 
 // One act, counted: of an argument pair, or of a node in a range check. It does not depend on the number of clauses.
 fn match_act(t: &[u32], w: &mut [u32], r: Registers) -> Registers
-    requires { ⌜ 1 < r .mode ⌝ }
-    ensures { λ s. ⌜ ((c : ℕ) → made (now (w .exit)) s ≡ act (now (t .entry)) c (now (w .entry)) r) ⌝ }
+    requires { ⌜ (1 < r .mode) × (r .mode ≤ 3) ⌝ }
+    ensures { λ s. ⌜ ((c : ℕ) → settled (now (w .exit)) s ≡ act (now (t .entry)) c (now (w .entry)) r) ⌝ }
 {
     let u = increment(r.acts);
     if r.mode == modes::COMPARE {
@@ -44,13 +46,18 @@ fn match_act(t: &[u32], w: &mut [u32], r: Registers) -> Registers
 
 // At most n acts, each of which takes one of the units left. Members are tried in turn: the inner loop compares the argument pairs of
 // a member, and the first mismatch leaves them for the next member; then the outer loop takes a goal or tries a member. Each act has
-// one call here, so that it is compiled in place. The state between two acts is in the work buffer and the registers alone.
+// one call here, and failure is settled in one place, so that they are compiled in place. The state between two acts is in the work
+// buffer and the registers alone.
 pub fn run_acts(n: u32, t: &[u32], c: u32, w: &mut [u32], from: Registers) -> Registers
     ensures { λ s. ⌜ made (now (w .exit)) s ≡ runActs n (now (t .entry)) c (now (w .entry)) from ⌝ }
 {
+    if modes::CHECK < from.mode {
+        return from;
+    }
     let mut r = from;
     let mut left = n;
-    'members: while 0 < left {
+    'members: loop {
+        r = settle(w, r);
         while modes::TRY < r.mode {
             if modes::CHECK < r.mode {
                 return r;
@@ -60,8 +67,8 @@ pub fn run_acts(n: u32, t: &[u32], c: u32, w: &mut [u32], from: Registers) -> Re
             }
             r = match_act(t, w, r);
             left -= 1; // a pair compared, a node looked at or a binding followed
-            // A mismatch: a member is due.
-            if r.mode == modes::TRY {
+            // A mismatch: the next member is due.
+            if r.mode == modes::FAILED {
                 continue 'members;
             }
         }
@@ -71,7 +78,6 @@ pub fn run_acts(n: u32, t: &[u32], c: u32, w: &mut [u32], from: Registers) -> Re
         r = goal_act(t, c, w, r);
         left -= 1; // a goal taken or a member tried
     }
-    r
 }
 
 // The start: the eight variables of the goal's names are made, the goal is due.

@@ -9,8 +9,11 @@ use machine::fields;
 use machine::modes;
 use memory::field;
 ghost use mathlib.Core.Path.{_≡_};
+ghost use mathlib.Core.List.{List};
+ghost use Prim.Native.Nat.{ℕ};
 ghost use Rattle.machine.specs.Records.{made};
 ghost use Rattle.machine.specs.ChoicePoints.{resumeGoal, resumeMember, resumeBranch, resume, backtrack, failed};
+ghost use Rattle.machine_memory.specs.Settling.{settled};
 
 // Restores the goal or atom of the choice point in record q.
 pub fn resume_goal(w: &[u32], r: Registers, q: u32) -> Registers
@@ -45,14 +48,15 @@ pub fn resume_member(w: &[u32], r: Registers, q: u32) -> Registers
 pub fn resume_branch(w: &[u32], r: Registers, q: u32) -> Registers
     ensures { λ s. ⌜ s ≡ resumeBranch (now (w .entry)) r q ⌝ }
 {
-    let mut s = r;
-    s.next = field(w, q, fields::VARIABLES);
-    s.trail = field(w, q, fields::CHOICE_TRAIL);
-    s.choice = field(w, q, fields::CHOICE_BEFORE);
-    s.goals = field(w, q, fields::CHOICE_GOALS);
-    s.path = field(w, q, fields::CHOICE_PATH);
-    s.line = field(w, q, fields::CHOICE_LINE);
-    s
+    Registers {
+        next: field(w, q, fields::VARIABLES),
+        trail: field(w, q, fields::CHOICE_TRAIL),
+        choice: field(w, q, fields::CHOICE_BEFORE),
+        goals: field(w, q, fields::CHOICE_GOALS),
+        path: field(w, q, fields::CHOICE_PATH),
+        line: field(w, q, fields::CHOICE_LINE),
+        ..r
+    }
 }
 
 pub fn resume(w: &[u32], r: Registers, q: u32) -> Registers
@@ -81,4 +85,21 @@ pub fn failed(w: &mut [u32], r: Registers) -> Registers
         return with_mode(r, modes::NO);
     }
     backtrack(w, r, choice - 1)
+}
+
+// A failure, to be settled.
+pub fn fail(r: Registers) -> Registers
+    ensures { λ s. ⌜ ((w : List ℕ) → settled w s ≡ failed w r) ⌝ }
+{
+    with_mode(r, modes::FAILED)
+}
+
+// Goes on with the latest choice point if the registers have failed.
+pub fn settle(w: &mut [u32], r: Registers) -> Registers
+    ensures { λ s. ⌜ made (now (w .exit)) s ≡ settled (now (w .entry)) r ⌝ }
+{
+    if r.mode == modes::FAILED {
+        return failed(w, r);
+    }
+    r
 }

@@ -17,143 +17,136 @@ ghost use Rattle.machine.specs.ChoicePoints.{saveChoice};
 pub fn with_acts(r: Registers, a: u32) -> Registers
     ensures { λ s. ⌜ s ≡ withActs r a ⌝ }
 {
-    let mut s = r;
-    s.acts = a;
-    s
+    Registers { acts: a, ..r }
 }
 
 // The act that is due, or the verdict.
 pub fn with_mode(r: Registers, m: u32) -> Registers
     ensures { λ s. ⌜ s ≡ withMode r m ⌝ }
 {
-    let mut s = r;
-    s.mode = m;
-    s
+    Registers { mode: m, ..r }
 }
 
 // Variables have been made.
 pub fn with_next(r: Registers, n: u32) -> Registers
     ensures { λ s. ⌜ s ≡ withNext r n ⌝ }
 {
-    let mut s = r;
-    s.next = n;
-    s
+    Registers { next: n, ..r }
 }
 
 // The latest trail entry.
 pub fn with_trail(r: Registers, h: u32) -> Registers
     ensures { λ s. ⌜ s ≡ withTrail r h ⌝ }
 {
-    let mut s = r;
-    s.trail = h;
-    s
+    Registers { trail: h, ..r }
 }
 
 // The latest choice point.
 pub fn with_choice(r: Registers, q: u32) -> Registers
     ensures { λ s. ⌜ s ≡ withChoice r q ⌝ }
 {
-    let mut s = r;
-    s.choice = q;
-    s
+    Registers { choice: q, ..r }
 }
 
 // The goals that wait.
 pub fn with_goals(r: Registers, q: u32) -> Registers
     ensures { λ s. ⌜ s ≡ withGoals r q ⌝ }
 {
-    let mut s = r;
-    s.goals = q;
-    s
+    Registers { goals: q, ..r }
 }
 
 // The latest line of the path.
 pub fn with_path(r: Registers, p: u32, l: u32) -> Registers
     ensures { λ s. ⌜ s ≡ withPath r p l ⌝ }
 {
-    let mut s = r;
-    s.path = p;
-    s.line = l;
-    s
+    Registers {
+        path: p,
+        line: l,
+        ..r
+    }
 }
 
 // A goal is due.
 pub fn with_goal(r: Registers, n: u32, f: u32, h: u32, i: u32) -> Registers
     ensures { λ s. ⌜ s ≡ withGoal r n f h i ⌝ }
 {
-    let mut s = r;
-    s.mode = modes::TAKE;
-    s.node = n;
-    s.frame = f;
-    s.program = h;
-    s.level = i;
-    s
+    Registers {
+        mode: modes::TAKE,
+        node: n,
+        frame: f,
+        program: h,
+        level: i,
+        ..r
+    }
 }
 
 // The member to try.
 pub fn with_member(r: Registers, h: u32, c: u32, k: u32, p: u32) -> Registers
     ensures { λ s. ⌜ s ≡ withMember r h c k p ⌝ }
 {
-    let mut s = r;
-    s.hypothesis = h;
-    s.clause = c;
-    s.member = k;
-    s.place = p;
-    s
+    Registers {
+        hypothesis: h,
+        clause: c,
+        member: k,
+        place: p,
+        ..r
+    }
 }
 
 // A pair is due, with the words that its record has.
 pub fn with_pairs(r: Registers, a: u32) -> Registers
     ensures { λ s. ⌜ s ≡ withPairs r a ⌝ }
 {
-    let mut s = r;
-    s.mode = modes::COMPARE;
-    s.left = 0;
-    s.pairs = a;
-    s
+    Registers {
+        mode: modes::COMPARE,
+        left: 0,
+        pairs: a,
+        ..r
+    }
 }
 
 // A binding of the pair that is due has been followed (request W-206): these are its words now.
 pub fn with_sides(r: Registers, x: u32, y: u32) -> Registers
     ensures { λ s. ⌜ s ≡ withSides r x y ⌝ }
 {
-    let mut s = r;
-    s.left = x;
-    s.right = y;
-    s
+    Registers {
+        left: x,
+        right: y,
+        ..r
+    }
 }
 
 // A range check is due, of the value v for the variable x; then the pairs a. Its first node is the whole value.
 pub fn with_check(r: Registers, a: u32, x: u32, v: u32) -> Registers
     ensures { λ s. ⌜ s ≡ withCheck r a x v ⌝ }
 {
-    let mut s = r;
-    s.mode = modes::CHECK;
-    s.node = v;
-    s.left = x;
-    s.right = v;
-    s.pairs = a;
-    s.nodes = 0;
-    s
+    Registers {
+        mode: modes::CHECK,
+        node: v,
+        left: x,
+        right: v,
+        pairs: a,
+        nodes: 0,
+        ..r
+    }
 }
 
 // A binding of the node of a range check that is due has been followed (request W-206): this is its word now.
 pub fn with_due(r: Registers, x: u32) -> Registers
     ensures { λ s. ⌜ s ≡ withDue r x ⌝ }
 {
-    let mut s = r;
-    s.node = x;
-    s
+    Registers { node: x, ..r }
 }
 
 // The nodes of a range check that wait, the first of them due.
 pub fn with_nodes(r: Registers, a: u32) -> Registers
     ensures { λ s. ⌜ s ≡ withNodes r a ⌝ }
 {
-    let mut s = r;
-    s.node = 0;
-    s.nodes = a;
-    s
+    Registers {
+        node: 0,
+        nodes: a,
+        ..r
+    }
 }
 
 // A choice point in record u: what the registers go on with later.

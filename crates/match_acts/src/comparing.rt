@@ -7,7 +7,7 @@ use super::pairs::pairs_from;
 use machine::Registers;
 use machine::fields;
 use machine::tags;
-use machine_memory::choice_points::failed;
+use machine_memory::choice_points::fail;
 use machine_memory::records::put_pairs;
 use machine_memory::registers::with_check;
 use machine_memory::registers::with_sides;
@@ -18,17 +18,18 @@ use machine_memory::words::node_of;
 use machine_memory::words::tag_of;
 use node_table::label;
 ghost use mathlib.Core.Path.{_≡_};
-ghost use Rattle.machine.specs.Records.{made};
+ghost use Prim.Native.Nat.{_<_};
 ghost use Rattle.machine.specs.Matching.{compareClosures, compareLeaves, compareWords, leftWord, rightWord, compareSides, comparePair};
+ghost use Rattle.machine_memory.specs.Settling.{settled};
 
 // Two applications: the same symbol or number, then their arguments, then the pairs at e.
 pub fn compare_closures(t: &[u32], w: &mut [u32], r: Registers, e: u32, x: u32, y: u32) -> Registers
-    ensures { λ s. ⌜ made (now (w .exit)) s ≡ compareClosures (now (t .entry)) (now (w .entry)) r e x y ⌝ }
+    ensures { λ s. ⌜ settled (now (w .exit)) s ≡ compareClosures (now (t .entry)) (now (w .entry)) r e x y ⌝ }
 {
     let m = node_of(x);
     let n = node_of(y);
     if label(t, m) != label(t, n) {
-        return failed(w, r);
+        return fail(r);
     }
     let u = r.acts;
     put_pairs(w, u, m, frame_of(x), n, frame_of(y), e);
@@ -36,18 +37,18 @@ pub fn compare_closures(t: &[u32], w: &mut [u32], r: Registers, e: u32, x: u32, 
 }
 
 // Goal side a made constant: the same one twice, then the pairs at e.
-pub fn compare_leaves(w: &mut [u32], r: Registers, e: u32, x: u32, y: u32) -> Registers
-    ensures { λ s. ⌜ made (now (w .exit)) s ≡ compareLeaves (now (w .entry)) r e x y ⌝ }
+pub fn compare_leaves(w: &[u32], r: Registers, e: u32, x: u32, y: u32) -> Registers
+    ensures { λ s. ⌜ settled (now (w .entry)) s ≡ compareLeaves (now (w .entry)) r e x y ⌝ }
 {
     if x == y {
         return due_pairs(w, r, e);
     }
-    failed(w, r)
+    fail(r)
 }
 
 // Compares the goal's side x with the clause's side y, both looked through; then the pairs at e are due.
 pub fn compare_words(t: &[u32], w: &mut [u32], r: Registers, e: u32, x: u32, y: u32) -> Registers
-    ensures { λ s. ⌜ made (now (w .exit)) s ≡ compareWords (now (t .entry)) (now (w .entry)) r e x y ⌝ }
+    ensures { λ s. ⌜ settled (now (w .exit)) s ≡ compareWords (now (t .entry)) (now (w .entry)) r e x y ⌝ }
 {
     let a = tag_of(x);
     if a == tags::VARIABLE {
@@ -64,7 +65,7 @@ pub fn compare_words(t: &[u32], w: &mut [u32], r: Registers, e: u32, x: u32, y: 
         return compare_leaves(w, r, e, x, y);
     }
     if b == tags::CONSTANT {
-        return failed(w, r);
+        return fail(r);
     }
     compare_closures(t, w, r, e, x, y)
 }
@@ -91,7 +92,8 @@ pub fn right_word(t: &[u32], w: &[u32], r: Registers) -> u32
 // One act on the pair of the words x and y: it follows one binding (request W-206), of the goal's side if there is one, else of the
 // clause's side; where neither side is bound, it compares them.
 pub fn compare_sides(t: &[u32], w: &mut [u32], r: Registers, x: u32, y: u32) -> Registers
-    ensures { λ s. ⌜ made (now (w .exit)) s ≡ compareSides (now (t .entry)) (now (w .entry)) r x y ⌝ }
+    requires { ⌜ r .mode < 6 ⌝ }
+    ensures { λ s. ⌜ settled (now (w .exit)) s ≡ compareSides (now (t .entry)) (now (w .entry)) r x y ⌝ }
 {
     let p = binding_of(w, x);
     if p != 0 {
@@ -107,7 +109,8 @@ pub fn compare_sides(t: &[u32], w: &mut [u32], r: Registers, x: u32, y: u32) -> 
 
 // One act: the pair that is due.
 pub fn compare_pair(t: &[u32], w: &mut [u32], r: Registers) -> Registers
-    ensures { λ s. ⌜ made (now (w .exit)) s ≡ comparePair (now (t .entry)) (now (w .entry)) r ⌝ }
+    requires { ⌜ r .mode < 6 ⌝ }
+    ensures { λ s. ⌜ settled (now (w .exit)) s ≡ comparePair (now (t .entry)) (now (w .entry)) r ⌝ }
 {
     let x = left_word(t, w, r);
     let y = right_word(t, w, r);

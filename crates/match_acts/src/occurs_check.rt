@@ -4,7 +4,6 @@ use super::pairs::due_pairs;
 use machine::Registers;
 use machine::fields;
 use machine_memory::cells::level_of;
-use machine_memory::choice_points::failed;
 use machine_memory::registers::with_nodes;
 use machine_memory::registers::with_trail;
 use machine_memory::trail::effect;
@@ -16,7 +15,14 @@ ghost use mathlib.Core.Path.{_≡_};
 ghost use Prim.Native.Nat.{_-_, min};
 ghost use Rattle.machine.specs.Records.{made};
 ghost use Rattle.machine.specs.Matching.{bindValue, passNode, visitVariable, visitConstant};
+ghost use Rattle.match_acts.specs.Visits.{passed};
 ghost use Rattle.memory.specs.Records.{field};
+
+// What a node of a range check comes to: failure, or the variable to lower (0 for none), its level then, and the nodes left.
+pub enum Visit {
+    Fails,
+    Passes(u32, u32, u32),
+}
 
 // 2^32, the bit above a level.
 const BIT_32: usize = 4294967296;
@@ -61,25 +67,25 @@ fn min(a: u32, b: u32) -> u32
 }
 
 // The node is a variable: not the one to be bound; lowered to its level.
-pub fn visit_variable(w: &mut [u32], r: Registers, e: u32, x: u32) -> Registers
-    ensures { λ s. ⌜ made (now (w .exit)) s ≡ visitVariable (now (w .entry)) r e x ⌝ }
+pub fn visit_variable(w: &[u32], r: Registers, e: u32, x: u32) -> Visit
+    ensures { λ v. ⌜ passed (now (w .entry)) r v ≡ visitVariable (now (w .entry)) r e x ⌝ }
 {
     if x == r.left {
-        return failed(w, r);
+        return Visit::Fails;
     }
     let level = level_of(w, name_of(x));
     let limit = level_of(w, name_of(r.left));
-    pass_node(w, r, x, min(level, limit), e)
+    Visit::Passes(x, min(level, limit), e)
 }
 
 // The node is a made constant: not above the level of the variable.
-pub fn visit_constant(w: &mut [u32], r: Registers, e: u32, x: u32) -> Registers
-    ensures { λ s. ⌜ made (now (w .exit)) s ≡ visitConstant (now (w .entry)) r e x ⌝ }
+pub fn visit_constant(w: &[u32], r: Registers, e: u32, x: u32) -> Visit
+    ensures { λ v. ⌜ passed (now (w .entry)) r v ≡ visitConstant (now (w .entry)) r e x ⌝ }
 {
     let level = field(w, name_of(x), fields::CONSTANT_LEVEL);
     let limit = level_of(w, name_of(r.left));
     if level <= limit {
-        return pass_node(w, r, 0, 0, e);
+        return Visit::Passes(0, 0, e);
     }
-    failed(w, r)
+    Visit::Fails
 }

@@ -12,6 +12,7 @@ use Rattle.machine.specs.Words.{increment}
 use Rattle.machine.specs.ChoicePoints.{failed}
 use Rattle.machine.specs.Goals.{dueGoal, proceed, membersLeft, tryFrom, firstMember, takeAtom, takeTrue}
 use Rattle.memory.specs.Records.{field}
+use Rattle.machine_memory.specs.Settling.{settled}
 
 -- The next goal.
 pub goal-due : (w : List ℕ) (r : Registers) (q g n f h i : ℕ) (m s : Registers) → g ≡ field w q fields.goalNext → m ≡ withGoals r g
@@ -29,21 +30,21 @@ unfolding proceed
 next-due w r s z es = es ∙ rw (ne-eqb _ _ z)
 
 -- Members.
-pub member-due : (c : ℕ) (w : List ℕ) (r s : Registers) (b : Bool) → b ≡ membersLeft c r → b ≡ true → s ≡ withMode r tryMode
-    → made w s ≡ tryFrom c w r
-unfolding tryFrom
-member-due c w r s b eb z es = rw (es, ← eb, z)
+pub member-due : (c : ℕ) (r s : Registers) (b : Bool) → b ≡ membersLeft c r → b ≡ true → s ≡ withMode r tryMode
+    → (w : List ℕ) → settled w s ≡ tryFrom c w r
+unfolding tryFrom settled withMode
+member-due c r s b eb z es w = rw (es, ← eb, z)
 
-pub none-due : (c : ℕ) (w w′ : List ℕ) (r s : Registers) (b : Bool) → b ≡ membersLeft c r → b ≡ false → made w′ s ≡ failed w r
-    → made w′ s ≡ tryFrom c w r
+pub none-due : (c : ℕ) (r s : Registers) (b : Bool) → b ≡ membersLeft c r → b ≡ false
+    → ((w : List ℕ) → settled w s ≡ failed w r) → (w : List ℕ) → settled w s ≡ tryFrom c w r
 unfolding tryFrom
-none-due c w w′ r s b eb z es = es ∙ rw (← eb, z)
+none-due c r s b eb z es w = es w ∙ rw (← eb, z)
 
 -- Each kind of goal.
-pub atom-taken : (t : List ℕ) (c : ℕ) (w w′ : List ℕ) (r m s : Registers) → m ≡ firstMember t c w r → made w′ s ≡ tryFrom c w m
-    → made w′ s ≡ takeAtom t c w r
+pub atom-taken : (t : List ℕ) (c : ℕ) (w : List ℕ) (r m s : Registers) → m ≡ firstMember t c w r
+    → ((w : List ℕ) → settled w s ≡ tryFrom c w m) → settled w s ≡ takeAtom t c w r
 unfolding takeAtom
-atom-taken t c w w′ r m s em es = es ∙ rw em
+atom-taken t c w r m s em es = es w ∙ rw em
 
 pub true-taken : (w w₁ : List ℕ) (r m s : Registers) (p : ℕ) → w₁ ≡ putPath w (r .acts) (r .path) (r .line) → p ≡ increment (r .acts)
     → m ≡ withPath r p trueLine → s ≡ proceed w₁ m → made w₁ s ≡ takeTrue w r

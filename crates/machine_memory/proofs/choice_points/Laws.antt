@@ -10,6 +10,7 @@ use Rattle.machine.specs.RegisterUpdates.{withMode, withNext, withTrail, withCh
 use Rattle.machine.specs.Trail.{undo}
 use Rattle.machine.specs.ChoicePoints.{resumeGoal, resumeMember, resumeBranch, resume, backtrack, failed}
 use Rattle.memory.specs.Records.{field}
+use Rattle.machine_memory.specs.Settling.{failedMode, settled}
 
 -- Going on with what was saved in record q.
 module _ (w : List ℕ) (r : Registers) (q : ℕ) where
@@ -54,3 +55,12 @@ pub failed-here : (w w′ : List ℕ) (r s : Registers) → (r .choice ≡ 0 →
     → made w′ s ≡ failed w r
 unfolding failed
 failed-here w w′ r s z es = es ∙ rw (ne-eqb _ _ z)
+
+-- A failure that is settled. The mode is overwritten then.
+pub failure-settled : (r s : Registers) → s ≡ withMode r failedMode → (w : List ℕ) → settled w s ≡ failed w r
+unfolding settled failed backtrack resume resumeBranch resumeGoal resumeMember withMode withNext withTrail withChoice withGoals withPath withGoal withMember
+failure-settled r s e w = rw e
+
+pub settled-here : (w w′ : List ℕ) (r s : Registers) → r .mode ≡ failedMode → made w′ s ≡ failed w r → made w′ s ≡ settled w r
+unfolding settled
+settled-here w w′ r s z e = e ∙ rw (eq-eqb _ _ z)

@@ -5,15 +5,13 @@ use Rattle.goal_acts.proofs.goals.try_from.Tie as tie
 
 returns : tie.Need-returns
 returns c =
-    member-due _ _ _ _ _ (c .before .before .members-left .ensures) (c .before .if1 .taken) (c .with-mode .ensures)
+    member-due _ _ _ _ (c .before .before .members-left .ensures) (c .before .if1 .taken) (c .with-mode .ensures)
 
 returns-2 : tie.Need-returns-2
 returns-2 c =
-    let at-if1 = c .before .before .before .before in
-    let at-members-left = at-if1 .before in
-    none-due _ _ _ _ _ _ (at-members-left .members-left .ensures) (at-if1 .if1 .left) (c .before .before .failed .ensures)
+    none-due _ _ _ _ (c .before .before .members-left .ensures) (c .before .if1 .left) (c .fail .ensures)
 
 pub try-from-spec : {M : Type 1} → statement M
 try-from-spec =
     tie.close
-    (tie.spec (λ c κs. search needs) (λ c κs. search needs) returns (λ c κs. search needs) (λ c. search needs) returns-2)
+    (tie.spec (λ c κs. search needs) (λ c κs. search needs) returns (λ c κs. search needs) returns-2)

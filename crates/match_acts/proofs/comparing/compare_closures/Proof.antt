@@ -1,20 +1,21 @@
+use mathlib.Core.Path.{_∙_}
 use borrow.Author.Tests.{eq-eqb, ne-eqb}
 use borrow.Author.Needs.{needs}
 use Rattle.machine.specs.Matching.{compareClosures}
+use Rattle.machine_memory.proofs.Settling.{settled-pairs}
 use Rattle.match_acts.proofs.comparing.compare_closures.Statement.{statement}
 use Rattle.match_acts.proofs.comparing.compare_closures.Tie as tie
 
 returns : tie.Need-returns
 unfolding compareClosures
 returns c =
-    let at-if1 = c .before .before .before .before in
+    let at-if1 = c .before in
     let at-label2 = at-if1 .before in
     let at-label = at-label2 .before in
     let at-node-of2 = at-label .before in
     let at-node-of = at-node-of2 .before in
-    simp (
+    c .fail .ensures _ ∙ simp (
       compareClosures,
-      ← c .before .before .failed .ensures,
       ne-eqb _ _ (at-if1 .if1 .taken),
       ← at-label2 .label2 .ensures,
       ← at-label .label .ensures,
@@ -33,7 +34,7 @@ returns-2 c =
     let at-label = at-label2 .before in
     let at-node-of2 = at-label .before in
     let at-node-of = at-node-of2 .before in
-    simp (
+    settled-pairs _ _ _ _ (c .due-pairs .ensures) ∙ simp (
       compareClosures,
       ← c .due-pairs .ensures,
       ← c .before .pairs-from .ensures,
@@ -52,5 +53,5 @@ pub compare-closures-spec : {M : Type 1} → statement M
 compare-closures-spec =
     tie.close
     (tie.spec (λ c κs. search needs) (λ c κs. search needs) (λ c κs. search needs) (λ c κs. search needs) (λ c κs. search needs)
-    (λ c. search needs) returns (λ c κs. search needs) (λ c κs. search needs) (λ c κs. search needs) (λ c κs. search needs)
+    returns (λ c κs. search needs) (λ c κs. search needs) (λ c κs. search needs) (λ c κs. search needs)
     (λ c κs. search needs) (λ c κs. search needs) (λ c. search needs) returns-2)

@@ -1,3 +1,4 @@
+use mathlib.Core.Path.{_∙_}
 use borrow.Author.Needs.{needs}
 use Rattle.machine.specs.Matching.{comparePair}
 use Rattle.match_acts.proofs.comparing.compare_pair.Statement.{statement}
@@ -8,9 +9,8 @@ unfolding comparePair
 returns c =
     let at-right-word = c .before .before .before .before in
     let at-left-word = at-right-word .before .before in
-    simp (
+    c .before .before .compare-sides .ensures ∙ simp (
       comparePair,
-      ← c .before .before .compare-sides .ensures,
       ← at-right-word .right-word .ensures,
       ← at-left-word .left-word .ensures,
     )

@@ -1,13 +1,15 @@
+use mathlib.Core.Path.{_∙_}
 use borrow.Author.Tests.{eq-eqb, ne-eqb}
 use borrow.Author.Needs.{needs}
 use Rattle.machine.specs.Matching.{compareSides}
+use Rattle.machine_memory.proofs.Settling.{settled-sides}
 use Rattle.match_acts.proofs.comparing.compare_sides.Statement.{statement}
 use Rattle.match_acts.proofs.comparing.compare_sides.Tie as tie
 
 returns : tie.Need-returns
 unfolding compareSides
 returns c =
-    simp (
+    settled-sides _ _ _ _ _ (search needs) (c .with-sides .ensures) ∙ simp (
       compareSides,
       ← c .with-sides .ensures,
       ne-eqb _ _ (c .before .if1 .taken),
@@ -19,7 +21,7 @@ unfolding compareSides
 returns-2 c =
     let at-if1 = c .before .before .before .before in
     let at-binding-of = at-if1 .before in
-    simp (
+    settled-sides _ _ _ _ _ (search needs) (c .with-sides2 .ensures) ∙ simp (
       compareSides,
       ← c .with-sides2 .ensures,
       ne-eqb _ _ (c .before .if2 .taken),
@@ -36,9 +38,8 @@ returns-3 c =
     let at-binding-of2 = at-if2 .before in
     let at-if1 = at-binding-of2 .before .before in
     let at-binding-of = at-if1 .before in
-    simp (
+    c .before .before .compare-words .ensures ∙ simp (
       compareSides,
-      ← c .before .before .compare-words .ensures,
       ← at-pairs-after .pairs-after .ensures,
       eq-eqb _ _ (at-if2 .if2 .left),
       ← at-binding-of2 .binding-of2 .ensures,

@@ -1,6 +1,8 @@
+use mathlib.Core.Path.{_∙_}
 use borrow.Author.Tests.{eq-eqb, ne-eqb}
 use borrow.Author.Needs.{needs}
 use Rattle.machine.specs.Matching.{compareWords}
+use Rattle.machine_memory.proofs.Settling.{settled-pairs, settled-check}
 use Rattle.match_acts.proofs.comparing.compare_words.Statement.{statement}
 use Rattle.match_acts.proofs.comparing.compare_words.Tie as tie
 
@@ -8,7 +10,7 @@ returns : tie.Need-returns
 unfolding compareWords
 returns c =
     let at-tag-of = c .before .before .before .before in
-    simp (
+    settled-pairs _ _ _ _ (c .due-pairs .ensures) ∙ simp (
       compareWords,
       ← c .due-pairs .ensures,
       eq-eqb _ _ (c .before .before .if2 .taken),
@@ -19,7 +21,7 @@ returns c =
 returns-2 : tie.Need-returns-2
 unfolding compareWords
 returns-2 c =
-    simp (
+    settled-check _ _ _ _ _ _ (c .with-check .ensures) ∙ simp (
       compareWords,
       ← c .with-check .ensures,
       ne-eqb _ _ (c .before .if2 .left),
@@ -31,7 +33,7 @@ returns-3 : tie.Need-returns-3
 unfolding compareWords
 returns-3 c =
     let at-tag-of = c .before .before .before .before in
-    simp (
+    settled-check _ _ _ _ _ _ (c .with-check2 .ensures) ∙ simp (
       compareWords,
       ← c .with-check2 .ensures,
       eq-eqb _ _ (c .before .if3 .taken),
@@ -43,14 +45,13 @@ returns-3 c =
 returns-4 : tie.Need-returns-4
 unfolding compareWords
 returns-4 c =
-    let at-if4 = c .before .before .before .before in
+    let at-if4 = c .before .before in
     let at-if3 = at-if4 .before in
     let at-tag-of2 = at-if3 .before in
     let at-if1 = at-tag-of2 .before in
     let at-tag-of = at-if1 .before in
-    simp (
+    c .compare-leaves .ensures ∙ simp (
       compareWords,
-      ← c .before .before .compare-leaves .ensures,
       eq-eqb _ _ (at-if4 .if4 .taken),
       ne-eqb _ _ (at-if3 .if3 .left),
       ← at-tag-of2 .tag-of2 .ensures,
@@ -61,15 +62,14 @@ returns-4 c =
 returns-5 : tie.Need-returns-5
 unfolding compareWords
 returns-5 c =
-    let at-if5 = c .before .before .before .before in
+    let at-if5 = c .before in
     let at-if4 = at-if5 .before in
     let at-if3 = at-if4 .before in
     let at-tag-of2 = at-if3 .before in
     let at-if1 = at-tag-of2 .before in
     let at-tag-of = at-if1 .before in
-    simp (
+    c .fail .ensures _ ∙ simp (
       compareWords,
-      ← c .before .before .failed .ensures,
       eq-eqb _ _ (at-if5 .if5 .taken),
       ne-eqb _ _ (at-if4 .if4 .left),
       ne-eqb _ _ (at-if3 .if3 .left),
@@ -87,9 +87,8 @@ returns-6 c =
     let at-tag-of2 = at-if3 .before in
     let at-if1 = at-tag-of2 .before in
     let at-tag-of = at-if1 .before in
-    simp (
+    c .before .before .compare-closures .ensures ∙ simp (
       compareWords,
-      ← c .before .before .compare-closures .ensures,
       ne-eqb _ _ (at-if5 .if5 .left),
       ne-eqb _ _ (at-if4 .if4 .left),
       ne-eqb _ _ (at-if3 .if3 .left),
@@ -103,4 +102,4 @@ compare-words-spec =
     tie.close
     (tie.spec (λ c κs. search needs) (λ c κs. search needs) (λ c. search needs) returns (λ c κs. search needs) returns-2
     (λ c κs. search needs) (λ c κs. search needs) returns-3 (λ c κs. search needs) (λ c. search needs) returns-4
-    (λ c κs. search needs) (λ c. search needs) returns-5 (λ c κs. search needs) (λ c. search needs) returns-6)
+    (λ c κs. search needs) returns-5 (λ c κs. search needs) (λ c. search needs) returns-6)

@@ -1,3 +1,4 @@
+use mathlib.Core.Path.{_∙_}
 use borrow.Author.Needs.{needs}
 use Rattle.machine.specs.Matching.{checkNode}
 use Rattle.match_acts.proofs.range_check.check_node.Statement.{statement}
@@ -7,7 +8,7 @@ returns : tie.Need-returns
 unfolding checkNode
 returns c =
     let at-due-word = c .before .before .before .before in
-    simp (checkNode, ← c .before .before .check-word .ensures, ← at-due-word .due-word .ensures)
+    c .before .before .check-word .ensures ∙ simp (checkNode, ← at-due-word .due-word .ensures)
 
 pub check-node-spec : {M : Type 1} → statement M
 check-node-spec = tie.close (tie.spec (λ c κs. search needs) (λ c κs. search needs) (λ c. search needs) returns)

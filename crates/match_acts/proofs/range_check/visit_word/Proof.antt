@@ -1,3 +1,4 @@
+use mathlib.Core.Path.{_∙_}
 use borrow.Author.Tests.{eq-eqb, ne-eqb}
 use borrow.Author.Needs.{needs}
 use Rattle.machine.specs.Matching.{visitWord}
@@ -7,19 +8,18 @@ use Rattle.match_acts.proofs.range_check.visit_word.Tie as tie
 returns : tie.Need-returns
 unfolding visitWord
 returns c =
-    let at-if1 = c .before .before .before .before in
+    let at-if1 = c .before .before in
     let at-tag-of = at-if1 .before in
-    simp (visitWord, ← c .before .before .visit-variable .ensures, eq-eqb _ _ (at-if1 .if1 .taken), ← at-tag-of .tag-of .ensures)
+    c .visit-variable .ensures ∙ simp (visitWord, eq-eqb _ _ (at-if1 .if1 .taken), ← at-tag-of .tag-of .ensures)
 
 returns-2 : tie.Need-returns-2
 unfolding visitWord
 returns-2 c =
-    let at-if2 = c .before .before .before .before in
+    let at-if2 = c .before .before in
     let at-if1 = at-if2 .before in
     let at-tag-of = at-if1 .before in
-    simp (
+    c .visit-constant .ensures ∙ simp (
       visitWord,
-      ← c .before .before .visit-constant .ensures,
       eq-eqb _ _ (at-if2 .if2 .taken),
       ne-eqb _ _ (at-if1 .if1 .left),
       ← at-tag-of .tag-of .ensures,
@@ -31,9 +31,8 @@ returns-3 c =
     let at-if2 = c .before .before .before .before in
     let at-if1 = at-if2 .before in
     let at-tag-of = at-if1 .before in
-    simp (
+    c .before .before .visit-closure .ensures ∙ simp (
       visitWord,
-      ← c .before .before .visit-closure .ensures,
       ne-eqb _ _ (at-if2 .if2 .left),
       ne-eqb _ _ (at-if1 .if1 .left),
       ← at-tag-of .tag-of .ensures,

@@ -1,0 +1,2 @@
+-- Failure, and when it is settled.
+pub mod Settling

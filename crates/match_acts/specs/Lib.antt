@@ -1,0 +1,2 @@
+-- What a node of a range check comes to.
+pub mod Visits
