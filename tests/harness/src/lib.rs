@@ -1,6 +1,7 @@
 //! The proved library (librules.a) set beside the independent implementation.
 
 pub mod compare;
+pub mod comparison;
 pub mod fuzz;
 pub mod guard;
 pub mod measure;
@@ -8,3 +9,4 @@ pub mod options;
 pub mod sheets;
 pub mod tally;
 pub mod texts;
+pub mod translate;

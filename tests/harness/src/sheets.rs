@@ -9,7 +9,7 @@ pub type Named = (&'static str, Vec<u8>);
 pub fn searches() -> Vec<Named> {
     vec![
         ("list reversal, 24 elements", list_reversal(24)),
-        ("Peano arithmetic, 10 times 10", multiplication(10)),
+        ("Peano arithmetic, 10 times 10", multiplication(10, 10)),
         ("graph search, 7 layers, no path", graph_search(7)),
         ("nested suppositions, 58 deep", nested_suppositions(58)),
         ("a house of 60 rules, 12 cues", house()),
@@ -124,7 +124,7 @@ pub fn endless() -> Vec<Named> {
     ]
 }
 
-fn numeral(builder: &mut Builder, zero: usize, successor: usize, value: usize) -> usize {
+pub(crate) fn numeral(builder: &mut Builder, zero: usize, successor: usize, value: usize) -> usize {
     let mut term = builder.apply(zero, &[]);
     for _ in 0..value {
         term = builder.apply(successor, &[term]);
@@ -133,7 +133,7 @@ fn numeral(builder: &mut Builder, zero: usize, successor: usize, value: usize) -
 }
 
 /// The clause with its variables quantified, the first outermost.
-fn add_clause(builder: &mut Builder, variables: &[u8], clause: usize) {
+pub(crate) fn add_clause(builder: &mut Builder, variables: &[u8], clause: usize) {
     let clause = variables
         .iter()
         .rev()
@@ -141,7 +141,7 @@ fn add_clause(builder: &mut Builder, variables: &[u8], clause: usize) {
     builder.clause(clause);
 }
 
-fn list_reversal(length: usize) -> Vec<u8> {
+pub(crate) fn list_reversal(length: usize) -> Vec<u8> {
     let mut b = Builder::new(true);
     let (nil, cons) = (b.function("nil", 0), b.function("cons", 2));
     let (app, rev) = (b.predicate("app", 3), b.predicate("rev", 2));
@@ -173,7 +173,7 @@ fn list_reversal(length: usize) -> Vec<u8> {
     b.goal(goal)
 }
 
-fn multiplication(value: usize) -> Vec<u8> {
+pub(crate) fn multiplication(left: usize, right: usize) -> Vec<u8> {
     let mut b = Builder::new(true);
     let (zero, s) = (b.function("z", 0), b.function("s", 1));
     let (plus, times) = (b.predicate("plus", 3), b.predicate("times", 3));
@@ -193,14 +193,14 @@ fn multiplication(value: usize) -> Vec<u8> {
     let (body, head) = (b.and(first, second), b.apply(times, &[sx, y, w]));
     let rule = b.implies(body, head);
     add_clause(&mut b, &[0, 1, 2, 3], rule);
-    let number = numeral(&mut b, zero, s, value);
-    let goal = b.apply(times, &[number, number, x]);
+    let [left, right] = [left, right].map(|value| numeral(&mut b, zero, s, value));
+    let goal = b.apply(times, &[left, right, x]);
     let goal = b.some(0, goal);
     b.goal(goal)
 }
 
 /// Layers of two nodes, each with edges to both of the next; the node sought is in no layer.
-fn graph_search(layers: usize) -> Vec<u8> {
+pub(crate) fn graph_search(layers: usize) -> Vec<u8> {
     let mut b = Builder::new(true);
     let (edge, path) = (b.predicate("edge", 2), b.predicate("path", 2));
     let [x, y, z] = [0, 1, 2].map(|variable| b.variable(variable));
@@ -233,7 +233,7 @@ fn graph_search(layers: usize) -> Vec<u8> {
 }
 
 /// r(s(n)) if (h(n) implies r(n)): so many assumptions, and then each is looked for.
-fn nested_suppositions(depth: usize) -> Vec<u8> {
+pub(crate) fn nested_suppositions(depth: usize) -> Vec<u8> {
     let mut b = Builder::new(true);
     let (zero, s) = (b.function("z", 0), b.function("s", 1));
     let (r, h, all) = (b.predicate("r", 1), b.predicate("h", 1), b.predicate("all", 1));
@@ -286,7 +286,7 @@ pub fn suppositions_gone_through(uses: usize, suppositions: usize, supposed: boo
 
 /// Twelve areas with five rules each, and the question whether all twelve cues may go: a strobe may go if, whichever
 /// door is opened, the warning lamp still stands, and somebody of the crew sees that the area is clear.
-fn house() -> Vec<u8> {
+pub(crate) fn house() -> Vec<u8> {
     const AREAS: usize = 12;
     let mut b = Builder::new(true);
     let predicates = [

@@ -7,6 +7,7 @@ mod checker;
 mod engine;
 mod lent;
 mod memory;
+mod rivals;
 
 fn main() {
     let arguments: Vec<String> = std::env::args().skip(1).collect();
@@ -16,6 +17,7 @@ fn main() {
             return;
         }
     }
+    rivals::searches();
     engine::searches();
     engine::clearing();
     engine::growth();
