@@ -1,4 +1,4 @@
-// The answer printer: the text of a proof in two passes over the lent buffers, the first to see that it fits.
+// The answer printer: the text of a proof, written into bytes of its own and copied into the answer buffer where it fits.
 // Each function is a definition of the crate printing, and its contract says so.
 mod binding_lines;
 mod clause_lines;
@@ -9,21 +9,23 @@ pub mod short_texts;
 use binding_lines::bindings_to;
 use line_parts::result_to;
 use machine::Registers;
+use memory::widen;
 use node_table::mask;
 use path_lines::lines_to;
 use printing::Cursor;
+use short_texts::MAX_BYTES;
 use short_texts::text_limit;
 use term_printer::Bounds;
-use term_printer::numbering::with_position;
 use term_printer::path_links::clear_constants;
 use term_printer::path_links::link_path;
 ghost use mathlib.Core.Path.{_≡_};
-ghost use mathlib.Core.List.{List};
+ghost use mathlib.Core.List.{List, _++_};
 ghost use Prim.Native.Nat.{ℕ, _<_, _≤_};
+ghost use lib.ListN.{length, take, drop};
 ghost use Rattle.machine.specs.Records.{made};
 ghost use Rattle.printing.specs.Numbering.{printer};
 ghost use Rattle.printing.specs.PathLinks.{linked};
-ghost use Rattle.printing.specs.Writer.{proofPass, prepare, firstLink, answered, writePass, writeProof};
+ghost use Rattle.printing.specs.Writer.{proofPass, prepare, firstLink, answered, writeProof};
 
 // A proved search: the node of its goal, the units, and the link to the first line of its path.
 pub struct Proved {
@@ -62,26 +64,19 @@ pub fn prepare(w: &mut [u32], r: Registers) -> u32
     e
 }
 
-// The second pass: the numbers are there, the buffer is the lent one.
-pub fn write_pass(
-    sheet: &[u8],
-    t: &[u32],
-    bounds: Bounds,
-    proved: Proved,
-    w: &mut [u32],
-    p: Cursor,
-    out: &mut [u8],
-) -> u32
-    requires { ⌜ bounds .limit ≤ 65535 ⌝ }
-    ensures { λ n.
-        ⌜ ((b : List ℕ) → answered (now (w .exit)) (now (out .exit)) n ≡ writePass (now (sheet .entry)) (now (t .entry)) (bounds .turns)
-        (bounds .limit) (proved .goal) (proved .units) (proved .path) (printer (now (w .entry)) b p) (now (out .entry))) ⌝ }
+// The first n bytes of one buffer become those of another.
+fn copy_front(from: &[u8], to: &mut [u8], n: usize)
+    requires { ⌜ (n ≤ length (now from)) × (n ≤ length (now to)) ⌝ }
+    ensures { λ _. ⌜ now (to .exit) ≡ take n (now (from .entry)) ++ drop n (now (to .entry)) ⌝ }
 {
-    let q = proof_pass(sheet, t, bounds, proved, w, out, with_position(p, 0));
-    q.at
+    let mut i: usize = 0;
+    while i < n {
+        to[i] = from[i];
+        i += 1;
+    }
 }
 
-// The answer of a proved search, and its length; 65,536 where it does not fit. The first pass counts and numbers, over no bytes.
+// The answer of a proved search, and its length; 65,536 where it does not fit. Its bytes are copied once it is known to fit.
 pub fn write_proof(
     sheet: &[u8],
     t: &[u32],
@@ -106,9 +101,11 @@ pub fn write_proof(
         variables: 0,
         constants: 0,
     };
-    let g = proof_pass(sheet, t, bounds, proved, w, &mut out[..0], p);
+    let mut own = [0u8; MAX_BYTES];
+    let g = proof_pass(sheet, t, bounds, proved, w, &mut own, p);
     if limit < g.at {
         return printing::NO_ROOM;
     }
-    write_pass(sheet, t, bounds, proved, w, g, out)
+    copy_front(&own, out, widen(g.at));
+    g.at
 }

@@ -8,7 +8,7 @@ ghost use Prim.Native.Nat.{_<_, _≤_};
 ghost use Rattle.printing.specs.Output.{written};
 ghost use Rattle.printing.specs.Writer.{textLimit, shortPass, writeShort, writeNo, writeSpent};
 
-const MAX_BYTES: usize = limits::MAX_TEXT_BYTES as usize;
+pub const MAX_BYTES: usize = limits::MAX_TEXT_BYTES as usize;
 
 // The most bytes that fit.
 pub fn text_limit(out: &[u8]) -> u32

@@ -33,7 +33,7 @@ use Rattle.printing.specs.WriteTerms.{termTo}
 use Rattle.printing.specs.WriteLines.{bytesTo, numberTo, resultTo, plainBytes, termLine, bindingsTo, prefixTo, clauseTo, lineTo}
 use Rattle.printing.specs.WriteLines.{linesTo}
 use Rattle.printing.specs.PathLinks.{linkWord, linkPath, clearConstants, clearVariables}
-use Rattle.printing.specs.Writer.{textLimit, proofPass, prepare, firstLink, writePass, writeProof, shortPass, writeShort, writeNo}
+use Rattle.printing.specs.Writer.{textLimit, proofPass, prepare, firstLink, ownBytes, writeProof, shortPass, writeShort, writeNo}
 use Rattle.printing.specs.Writer.{writeSpent}
 use Rattle.sheet_format.specs.Bytes.{ascii}
 use Rattle.memory.specs.Records.{field, putField}
@@ -55,7 +55,7 @@ unfolding field putField cellOf levelOf putCell putLevel putEntry putGoal putAss
     fromClause firstMember afterAssumption emit writeBytes copyBytes writeDigits writeNumber writeSymbol withPosition withVariables
     withConstants wrote numberVariable numberConstant writeVariable writeConstant emitTo writeName writeFunctor separator argumentsBy
     bracketedBy applicationBy wordBy writeTerm termTo bytesTo numberTo resultTo plainBytes termLine bindingsTo prefixTo clauseTo lineTo
-    linesTo linkWord linkPath clearConstants clearVariables textLimit proofPass prepare firstLink writePass writeProof shortPass
+    linesTo linkWord linkPath clearConstants clearVariables textLimit proofPass prepare firstLink ownBytes writeProof shortPass
     writeShort writeNo writeSpent ascii
 computeAnswer sheet t clauses goal budget w out = writeProof sheet t goal (runMachine budget t clauses goal w) budget out
 

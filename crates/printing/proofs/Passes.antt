@@ -1,11 +1,12 @@
--- The two passes, and the theorem: the answer buffer and the length are what `reportedLength` says of the answer text.
+-- The pass, and the theorem: the answer buffer and the length are what `reportedLength` says of the answer text.
 use Prim.Native.Nat.{ℕ, _+_, _≤_, _<_}
 use native.Mathlib.Omega.{arith}
 use mathlib.Core.Path.{_≡_, refl, sym, ap, _∙_, subst}
 use mathlib.Core.Bool.{Bool, true, false}
 use mathlib.Core.List.{List, [], _∷_, _++_, map, reverse}
 use lib.Dec.{ltb}
-use lib.ListN.{length, drop, length-reverse}
+use lib.ListN.{length, take, drop, length-reverse, length-replicate}
+use lib.Seq.{take-append-seam}
 use borrow.Author.Tests.{ltb-true, ltb-false, le-leb, lt-leb}
 use Rattle.terms.proofs.Lists.{map-map}
 use Rattle.formulas.specs.Formulas.{freeG, freeVariables}
@@ -29,9 +30,10 @@ use Rattle.machine.specs.Records.{Made, provedMode}
 use Rattle.machine.specs.Simulation.{StandsAt}
 use Rattle.printing.specs.declared.Cursor.{Cursor}
 use Rattle.printing.specs.Output.{Written, written, emit, writeBytes}
-use Rattle.printing.specs.Numbering.{withPosition, Printer, printer}
+use Rattle.printing.specs.Numbering.{Printer, printer}
+use Rattle.sheet_format.specs.Limits.{maxTextBytes}
 use Rattle.printing.specs.WriteLines.{resultTo, bindingsTo}
-use Rattle.printing.specs.Writer.{textLimit, noRoom, startCursor, proofPass, prepare, firstLink, Answered, answered, writePass}
+use Rattle.printing.specs.Writer.{textLimit, noRoom, startCursor, proofPass, prepare, firstLink, Answered, answered, ownBytes}
 use Rattle.printing.specs.Writer.{writeProof, shortPass, writeShort, writeNo, writeSpent}
 use Rattle.printing.specs.Written.{Orderly, reportedLength, WritesProof, WritesNo, WritesSpent}
 use Rattle.printing.specs.PathLinks.{nextLineField}
@@ -70,13 +72,24 @@ module _ (out : List ℕ) where
   unfolding textLimit
   limit-room = omega arith
 
-  -- A count above the limit tells that the text does not fit.
-  counted-long : (text : List ℕ) (n : ℕ) → n ≡ writeBytes text [] (textLimit out) 0 .at → textLimit out < n → textLimit out < length text
-  counted-long text n e h = let z = bytes-end text [] (textLimit out) 0 limit-low (omega arith) in omega arith
+  -- A count above the limit tells that the text does not fit. Whatever the buffer holds, positions are the same.
+  counted-long : (text buffer : List ℕ) (n : ℕ) → n ≡ writeBytes text buffer (textLimit out) 0 .at → textLimit out < n
+      → textLimit out < length text
+  counted-long text buffer n e h = let z = bytes-end text buffer (textLimit out) 0 limit-low (omega arith) in omega arith
 
   -- A count within the limit tells that the text fits.
-  counted-fits : (text : List ℕ) (n : ℕ) → n ≡ writeBytes text [] (textLimit out) 0 .at → n ≤ textLimit out → length text ≤ textLimit out
-  counted-fits text n e h = let z = bytes-end text [] (textLimit out) 0 limit-low (omega arith) in omega arith
+  counted-fits : (text buffer : List ℕ) (n : ℕ) → n ≡ writeBytes text buffer (textLimit out) 0 .at → n ≤ textLimit out
+      → length text ≤ textLimit out
+  counted-fits text buffer n e h = let z = bytes-end text buffer (textLimit out) 0 limit-low (omega arith) in omega arith
+
+  -- A text that fits is written into the writer's own bytes.
+  own-fits : (text : List ℕ) → length text ≤ textLimit out
+      → writeBytes text ownBytes (textLimit out) 0 ≡ written (text ++ drop (length text) ownBytes) (length text)
+  unfolding ownBytes
+  own-fits text h =
+      bytes-fit text [] ownBytes (textLimit out) 0 limit-low refl (omega arith)
+      (let r = limit-low in let l = length-replicate {A = ℕ} maxTextBytes 0 in omega arith)
+      ∙ ap (written (text ++ drop (length text) ownBytes)) (let e : 0 + length text ≡ length text = omega arith in e)
 
   -- Writing a text that fits writes it.
   written-fits : (text : List ℕ) → length text ≤ textLimit out → writeBytes text out (textLimit out) 0 ≡ reportedLength text out
@@ -111,11 +124,11 @@ short-reported bs units out = go (ltb (textLimit out) (shortPass bs units [] (te
         → _≡_ {A = Written} (elim b [ true ↦ written out noRoom | false ↦ shortPass bs units out (textLimit out) ])
         (reportedLength text out)
     go true e =
-        sym (reported-long text out (counted-long out text (shortPass bs units [] (textLimit out) .at) count
+        sym (reported-long text out (counted-long out text [] (shortPass bs units [] (textLimit out) .at) count
         (ltb-true (textLimit out) (shortPass bs units [] (textLimit out) .at) e)))
     go false e =
         short-bytes bs units out (textLimit out)
-        ∙ written-fits out text (counted-fits out text (shortPass bs units [] (textLimit out) .at) count
+        ∙ written-fits out text (counted-fits out text [] (shortPass bs units [] (textLimit out) .at) count
         (ltb-false (textLimit out) (shortPass bs units [] (textLimit out) .at) e))
 
 -- The text of no.
@@ -248,149 +261,103 @@ module _ (sheet t : List ℕ) (symbols nodes clauses goal : ℕ) (table : WellMa
       constant (made c k) r = ready .cleared c (r .0)
       constant (leftover x k) r = refl
 
-  -- The second pass begins with all numbers.
-  second-numbered : (l : List Symbol) (v : List ℕ) (p : Cursor) → p .at ≤ 65536 → Numbered w (s .next) acts renaming 0 l v p
-      → Numbered w (s .next) acts renaming 65536 l v (withPosition p 0)
-  unfolding withPosition
-  second-numbered l v p h n =
-      let x = n .fewVariables in
-      let y = n .fewConstants in
-      record {
-        alike = n .alike;
-        variables = n .variables;
-        constants = n .constants;
-        fewVariables = omega arith;
-        fewConstants = omega arith;
-      }
-
-  -- What the tokens of the text write.
-  pass-wrote : (limit base : ℕ) (low : limit ≤ 65535) (h : List Symbol) (g : Printer) → base ≤ 65536 → Alike 62 w (g .memory)
-      → ((u : ℕ) → field (g .memory) u nextLineField ≡ field (prepare m) u nextLineField)
-      → Due renaming h (signs (tokens ds lines)) → Numbered w (s .next) acts renaming base h (g .memory) (g .cursor)
-      → Wrote w (s .next) acts renaming base limit (tokens ds lines) h g (steps limit (tokens ds lines) g)
-  pass-wrote limit base low h g small k f due n =
-      steps-numbered w (s .next) acts renaming base (o .room) (o .variables) limit low small (tokens ds lines) h g
-      (reach-pass limit low g k f .right) due (λ l. n)
-
-  -- The first pass, into no buffer.
-  abbrev counting : List ℕ → Printer
-  counting out = proofPass sheet t acts (textLimit out) goal units (firstLink m) (printer (prepare m) [] startCursor)
-
-  -- The tokens of the text, into no buffer.
-  abbrev counted : List ℕ → Printer
-  counted out = steps (textLimit out) (tokens ds lines) (printer (prepare m) [] startCursor)
-
-  -- The first pass goes through the tokens.
-  counting-reached : (out : List ℕ) → Reached sheet t symbols nodes w acts s basis (textLimit out) (limit-low out) (tokens ds lines)
-      (printer (prepare m) [] startCursor) (counting out)
-  counting-reached out = reach-pass (textLimit out) (limit-low out) (printer (prepare m) [] startCursor) (ready .alike) (λ u. refl)
-
-  -- The first pass leaves the memory alike.
-  counting-alike : (out : List ℕ) → Alike 63 (prepare m) (counting out .memory)
-  counting-alike out =
-      reach-alike sheet t symbols nodes w acts s basis (textLimit out) (limit-low out) (tokens ds lines)
-      (printer (prepare m) [] startCursor) (counting out) (counting-reached out) (ready .alike)
-
-  -- The tokens count the text, and number its symbols.
-  counted-wrote : (out : List ℕ) → Wrote w (s .next) acts renaming 0 (textLimit out) (tokens ds lines) []
-      (printer (prepare m) [] startCursor) (counted out)
-  counted-wrote out =
-      pass-wrote (textLimit out) 0 (limit-low out) [] (printer (prepare m) [] startCursor) (omega arith) (ready .alike) (λ u. refl)
-      (due-first [] (signs (tokens ds lines))) first-numbered
-
-  -- The count of the tokens is that of the text.
-  count : (out : List ℕ) → counted out .cursor .at ≡ writeBytes text [] (textLimit out) 0 .at
-  count out = ap (λ (x : Written). x .at) (counted-wrote out .bytes)
-
-  -- A first pass that ends past the limit tells that the text does not fit.
-  counting-long : (out : List ℕ) → textLimit out < counting out .cursor .at → textLimit out < length text
-  counting-long out h =
-      counted-long out text (counted out .cursor .at) (count out)
-      (reaches-past w (textLimit out) (tokens ds lines) (printer (prepare m) [] startCursor) (counting out)
-      (counting-reached out .reaches) h)
-
-  -- One that ends within the limit has counted and numbered the whole text.
-  counting-whole : (out : List ℕ) → counting out .cursor .at ≤ textLimit out → counting out ≡ counted out
-  counting-whole out h =
-      reaches-within w (textLimit out) (tokens ds lines) (printer (prepare m) [] startCursor) (counting out)
-      (counting-reached out .reaches) h
-
-  -- The second pass, into the lent buffer, begins with the numbers of the first.
-  abbrev numberedPrinter : List ℕ → Printer
-  numberedPrinter out = printer (counting out .memory) out (withPosition (counting out .cursor) 0)
-
-  -- The second pass.
+  -- The pass.
   abbrev writing : List ℕ → Printer
-  writing out = proofPass sheet t acts (textLimit out) goal units (firstLink m) (numberedPrinter out)
+  writing out = proofPass sheet t acts (textLimit out) goal units (firstLink m) (printer (prepare m) ownBytes startCursor)
 
-  -- A text that was counted within the limit fits.
-  counting-fits : (out : List ℕ) → counting out .cursor .at ≤ textLimit out → length text ≤ textLimit out
-  counting-fits out h =
-      counted-fits out text (counted out .cursor .at) (count out)
-      (subst (λ (p : Printer). p .cursor .at ≤ textLimit out) (counting-whole out h) h)
+  -- The tokens of the text.
+  abbrev spelling : List ℕ → Printer
+  spelling out = steps (textLimit out) (tokens ds lines) (printer (prepare m) ownBytes startCursor)
 
-  -- The second pass writes the text.
-  writing-bytes : (out : List ℕ) → counting out .cursor .at ≤ textLimit out
-      → written (writing out .buffer) (writing out .cursor .at) ≡ writeBytes text out (textLimit out) 0
-  unfolding withPosition
+  -- The pass goes through the tokens.
+  writing-reached : (out : List ℕ) → Reached sheet t symbols nodes w acts s basis (textLimit out) (limit-low out) (tokens ds lines)
+      (printer (prepare m) ownBytes startCursor) (writing out)
+  writing-reached out = reach-pass (textLimit out) (limit-low out) (printer (prepare m) ownBytes startCursor) (ready .alike) (λ u. refl)
+
+  -- The tokens write the text, and number its symbols.
+  spelling-wrote : (out : List ℕ) → Wrote w (s .next) acts renaming 0 (textLimit out) (tokens ds lines) []
+      (printer (prepare m) ownBytes startCursor) (spelling out)
+  spelling-wrote out =
+      steps-numbered w (s .next) acts renaming 0 (o .room) (o .variables) (textLimit out) (limit-low out) (omega arith) (tokens ds lines) []
+      (printer (prepare m) ownBytes startCursor) (writing-reached out .right) (due-first [] (signs (tokens ds lines)))
+      (λ l. first-numbered)
+
+  -- Where the tokens end is where the text does.
+  spelling-end : (out : List ℕ) → spelling out .cursor .at ≡ writeBytes text ownBytes (textLimit out) 0 .at
+  spelling-end out = ap (λ (x : Written). x .at) (spelling-wrote out .bytes)
+
+  -- A pass that ends past the limit tells that the text does not fit.
+  writing-long : (out : List ℕ) → textLimit out < writing out .cursor .at → textLimit out < length text
+  writing-long out h =
+      counted-long out text ownBytes (spelling out .cursor .at) (spelling-end out)
+      (reaches-past w (textLimit out) (tokens ds lines) (printer (prepare m) ownBytes startCursor) (writing out)
+      (writing-reached out .reaches) h)
+
+  -- One that ends within the limit has gone through the whole text.
+  writing-whole : (out : List ℕ) → writing out .cursor .at ≤ textLimit out → writing out ≡ spelling out
+  writing-whole out h =
+      reaches-within w (textLimit out) (tokens ds lines) (printer (prepare m) ownBytes startCursor) (writing out)
+      (writing-reached out .reaches) h
+
+  -- A text that ends within the limit fits.
+  writing-fits : (out : List ℕ) → writing out .cursor .at ≤ textLimit out → length text ≤ textLimit out
+  writing-fits out h =
+      counted-fits out text ownBytes (spelling out .cursor .at) (spelling-end out)
+      (subst (λ (p : Printer). p .cursor .at ≤ textLimit out) (writing-whole out h) h)
+
+  -- The writer's own bytes begin with the text then.
+  writing-bytes : (out : List ℕ) → writing out .cursor .at ≤ textLimit out
+      → written (writing out .buffer) (writing out .cursor .at) ≡ written (text ++ drop (length text) ownBytes) (length text)
   writing-bytes out h =
-      let limit = textLimit out in
-      let low = limit-low out in
-      let ks = tokens ds lines in
-      let g = numberedPrinter out in
-      let e = counting-whole out h in
-      let n : Numbered w (s .next) acts renaming 0 (signs ks) (counting out .memory) (counting out .cursor) =
-      subst (λ (p : Printer). Numbered w (s .next) acts renaming 0 (signs ks) (p .memory) (p .cursor)) (sym e)
-      (counted-wrote out .numbered (subst (λ (p : Printer). p .cursor .at ≤ limit) e h)) in
-      let same : (u : ℕ) → field (g .memory) u nextLineField ≡ field (prepare m) u nextLineField =
-      λ u. counting-alike out .fields u 62 (omega arith) (omega arith) in
-      let wrote = pass-wrote limit 65536 low (signs ks) g (omega arith) (n .alike) same (due-again renaming (signs ks))
-      (second-numbered (signs ks) (counting out .memory) (counting out .cursor) (omega arith) n) .bytes in
-      let end = bytes-end text out limit 0 low (omega arith) in
-      let fits = counting-fits out h in
-      let at = ap (λ (x : Written). x .at) wrote in
-      ap (λ (p : Printer). written (p .buffer) (p .cursor .at)) (reach-pass limit low g (n .alike) same .reaches .fits (omega arith))
-      ∙ wrote
+      ap (λ (p : Printer). written (p .buffer) (p .cursor .at)) (writing-whole out h) ∙ spelling-wrote out .bytes
+      ∙ own-fits out text (writing-fits out h)
 
   -- What the writer leaves in the answer buffer.
   proof-reported : (out : List ℕ)
       → written (writeProof sheet t goal m units out .buffer) (writeProof sheet t goal m units out .length) ≡ reportedLength text out
-  unfolding writeProof writePass
-  proof-reported out = go (ltb (textLimit out) (counting out .cursor .at)) refl
+  unfolding writeProof
+  proof-reported out = go (ltb (textLimit out) (writing out .cursor .at)) refl
     where
+      g : Printer
+      g = writing out
+
       result : Bool → Answered
       result b = elim b [
-        | true ↦ answered (counting out .memory) out noRoom
-        | false ↦ writePass sheet t acts (textLimit out) goal units (firstLink m) (counting out) out
+        | true ↦ answered (g .memory) out noRoom
+        | false ↦ answered (g .memory) (take (g .cursor .at) (g .buffer) ++ drop (g .cursor .at) out) (g .cursor .at)
       ]
 
-      go : (b : Bool) → ltb (textLimit out) (counting out .cursor .at) ≡ b
-          → written (result b .buffer) (result b .length) ≡ reportedLength text out
-      go true e = sym (reported-long text out (counting-long out (ltb-true (textLimit out) (counting out .cursor .at) e)))
+      go : (b : Bool) → ltb (textLimit out) (g .cursor .at) ≡ b → written (result b .buffer) (result b .length) ≡ reportedLength text out
+      go true e = sym (reported-long text out (writing-long out (ltb-true (textLimit out) (g .cursor .at) e)))
       go false e =
-          let h = ltb-false (textLimit out) (counting out .cursor .at) e in
-          writing-bytes out h ∙ written-fits out text (counting-fits out h)
+          let h = ltb-false (textLimit out) (g .cursor .at) e in
+          ap (λ (x : Written). written (take (x .at) (x .buffer) ++ drop (x .at) out) (x .at)) (writing-bytes out h)
+          ∙ ap (λ (l : List ℕ). written (l ++ drop (length text) out) (length text))
+          (take-append-seam text (drop (length text) ownBytes))
+          ∙ sym (reported-fits text out (writing-fits out h))
 
   -- What it leaves of the memory.
   pub proof-alike : (out : List ℕ) → Alike 62 w (writeProof sheet t goal m units out .memory)
-  unfolding writeProof writePass
-  proof-alike out = go (ltb (textLimit out) (counting out .cursor .at))
+  unfolding writeProof
+  proof-alike out = go (ltb (textLimit out) (writing out .cursor .at))
     where
-      counted : Alike 62 w (counting out .memory)
-      counted = alike-trans 62 w (prepare m) _ (ready .alike) (alike-fewer 63 62 (prepare m) _ (omega arith) (counting-alike out))
+      g : Printer
+      g = writing out
+
+      kept : Alike 62 w (g .memory)
+      kept =
+          reach-kept sheet t symbols nodes w acts s basis (textLimit out) (limit-low out) (tokens ds lines)
+          (printer (prepare m) ownBytes startCursor) g (writing-reached out) (ready .alike)
 
       result : Bool → Answered
       result b = elim b [
-        | true ↦ answered (counting out .memory) out noRoom
-        | false ↦ writePass sheet t acts (textLimit out) goal units (firstLink m) (counting out) out
+        | true ↦ answered (g .memory) out noRoom
+        | false ↦ answered (g .memory) (take (g .cursor .at) (g .buffer) ++ drop (g .cursor .at) out) (g .cursor .at)
       ]
 
       go : (b : Bool) → Alike 62 w (result b .memory)
-      go true = counted
-      go false =
-          let g = numberedPrinter out in
-          reach-kept sheet t symbols nodes w acts s basis (textLimit out) (limit-low out) (tokens ds lines) g (writing out)
-          (reach-pass (textLimit out) (limit-low out) g counted (λ u. counting-alike out .fields u 62 (omega arith) (omega arith))) counted
+      go true = kept
+      go false = kept
 
 -- The writer writes the answer text of a proved search.
 pub writes-proof : WritesProof

@@ -1,17 +1,17 @@
--- The writer: a first pass counts and numbers and writes no byte; where the text fits, a second one writes it. So a text that does
--- not fit (refusal 12) leaves the answer buffer alone.
+-- The writer. The text of a proof is written into bytes of the writer's own, and where it fits they are copied into the answer buffer;
+-- those of no and spent are counted first, and then written. So a text that does not fit (refusal 12) leaves the answer buffer alone.
 use Prim.Native.Nat.{ℕ, min}
 use mathlib.Core.Bool.{true, false}
-use mathlib.Core.List.{List, []}
+use mathlib.Core.List.{List, [], _++_}
 use lib.Dec.{ltb}
-use lib.ListN.{length}
+use lib.ListN.{length, take, drop, replicate}
 use Rattle.sheet_format.specs.Limits.{maxTextBytes, variableNames}
 use Rattle.sheet_format.specs.Bytes.{ascii, lf}
 use Rattle.node_table.specs.Layout.{maskOf}
 use Rattle.machine.specs.Records.{Made}
 use Rattle.printing.specs.declared.Cursor.{Cursor}
 use Rattle.printing.specs.Output.{Written, written, emit, writeBytes, writeNumber}
-use Rattle.printing.specs.Numbering.{withPosition, Printer, printer}
+use Rattle.printing.specs.Numbering.{Printer, printer}
 use Rattle.printing.specs.WriteLines.{resultTo, bindingsTo, linesTo}
 use Rattle.printing.specs.PathLinks.{linkPath, clearConstants}
 
@@ -42,7 +42,7 @@ prepare m =
 unfoldable pub firstLink : Made → ℕ
 firstLink m = linkPath (m .registers .acts) (m .memory) (m .registers .path) (m .registers .line) 0 .first
 
--- What the writer leaves: the printer of a counting pass that did not fit, the answer buffer as it was; or that of a writing pass.
+-- What the writer leaves: the work buffer, the answer buffer, and the length of the text.
 pub record Answered : Type 0 where
   pub memory : List ℕ
   pub buffer : List ℕ
@@ -52,19 +52,17 @@ pub record Answered : Type 0 where
 abbrev pub answered : List ℕ → List ℕ → ℕ → Answered
 answered w out n = record { memory = w; buffer = out; length = n }
 
--- The second pass: the numbers are there, the buffer is the lent one.
-unfoldable pub writePass : List ℕ → List ℕ → ℕ → ℕ → ℕ → ℕ → ℕ → Printer → List ℕ → Answered
-writePass sheet t turns limit goal units e g out =
-    let s = proofPass sheet t turns limit goal units e (printer (g .memory) out (withPosition (g .cursor) 0)) in
-    answered (s .memory) (s .buffer) (s .cursor .at)
+-- The writer's own bytes: as many as a text may have.
+unfoldable pub ownBytes : List ℕ
+ownBytes = replicate maxTextBytes 0
 
--- Both passes.
+-- The text of a proved search, copied where it fits.
 unfoldable pub writeProof : List ℕ → List ℕ → ℕ → Made → ℕ → List ℕ → Answered
 writeProof sheet t goal m units out =
-    let g = proofPass sheet t (m .registers .acts) (textLimit out) goal units (firstLink m) (printer (prepare m) [] startCursor) in
+    let g = proofPass sheet t (m .registers .acts) (textLimit out) goal units (firstLink m) (printer (prepare m) ownBytes startCursor) in
     elim (ltb (textLimit out) (g .cursor .at)) [
       | true ↦ answered (g .memory) out noRoom
-      | false ↦ writePass sheet t (m .registers .acts) (textLimit out) goal units (firstLink m) g out
+      | false ↦ answered (g .memory) (take (g .cursor .at) (g .buffer) ++ drop (g .cursor .at) out) (g .cursor .at)
     ]
 
 -- The texts of no and spent: bs are the bytes before the units.
