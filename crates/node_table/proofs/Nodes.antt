@@ -13,9 +13,10 @@ use Rattle.formulas.specs.Members.{members}
 use Rattle.sheet_format.specs.Limits.{maxSymbols}
 use Rattle.node_table.specs.Layout.{kindOf, labelOf, childOf, maskOf, bitOf, membersOf, arityOf, atomKind}
 use Rattle.node_table.specs.Decoding.{termAt, goalAt, clauseAtNode}
-use Rattle.node_table.specs.WellMade.{IsTerm, IsGoal, IsClause, labelArity, Arguments, Declared, Labelled, Named, TermNode, GoalNode, ClauseNode}
+use Rattle.node_table.specs.WellMade.{IsTerm, IsGoal, IsClause, labelArity, Arguments, Declared, Labelled, Named, TermNode, GoalNode, ChainNode}
+use Rattle.node_table.specs.WellMade.{ClauseNode}
 use Rattle.node_table.proofs.Same.{Same, same-kind, same-count, same-label, same-child, same-mask, same-goal, same-members}
-use Rattle.node_table.proofs.Same.{same-size, same-arity}
+use Rattle.node_table.proofs.Same.{same-size, same-arity, same-below, same-names, same-chain, same-names-over, same-count-over}
 use Rattle.node_table.proofs.Decoding.{Nodes, termAt-same, goalAt-same, clauseAt-same}
 
 module _ (t u : List ℕ) (symbols nodes : ℕ) (s : Same t u symbols nodes) where
@@ -145,6 +146,15 @@ module _ (t u : List ℕ) (symbols nodes : ℕ) (s : Same t u symbols nodes) whe
     members-child n h j l k =
         ap (membersOf u) (same-child t u symbols nodes s n h j l) ∙ same-members t u symbols nodes s (childOf t n j) (omega arith)
 
+    -- A U node over a keeps in both tables what the U nodes from it on come to.
+    pub chain-same : (n v a : ℕ) → n < nodes → a < n → ChainNode t n v a → ChainNode u n v a
+    chain-same n v a h l c =
+        record {
+          below = same-below t u symbols nodes s n h ∙ c .below ∙ sym (same-below t u symbols nodes s a (omega arith));
+          names = same-names t u symbols nodes s n h ∙ c .names ∙ sym (same-names-over t u symbols nodes s a (omega arith) v);
+          count = same-chain t u symbols nodes s n h ∙ c .count ∙ sym (same-count-over t u symbols nodes s a (omega arith) v);
+        }
+
     pub clause-same : (n : ℕ) → n < nodes → IsClause t n → ClauseNode u n
     clause-same n h i =
         let m = made .clause n h i in
@@ -180,6 +190,9 @@ module _ (t u : List ℕ) (symbols nodes : ℕ) (s : Same t u symbols nodes) whe
           each = λ k. let a = m .each (sym e ∙ k) in
               let x = clause-child n h 0 (omega arith) (a .1) (a .2) in
               (subst (λ (x : ℕ). x < 8) (sym l) (a .0), x .0, x .1, c ∙ a .3 ∙ sym (members-child n h 0 (omega arith) (a .1)));
+          chain = λ k. let a = m .each (sym e ∙ k) in
+              let d = same-child t u symbols nodes s n h 0 (omega arith) in
+              rw (l, d) (chain-same n (labelOf t n) (childOf t n 0) h (a .1) (m .chain (sym e ∙ k)));
           few = omega arith;
           members = c ∙ m .members ∙ ap (λ (x : Clause). length (members x)) tree;
           free = free-same n h (freeC (clauseAtNode t n)) (freeC (clauseAtNode u n)) (m .free) (λ v. ap (λ (x : Clause). freeC x v) tree);

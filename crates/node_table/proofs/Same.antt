@@ -6,6 +6,7 @@ use mathlib.Core.List.{List}
 use lib.ListN.{getD}
 use Rattle.node_table.specs.Layout.{symbolAt, nodeAt, kindOf, childCount, labelOf, childOf, infoOf, maskOf, goalBit, membersOf}
 use Rattle.node_table.specs.Layout.{sizeOf, nameStart, nameLength, isFunctionBit, arityOf}
+use Rattle.node_table.specs.Chains.{belowOf, chainNames, chainCount, isFree, namesOver, countOver}
 
 pub record Same (t u : List ℕ) (symbols nodes : ℕ) : Type 0 where
   pub symbol : (i f : ℕ) → i < symbols → f < 3 → getD u (symbolAt i f) 0 ≡ getD t (symbolAt i f) 0
@@ -69,3 +70,28 @@ module _ (t u : List ℕ) (symbols nodes : ℕ) (s : Same t u symbols nodes) whe
     pub same-size : sizeOf u n ≡ sizeOf t n
     unfolding sizeOf
     same-size = ap (λ (x : ℕ). x / 65536) same-info
+
+    -- So are the U nodes from n on, and what they come to with another one over them.
+    pub same-below : belowOf u n ≡ belowOf t n
+    unfolding belowOf
+    same-below = rw (same-kind, same-child 1 (omega arith))
+
+    pub same-names : chainNames u n ≡ chainNames t n
+    unfolding chainNames
+    same-names = rw (same-kind, same-child 2 (omega arith))
+
+    pub same-chain : chainCount u n ≡ chainCount t n
+    unfolding chainCount
+    same-chain = rw (same-kind, same-child 3 (omega arith))
+
+    pub same-free : (v : ℕ) → isFree u v n ≡ isFree t v n
+    unfolding isFree
+    same-free v = rw same-mask
+
+    pub same-names-over : (v : ℕ) → namesOver u v n ≡ namesOver t v n
+    unfolding namesOver
+    same-names-over v = rw (same-free v, same-names)
+
+    pub same-count-over : (v : ℕ) → countOver u v n ≡ countOver t v n
+    unfolding countOver
+    same-count-over v = rw (same-free v, same-chain)

@@ -13,6 +13,7 @@ use Rattle.sheet_format.specs.Limits.{maxArity, maxNodes, maxNumber, maxSymbols
 use Rattle.node_table.specs.Layout.{kindOf, childCount, labelOf, childOf, maskOf, bitOf, goalBit, membersOf, sizeOf, arityOf}
 use Rattle.node_table.specs.Layout.{clauseNode, applicationKind, forallKind, impliesKind, atomKind, andKind, existsKind, orKind}
 use Rattle.node_table.specs.Layout.{variableKind}
+use Rattle.node_table.specs.Chains.{belowOf, chainNames, chainCount, namesOver, countOver}
 use Rattle.node_table.specs.Decoding.{termAt, goalAt, clauseAtNode}
 
 abbrev pub IsTerm : List ℕ → ℕ → Type 0
@@ -53,6 +54,12 @@ pub record GoalNode (t : List ℕ) (n : ℕ) : Type 0 where
   pub forall : kindOf t n ≡ forallKind → (labelOf t n < variableNames) × (childOf t n 0 < n) × IsGoal t (childOf t n 0)
   pub free : (v : ℕ) → v < variableNames → eqb (bitOf (maskOf t n) v) 1 ≡ freeG (goalAt t n) v
 
+-- What the U nodes from n on come to, n being U of variable v over node a.
+pub record ChainNode (t : List ℕ) (n v a : ℕ) : Type 0 where
+  pub below : belowOf t n ≡ belowOf t a
+  pub names : chainNames t n ≡ namesOver t v a
+  pub count : chainCount t n ≡ countOver t v a
+
 -- A clause: an atom, & of clauses, > from a goal to an atom, U of a clause.
 pub record ClauseNode (t : List ℕ) (n : ℕ) : Type 0 where
   pub kind : (kindOf t n ≡ atomKind → ⊥) → (kindOf t n ≡ andKind → ⊥) → (kindOf t n ≡ impliesKind → ⊥) → kindOf t n ≡ forallKind
@@ -63,6 +70,7 @@ pub record ClauseNode (t : List ℕ) (n : ℕ) : Type 0 where
       × (kindOf t (childOf t n 1) ≡ atomKind) × Arguments t (childOf t n 1)
   pub each : kindOf t n ≡ forallKind → (labelOf t n < variableNames) × (childOf t n 0 < n) × IsClause t (childOf t n 0)
       × (membersOf t n ≡ membersOf t (childOf t n 0))
+  pub chain : kindOf t n ≡ forallKind → ChainNode t n (labelOf t n) (childOf t n 0)
   pub few : membersOf t n ≤ maxMembers
   pub members : membersOf t n ≡ length (members (clauseAtNode t n))
   pub free : (v : ℕ) → v < variableNames → eqb (bitOf (maskOf t n) v) 1 ≡ freeC (clauseAtNode t n) v

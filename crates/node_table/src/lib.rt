@@ -4,12 +4,17 @@ pub mod layout;
 
 use memory::get;
 use memory::widen;
+use sheet_format::limits;
 ghost use mathlib.Core.Path.{_≡_};
 ghost use Prim.Native.Nat.{_+_, _*_, _<_, _≤_};
 ghost use lib.Dec.{eqb};
 ghost use lib.ListN.{getD};
 ghost use Rattle.node_table.specs.Layout.{symbolAt, nodeAt, kindOf, childCount, labelOf, childOf, infoOf, maskOf, bitOf, goalBit};
 ghost use Rattle.node_table.specs.Layout.{membersOf, sizeOf, nameStart, nameLength, isFunctionBit, arityOf, clauseNode, orderNumber};
+ghost use Rattle.node_table.specs.Chains.{belowOf, chainNames, chainCount, isFree, nameBefore, oneMore};
+
+// The names of a prefix are digits: so many numbers have eight of them.
+const PREFIXES: u32 = 16777216;
 
 // Field f of node n.
 fn node_field(t: &[u32], n: u32, f: usize) -> u32
@@ -150,4 +155,55 @@ pub fn bit_of(m: u32, v: u32) -> u32
         left -= 1;
     }
     rest % 2
+}
+
+// Whether variable v stands free in node n.
+pub fn is_free(t: &[u32], v: u32, n: u32) -> bool
+    ensures { λ r. ⌜ r ≡ isFree (now (t .entry)) v n ⌝ }
+{
+    bit_of(mask(t, n), v) == 1
+}
+
+// The first node from n down that is no U node.
+pub fn below(t: &[u32], n: u32) -> u32
+    ensures { λ r. ⌜ r ≡ belowOf (now (t .entry)) n ⌝ }
+{
+    if kind(t, n) == kinds::FORALL {
+        return child(t, n, 1);
+    }
+    n
+}
+
+// The names that the U nodes from n down to it bind there, outermost first, as digits to base 8, lowest first.
+pub fn chain_names(t: &[u32], n: u32) -> u32
+    ensures { λ r. ⌜ r ≡ chainNames (now (t .entry)) n ⌝ }
+{
+    if kind(t, n) == kinds::FORALL {
+        return child(t, n, 2);
+    }
+    0
+}
+
+// How many names there are.
+pub fn chain_count(t: &[u32], n: u32) -> u32
+    ensures { λ r. ⌜ r ≡ chainCount (now (t .entry)) n ⌝ }
+{
+    if kind(t, n) == kinds::FORALL {
+        return child(t, n, 3);
+    }
+    0
+}
+
+// The digits of names, with v in front.
+pub fn name_before(v: u32, names: u32) -> u32
+    ensures { λ r. ⌜ r ≡ nameBefore v names ⌝ }
+{
+    v % limits::VARIABLE_NAMES + limits::VARIABLE_NAMES * (names % PREFIXES)
+}
+
+// How many names there are with one more: each stands once, so that there are at most eight.
+pub fn one_more(count: u32) -> u32
+    ensures { λ r. ⌜ r ≡ oneMore count ⌝ }
+{
+    count % limits::VARIABLE_NAMES + 1
 }

@@ -10,6 +10,7 @@ use Rattle.sheet_format.specs.Limits.{maxMembers, maxSymbols, maxNodes, maxClau
 use Rattle.node_table.specs.Layout.{nodeAt, clauseAt, kindOf, maskOf, goalBit, membersOf, packInfo, atomKind, variableKind, applicationKind}
 use Rattle.node_table.specs.Layout.{trueKind, andKind, orKind, impliesKind, existsKind, forallKind, headField, labelField, firstChildField}
 use Rattle.node_table.specs.Layout.{secondChildField, thirdChildField, fourthChildField, infoField, childUnit, goalUnit}
+use Rattle.node_table.specs.Chains.{belowOf, namesOver, countOver}
 use Rattle.table_builder.specs.declared.node_info.Counts.{Counts}
 use Rattle.table_builder.specs.declared.node_info.NodeRecord.{NodeRecord}
 use Rattle.table_builder.specs.declared.node_info.Taken.{Taken}
@@ -96,17 +97,16 @@ insertNumeral t k n =
 unfoldable pub insertTrue : List ℕ → Counts → Made
 insertTrue t k = cond (leb maxNodes (k .nodes)) (made t (Stop 7)) (addNode t k (nodeRecord trueKind 0 0 0 0 0 goalUnit))
 
--- A node of that kind with two children, with one: 7, then 8, then 9.
+-- A node of that kind with two children, a node with one: 7, then 8, then 9.
 unfoldable pub addTwo : List ℕ → Counts → ℕ → ℕ → ℕ → ℕ → Made
 addTwo t k kind a b info =
     cond (leb maxNodes (k .nodes)) (made t (Stop 7))
     (cond (leb (k .nodes) a) (made t (Stop 8))
     (cond (leb (k .nodes) b) (made t (Stop 8)) (addNode t k (nodeRecord (kind + 2 * childUnit) 0 a b 0 0 info))))
 
-unfoldable pub addOne : List ℕ → Counts → ℕ → ℕ → ℕ → ℕ → Made
-addOne t k kind v a info =
-    cond (leb maxNodes (k .nodes)) (made t (Stop 7))
-    (cond (leb (k .nodes) a) (made t (Stop 8)) (addNode t k (nodeRecord (kind + childUnit) v a 0 0 0 info)))
+unfoldable pub addOne : List ℕ → Counts → NodeRecord → Made
+addOne t k r =
+    cond (leb maxNodes (k .nodes)) (made t (Stop 7)) (cond (leb (k .nodes) (r .first)) (made t (Stop 8)) (addNode t k r))
 
 unfoldable pub insertAnd : List ℕ → Counts → ℕ → ℕ → Made
 insertAnd t k a b = addTwo t k andKind a b (andInfo t a b)
@@ -118,10 +118,12 @@ unfoldable pub insertImplies : List ℕ → Counts → ℕ → ℕ → Made
 insertImplies t k a b = addTwo t k impliesKind a b (impliesInfo t a b)
 
 unfoldable pub insertExists : List ℕ → Counts → ℕ → ℕ → Made
-insertExists t k v a = addOne t k existsKind v a (existsInfo t v a)
+insertExists t k v a = addOne t k (nodeRecord (existsKind + childUnit) v a 0 0 0 (existsInfo t v a))
 
+-- The record of a U node has what the U nodes from it on come to.
 unfoldable pub insertForall : List ℕ → Counts → ℕ → ℕ → Made
-insertForall t k v a = addOne t k forallKind v a (forallInfo t v a)
+insertForall t k v a =
+    addOne t k (nodeRecord (forallKind + childUnit) v a (belowOf t a) (namesOver t v a) (countOver t v a) (forallInfo t v a))
 
 -- C and Q.
 unfoldable pub insertClause : List ℕ → Counts → ℕ → Made

@@ -1,16 +1,22 @@
 // What a node is, from what its children are: a goal?, how many members as a clause, its free variables. No tree is walked.
 use memory::widen;
+use node_table::chain_count;
+use node_table::chain_names;
 use node_table::goal_bit;
+use node_table::is_free;
 use node_table::is_goal;
 use node_table::kind;
 use node_table::kinds;
 use node_table::layout;
 use node_table::mask;
 use node_table::members;
+use node_table::name_before;
+use node_table::one_more;
 use sheet_format::limits;
 ghost use mathlib.Core.Path.{_≡_};
 ghost use Prim.Native.Nat.{_<_, _≤_};
 ghost use Rattle.node_table.specs.Layout.{maskOf, packInfo};
+ghost use Rattle.node_table.specs.Chains.{namesOver, countOver};
 ghost use Rattle.table_builder.specs.Nodes.{onlyBit, withoutBit, bothGoals, sumMembers, supposedGoal, ruledMembers, unitedMask};
 ghost use Rattle.table_builder.specs.Nodes.{andInfo, orInfo, impliesInfo, existsInfo, forallInfo};
 
@@ -165,4 +171,26 @@ pub fn forall_info(t: &[u32], v: u32, a: u32) -> u32
 {
     let free = bound_mask(t, v, a);
     pack_info(free, goal_bit(t, a), members(t, a), 0)
+}
+
+// The names that U nodes in a row bind, the first being U of variable v over node a, which binds v if it stands free there.
+pub fn names_over(t: &[u32], v: u32, a: u32) -> u32
+    ensures { λ r. ⌜ r ≡ namesOver (now (t .entry)) v a ⌝ }
+{
+    let names = chain_names(t, a);
+    if is_free(t, v, a) {
+        return name_before(v, names);
+    }
+    names
+}
+
+// How many they are.
+pub fn count_over(t: &[u32], v: u32, a: u32) -> u32
+    ensures { λ r. ⌜ r ≡ countOver (now (t .entry)) v a ⌝ }
+{
+    let count = chain_count(t, a);
+    if is_free(t, v, a) {
+        return one_more(count);
+    }
+    count
 }

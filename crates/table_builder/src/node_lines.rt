@@ -4,9 +4,11 @@ use super::node_info::Counts;
 use super::node_info::NodeRecord;
 use super::node_info::Taken;
 use super::node_info::and_info;
+use super::node_info::count_over;
 use super::node_info::exists_info;
 use super::node_info::forall_info;
 use super::node_info::implies_info;
+use super::node_info::names_over;
 use super::node_info::only_bit;
 use super::node_info::or_info;
 use super::node_info::pack_info;
@@ -15,6 +17,7 @@ use super::nodes::add_one;
 use super::nodes::add_two;
 use memory::put;
 use memory::widen;
+use node_table::below;
 use node_table::is_goal;
 use node_table::kinds;
 use node_table::layout;
@@ -127,15 +130,42 @@ pub fn insert_exists(t: &mut [u32], k: Counts, v: u32, a: u32) -> Taken
     ensures { λ r. ⌜ made (now (t .exit)) r ≡ insertExists (now (t .entry)) k v a ⌝ }
 {
     let info = exists_info(t, v, a);
-    add_one(t, k, kinds::EXISTS, v, a, info)
+    add_one(
+        t,
+        k,
+        NodeRecord {
+            head: kinds::EXISTS + layout::CHILD_UNIT,
+            label: v,
+            first: a,
+            second: 0,
+            third: 0,
+            fourth: 0,
+            info,
+        },
+    )
 }
 
-// Inserts the node of a line U v a.
+// Inserts the node of a line U v a, with what the U nodes from it on come to.
 pub fn insert_forall(t: &mut [u32], k: Counts, v: u32, a: u32) -> Taken
     ensures { λ r. ⌜ made (now (t .exit)) r ≡ insertForall (now (t .entry)) k v a ⌝ }
 {
+    let second = below(t, a);
+    let third = names_over(t, v, a);
+    let fourth = count_over(t, v, a);
     let info = forall_info(t, v, a);
-    add_one(t, k, kinds::FORALL, v, a, info)
+    add_one(
+        t,
+        k,
+        NodeRecord {
+            head: kinds::FORALL + layout::CHILD_UNIT,
+            label: v,
+            first: a,
+            second,
+            third,
+            fourth,
+            info,
+        },
+    )
 }
 
 // Inserts the clause of a line C n.

@@ -84,28 +84,15 @@ pub fn add_two(t: &mut [u32], k: Counts, kind: u32, a: u32, b: u32, info: u32) -
     )
 }
 
-// A node of that kind with a variable and one child.
-pub fn add_one(t: &mut [u32], k: Counts, kind: u32, v: u32, a: u32, info: u32) -> Taken
-    requires { ⌜ kind < 16 ⌝ }
-    ensures { λ r. ⌜ made (now (t .exit)) r ≡ addOne (now (t .entry)) k kind v a info ⌝ }
+// A node with one child.
+pub fn add_one(t: &mut [u32], k: Counts, r: NodeRecord) -> Taken
+    ensures { λ a. ⌜ made (now (t .exit)) a ≡ addOne (now (t .entry)) k r ⌝ }
 {
     if limits::MAX_NODES <= k.nodes {
         return Taken::Stop(refusals::TOO_MANY);
     }
-    if k.nodes <= a {
+    if k.nodes <= r.first {
         return Taken::Stop(refusals::UNKNOWN);
     }
-    add_node(
-        t,
-        k,
-        NodeRecord {
-            head: kind + layout::CHILD_UNIT,
-            label: v,
-            first: a,
-            second: 0,
-            third: 0,
-            fourth: 0,
-            info,
-        },
-    )
+    add_node(t, k, r)
 }

@@ -20,9 +20,10 @@ use Rattle.sheet_format.specs.Sheets.{addNode as sheetAddNode}
 use Rattle.node_table.specs.Decoding.{declarationAt}
 use Rattle.node_table.specs.WellMade.{IsGoal, WellMade, Named}
 use Rattle.table_builder.specs.declared.node_info.Counts.{Counts}
+use Rattle.table_builder.specs.declared.node_info.NodeRecord.{NodeRecord}
 use Rattle.table_builder.specs.declared.node_info.Taken.the-variants.{Stop}
-use Rattle.table_builder.specs.Nodes.{Made, made, counts, nodeRecord, addNode, addOne, addTwo, andInfo, orInfo, impliesInfo, existsInfo}
-use Rattle.table_builder.specs.Nodes.{forallInfo, insertVariable, insertNumeral, insertTrue, insertAnd, insertOr, insertImplies}
+use Rattle.table_builder.specs.Nodes.{Made, made, counts, nodeRecord, addNode, addOne, addTwo, andInfo, orInfo, impliesInfo}
+use Rattle.table_builder.specs.Nodes.{insertVariable, insertNumeral, insertTrue, insertAnd, insertOr, insertImplies}
 use Rattle.table_builder.specs.Nodes.{insertExists, insertForall, insertClause, checkGoal}
 use Rattle.table_builder.specs.Symbols.{allThere, applicationInfo, appliedKind, firstOf, insertApplication, insertDeclaration}
 use Rattle.table_decoding.specs.Decoding.{nodeRead, tableOf, Decodes, Agrees, Follows}
@@ -80,13 +81,12 @@ module _ (bytes t : List ℕ) (k : Counts) (st : Decodes bytes t k) where
       (there a (λ o. sheetAddNode table (map2 f o (getElem? (table .nodes) b))) _ refl
       (λ q. there b (λ o. sheetAddNode table (map2 f (some (nodeRead t a)) o)) _ refl (λ r. h p q r))))
 
-  one : (l : NodeLine) (kind v a info : ℕ) (f : Node → Node)
-      → nodeOf (table .symbols) (table .nodes) l ≡ Option·map f (getElem? (table .nodes) a)
-      → (k .nodes < 1024 → a < k .nodes
-      → Follows bytes t k (addNode t k (nodeRecord (kind + 16) v a 0 0 0 info)) (sheetAddNode table (some (f (nodeRead t a)))))
-      → Follows bytes t k (addOne t k kind v a info) (takeNode table l)
+  one : (l : NodeLine) (r : NodeRecord) (f : Node → Node)
+      → nodeOf (table .symbols) (table .nodes) l ≡ Option·map f (getElem? (table .nodes) (r .first))
+      → (k .nodes < 1024 → r .first < k .nodes → Follows bytes t k (addNode t k r) (sheetAddNode table (some (f (nodeRead t (r .first))))))
+      → Follows bytes t k (addOne t k r) (takeNode table l)
   unfolding addOne sheetAddNode
-  one l kind v a info f e h = room l _ (λ p. rw e (there a (λ o. sheetAddNode table (Option·map f o)) _ refl (λ q. h p q)))
+  one l r f e h = room l _ (λ p. rw e (there (r .first) (λ o. sheetAddNode table (Option·map f o)) _ refl (λ q. h p q)))
 
   -- nodes
 
@@ -119,12 +119,12 @@ module _ (bytes t : List ℕ) (k : Counts) (st : Decodes bytes t k) where
   pub follows-exists : (v a : ℕ) → v < 8
       → Follows bytes t k (insertExists t k v a) (takeLine sameName table (some (nodeLine (someLine v a))))
   unfolding insertExists takeLine nodeOf
-  follows-exists v a l = one (someLine v a) 7 v a (existsInfo t v a) _ refl (λ p q. exists-added bytes t k st p v l a q)
+  follows-exists v a l = one (someLine v a) _ _ refl (λ p q. exists-added bytes t k st p v l a q)
 
   pub follows-forall : (v a : ℕ) → v < 8
       → Follows bytes t k (insertForall t k v a) (takeLine sameName table (some (nodeLine (everyLine v a))))
   unfolding insertForall takeLine nodeOf
-  follows-forall v a l = one (everyLine v a) 8 v a (forallInfo t v a) _ refl (λ p q. forall-added bytes t k st p v l a q)
+  follows-forall v a l = one (everyLine v a) _ _ refl (λ p q. forall-added bytes t k st p v l a q)
 
   -- The symbol of an application is found in the table if it is there.
   symbol-there : (f : ℕ) → f < k .symbols → getElem? (table .symbols) f ≡ some (declarationAt bytes t f)

@@ -11,7 +11,7 @@ use Rattle.formulas.specs.Members.{members}
 use Rattle.node_table.specs.Layout.{kindOf, labelOf, childOf, maskOf, bitOf, membersOf, sizeOf, forallKind, impliesKind, atomKind, andKind}
 use Rattle.node_table.specs.Layout.{existsKind, orKind, trueKind, applicationKind, variableKind}
 use Rattle.node_table.specs.Decoding.{termAt, goalAt, clauseAtNode}
-use Rattle.node_table.specs.WellMade.{IsGoal, IsClause, Arguments, TermNode, GoalNode, ClauseNode}
+use Rattle.node_table.specs.WellMade.{IsGoal, IsClause, Arguments, TermNode, GoalNode, ChainNode, ClauseNode}
 
 -- A child that comes before, and is a goal, or a clause.
 abbrev pub GoalChild : List ℕ → ℕ → ℕ → Type 0
@@ -138,6 +138,7 @@ module _ (u : List ℕ) (n : ℕ) where
           and = λ d. absurd (omega arith);
           implies = λ d. absurd (omega arith);
           each = λ d. absurd (omega arith);
+          chain = λ d. absurd (omega arith);
           few = l;
           members = m;
           free = f;
@@ -152,6 +153,7 @@ module _ (u : List ℕ) (n : ℕ) where
           and = λ d. (x .0, x .1, y .0, y .1, s);
           implies = λ d. absurd (omega arith);
           each = λ d. absurd (omega arith);
+          chain = λ d. absurd (omega arith);
           few = l;
           members = m;
           free = f;
@@ -166,20 +168,22 @@ module _ (u : List ℕ) (n : ℕ) where
           and = λ d. absurd (omega arith);
           implies = λ d. (x .0, x .1, y .0, y .1, y .2);
           each = λ d. absurd (omega arith);
+          chain = λ d. absurd (omega arith);
           few = l;
           members = m;
           free = f;
         }
 
     pub a-quantified : kindOf u n ≡ forallKind → labelOf u n < 8 → ClauseChild u n 0 → membersOf u n ≡ membersOf u (childOf u n 0)
-        → ClauseNode u n
-    a-quantified e h x s =
+        → ChainNode u n (labelOf u n) (childOf u n 0) → ClauseNode u n
+    a-quantified e h x s c =
         record {
           kind = λ p q r. e;
           atom = λ d. absurd (omega arith);
           and = λ d. absurd (omega arith);
           implies = λ d. absurd (omega arith);
           each = λ d. (h, x .0, x .1, s);
+          chain = λ d. c;
           few = l;
           members = m;
           free = f;

@@ -15,9 +15,10 @@ use Rattle.sheet_format.specs.Limits.{maxSymbols, maxNumber}
 use Rattle.sheet_format.specs.Nodes.{termNode}
 use Rattle.sheet_format.specs.Sheets.{addNode as sheetAddNode}
 use Rattle.node_table.specs.Layout.{maskOf, bitOf, goalBit, membersOf, packInfo, applicationKind}
+use Rattle.node_table.specs.Chains.{belowOf, chainNames, chainCount, namesOver, countOver}
 use Rattle.node_table.specs.Decoding.{functorOf, childrenBy, termBy, termAt, goalBy, goalAt, clauseBy, clauseAtNode}
-use Rattle.node_table.specs.WellMade.{IsGoal, IsClause, labelArity, Arguments}
-use Rattle.node_table.proofs.Same.{same-members}
+use Rattle.node_table.specs.WellMade.{IsGoal, IsClause, labelArity, Arguments, ChainNode}
+use Rattle.node_table.proofs.Same.{same-members, same-below, same-names-over, same-count-over}
 use Rattle.node_table.proofs.Functors.{numeral-functor, numeral-arity}
 use Rattle.node_table.proofs.Decoding.{termBy-variable, termBy-application, goalBy-true, goalBy-exists, goalBy-forall, clauseBy-each}
 use Rattle.table_builder.specs.declared.node_info.Counts.{Counts}
@@ -228,16 +229,17 @@ module _ (bytes t : List ℕ) (k : Counts) (st : Decodes bytes t k) (h : k .node
       -- U
 
       abbrev forallRecord : NodeRecord
-      forallRecord = nodeRecord 24 v a 0 0 0 (forallInfo t v a)
+      forallRecord = nodeRecord 24 v a (belowOf t a) (namesOver t v a) (countOver t v a) (forallInfo t v a)
 
       abbrev forallTable : List ℕ
       forallTable = nodeWritten t n forallRecord
 
-      forall-is : NodeIs forallTable n 8 1 v a 0 0 0 (withoutBit v (maskOf t a)) (goalBit t a) (membersOf t a) 0
+      forall-is : NodeIs forallTable n 8 1 v a (belowOf t a) (namesOver t v a) (countOver t v a) (withoutBit v (maskOf t a)) (goalBit t a)
+          (membersOf t a) 0
       unfolding forallInfo
       forall-is =
-          written t n 8 1 v a 0 0 0 (withoutBit v (maskOf t a)) (goalBit t a) (membersOf t a) 0 (st .long) h (omega arith) without-below
-          (goal-le t a) (members-below t a)
+          written t n 8 1 v a (belowOf t a) (namesOver t v a) (countOver t v a) (withoutBit v (maskOf t a)) (goalBit t a) (membersOf t a) 0
+          (st .long) h (omega arith) without-below (goal-le t a) (members-below t a)
 
       forall-goal : IsGoal t a → goalAt forallTable n ≡ forall v (goalAt t a)
       unfolding goalAt
@@ -259,6 +261,17 @@ module _ (bytes t : List ℕ) (k : Counts) (st : Decodes bytes t k) (h : k .node
           (map-read (forall v) (goalBit t a) (goalBit forallTable n) (goalAt t a) (goalAt forallTable n) (forall-is .goal) forall-goal)
           (map-clause (each v) (membersOf t a) (membersOf forallTable n) (clauseAtNode t a) (clauseAtNode forallTable n)
           (forall-is .members) forall-clause)
+
+      -- It keeps what the U nodes from it on come to.
+      forall-chain : ChainNode forallTable n v a
+      unfolding belowOf chainNames chainCount
+      forall-chain =
+          let s = same bytes t k st h forallRecord in
+          record {
+            below = rw (forall-is .kind) (forall-is .second) ∙ sym (same-below t forallTable (k .symbols) n s a la);
+            names = rw (forall-is .kind) (forall-is .third) ∙ sym (same-names-over t forallTable (k .symbols) n s a la v);
+            count = rw (forall-is .kind) (forall-is .fourth) ∙ sym (same-count-over t forallTable (k .symbols) n s a la v);
+          }
 
       forall-new : NewNode forallTable n (k .symbols)
       unfolding freeG freeC members
@@ -286,7 +299,8 @@ module _ (bytes t : List ℕ) (k : Counts) (st : Decodes bytes t k) (h : k .node
                 ∙ ap (λ (c : Clause). freeC c w) (sym (forall-clause p)))
                 e (omega arith) (clause-there bytes t k st h forallRecord a la 0 (forall-is .first) p)
                 (m ∙ sym (ap (membersOf forallTable) (forall-is .first)
-                ∙ same-members t forallTable (k .symbols) n (same bytes t k st h forallRecord) a la));
+                ∙ same-members t forallTable (k .symbols) n (same bytes t k st h forallRecord) a la))
+                (rw (forall-is .label, forall-is .first) forall-chain);
           }
 
       pub forall-added : Follows bytes t k (addNode t k forallRecord) (sheetAddNode (tableOf bytes t k) (some

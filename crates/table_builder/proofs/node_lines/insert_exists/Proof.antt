@@ -10,4 +10,5 @@ returns c =
     simp (insertExists, ← c .before .before .add-one .ensures, ← at-exists-info .exists-info .ensures)
 
 pub insert-exists-spec : {M : Type 1} → statement M
-insert-exists-spec = tie.close (tie.spec (λ c κs. search needs) (λ c κs. search needs) (λ c. search needs) returns)
+insert-exists-spec =
+    tie.close (tie.spec (λ c κs. search needs) (λ c. search needs) (λ c κs. search needs) (λ c. search needs) returns)

@@ -1,0 +1,17 @@
+use Rattle.node_table.specs.Chains.{namesOver}
+use borrow.Author.Needs.{needs}
+use Rattle.table_builder.proofs.node_info.names_over.Statement.{statement}
+use Rattle.table_builder.proofs.node_info.names_over.Tie as tie
+
+returns : tie.Need-returns
+unfolding namesOver
+returns c =
+    let at-if1 = c .before in
+    simp (namesOver, ← c .name-before .ensures, ← at-if1 .before .is-free .ensures, at-if1 .if1 .taken, ← at-if1 .before .before .chain-names .ensures)
+
+returns-2 : tie.Need-returns-2
+unfolding namesOver
+returns-2 c = simp (namesOver, ← c .before .is-free .ensures, c .if1 .left, ← c .before .before .chain-names .ensures)
+
+pub names-over-spec : {M : Type 1} → statement M
+names-over-spec = tie.close (tie.spec (λ c κs. search needs) (λ c κs. search needs) (λ c κs. search needs) returns returns-2)
