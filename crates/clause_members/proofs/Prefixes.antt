@@ -1,15 +1,16 @@
 -- Prefixes as digits to base 8: each name stands once and is below 8, so that there are at most eight.
 use Prim.Native.Nat.{ℕ, zero, suc, _+_, _*_, _/_, _%_, _<_, _≤_}
 use native.Mathlib.Omega.{arith}
-use mathlib.Core.Path.{_≡_, refl, sym, ap, subst}
+use mathlib.Core.Path.{_≡_, refl, sym, ap, _∙_, subst}
 use mathlib.Core.Bool.{Bool, true, false, cond, true≢false}
-use mathlib.Core.List.{List, [], _∷_}
+use mathlib.Core.List.{List, [], _∷_, _++_}
 use lib.Dec.{eqb}
 use lib.ListN.{length}
-use borrow.Author.Tests.{eqb-true, eqb-false, eq-eqb}
+use borrow.Author.Tests.{eqb-true, eqb-false, ne-eqb}
 use Rattle.terms.specs.Lists.{All, elem}
+use Rattle.node_table.specs.Chains.{nameBefore, oneMore}
 use Rattle.clause_members.specs.declared.Found.{Found}
-use Rattle.clause_members.specs.Members.{found, hasName, pushName}
+use Rattle.clause_members.specs.Members.{found, pushName}
 
 -- No number stands twice.
 abbrev pub Distinct : List ℕ → Type 0
@@ -36,19 +37,6 @@ elem-cons : (v u : ℕ) (l : List ℕ) → eqb u v ≡ false → elem v l ≡ fa
 unfolding elem
 elem-cons v u l h k = rw (elem, h) k
 
--- A list has its head, and what its tail has.
-pub elem-head : (v : ℕ) (l : List ℕ) → elem v (v ∷ l) ≡ true
-unfolding elem
-elem-head v l = rw (elem, eq-eqb v v refl)
-
-pub elem-more : (v u : ℕ) (l : List ℕ) → elem v l ≡ true → elem v (u ∷ l) ≡ true
-unfolding elem
-elem-more v u l h = go (eqb u v)
-  where
-    go : (b : Bool) → elim b as (λ z. Bool) [ true ↦ true | false ↦ elem v l ] ≡ true
-    go true = refl
-    go false = h
-
 -- Removing brings nothing in.
 remove-elem : (n v : ℕ) (l : List ℕ) → elem v l ≡ false → elem v (remove n l) ≡ false
 unfolding remove elem
@@ -59,18 +47,8 @@ remove-elem n v (u ∷ l) h = go (eqb u n) (remove-elem n v l (elem-tail v u l h
     go true p = p
     go false p = elem-cons v u (remove n l) (elem-tail v u l h .0) p
 
--- What is removed is gone.
-pub remove-away : (v : ℕ) (l : List ℕ) → elem v (remove v l) ≡ false
-unfolding remove elem
-remove-away v [] = refl
-remove-away v (u ∷ l) = go (eqb u v) refl (remove-away v l)
-  where
-    go : (b : Bool) → eqb u v ≡ b → elem v (remove v l) ≡ false → elem v (cond b (remove v l) (u ∷ remove v l)) ≡ false
-    go true e p = p
-    go false e p = elem-cons v u (remove v l) e p
-
 -- Removing leaves distinct numbers distinct.
-pub remove-distinct : (n : ℕ) (l : List ℕ) → Distinct l → Distinct (remove n l)
+remove-distinct : (n : ℕ) (l : List ℕ) → Distinct l → Distinct (remove n l)
 unfolding remove
 remove-distinct n [] h = tt
 remove-distinct n (u ∷ l) h = go (eqb u n) (remove-distinct n l (h .1))
@@ -115,6 +93,57 @@ distinct-few (suc n) l b d =
     let q = distinct-few n (remove n l) (remove-below n l b) (remove-distinct n l d) in
     omega arith
 
+-- What a list of numbers with a property does not have lacks the property.
+pub absent : (p : ℕ → Bool) (v : ℕ) (l : List ℕ) → p v ≡ true → All (λ u. p u ≡ false) l → elem v l ≡ false
+unfolding elem
+absent p v [] h a = refl
+absent p v (u ∷ l) h a = elem-cons v u l (ne-eqb u v other) (absent p v l h (a .1))
+  where
+    other : u ≡ v → ⊥
+    other e = true≢false (sym h ∙ ap p (sym e) ∙ a .0)
+
+-- Two lists of distinct numbers that have none in common.
+elem-append : (v : ℕ) (a b : List ℕ) → elem v a ≡ false → elem v b ≡ false → elem v (a ++ b) ≡ false
+elem-append v [] b h k = k
+elem-append v (u ∷ a) b h k = let e = elem-tail v u a h in elem-cons v u (a ++ b) (e .0) (elem-append v a b (e .1) k)
+
+pub distinct-append : (a b : List ℕ) → Distinct a → Distinct b → All (λ v. elem v b ≡ false) a → Distinct (a ++ b)
+distinct-append [] b h k d = k
+distinct-append (v ∷ a) b h k d = (elem-append v a b (h .0) (d .0), distinct-append a b (h .1) k (d .1))
+
+-- The numbers of a list that pass a test.
+unfoldable pub keep : (ℕ → Bool) → List ℕ → List ℕ
+keep p [] = []
+keep p (v ∷ l) = cond (p v) (v ∷ keep p l) (keep p l)
+
+-- They have what all numbers of the list have that pass the test.
+pub keep-all : (p : ℕ → Bool) (P R : ℕ → Type 0) → ((v : ℕ) → P v → p v ≡ true → R v) → (l : List ℕ) → All P l → All R (keep p l)
+unfolding keep
+keep-all p P R f [] h = tt
+keep-all p P R f (v ∷ l) h = go (p v) refl (keep-all p P R f l (h .1))
+  where
+    go : (b : Bool) → p v ≡ b → All R (keep p l) → All R (cond b (v ∷ keep p l) (keep p l))
+    go true e r = (f v (h .0) e, r)
+    go false e r = r
+
+keep-elem : (p : ℕ → Bool) (v : ℕ) (l : List ℕ) → elem v l ≡ false → elem v (keep p l) ≡ false
+unfolding keep elem
+keep-elem p v [] h = refl
+keep-elem p v (u ∷ l) h = go (p u) (keep-elem p v l (elem-tail v u l h .1))
+  where
+    go : (b : Bool) → elem v (keep p l) ≡ false → elem v (cond b (u ∷ keep p l) (keep p l)) ≡ false
+    go true e = elem-cons v u (keep p l) (elem-tail v u l h .0) e
+    go false e = e
+
+pub keep-distinct : (p : ℕ → Bool) (l : List ℕ) → Distinct l → Distinct (keep p l)
+unfolding keep
+keep-distinct p [] h = tt
+keep-distinct p (v ∷ l) h = go (p v) (keep-distinct p l (h .1))
+  where
+    go : (b : Bool) → Distinct (keep p l) → Distinct (cond b (v ∷ keep p l) (keep p l))
+    go true d = (keep-elem p v l (h .0), d)
+    go false d = d
+
 -- The names that n digits stand for, lowest first.
 unfoldable pub namesOf : ℕ → ℕ → List ℕ
 namesOf zero a = []
@@ -127,22 +156,10 @@ names-length zero a = refl
 names-length (suc n) a = ap suc (names-length n (a / 8))
 
 -- Each name is below 8.
-names-below : (n a : ℕ) → All (λ v. v < 8) (namesOf n a)
+pub names-below : (n a : ℕ) → All (λ v. v < 8) (namesOf n a)
 unfolding namesOf
 names-below zero a = tt
 names-below (suc n) a = (omega arith, names-below n (a / 8))
-
--- The test of the code for a name is that of level 1.
-pub has-name : (n a v : ℕ) → hasName n a v ≡ elem v (namesOf n a)
-unfolding hasName namesOf elem
-has-name zero a v = refl
-has-name (suc n) a v = go (eqb (a % 8) v) (has-name n (a / 8) v)
-  where
-    go : (b : Bool) → hasName n (a / 8) v ≡ elem v (namesOf n (a / 8))
-        → _≡_ {A = Bool} (elim b [ true ↦ true | false ↦ hasName n (a / 8) v ])
-        (elim b [ true ↦ true | false ↦ elem v (namesOf n (a / 8)) ])
-    go true h = refl
-    go false h = h
 
 -- 8 to the power n.
 unfoldable pub power : ℕ → ℕ
@@ -191,7 +208,7 @@ digits-none leaf = record { is = refl; fits = omega arith }
 
 -- One name more stands in front, and nothing is cut off.
 pub digits-push : (v : ℕ) (m : Found) (l : List ℕ) → v < 8 → length l < 8 → Digits m l → Digits (pushName v m) (v ∷ l)
-unfolding pushName namesOf power
+unfolding pushName nameBefore oneMore namesOf power
 digits-push v m l small few d =
     let k = names-length (m .count) (m .names) in
     let j = ap length (d .is) in
@@ -203,11 +220,3 @@ digits-push v m l small few d =
     let x : (v + 8 * m .names) % 8 ≡ v = omega arith in
     let z : (v + 8 * m .names) / 8 ≡ m .names = omega arith in
     record { is = rw (a, b, e, x, z) (ap (v ∷_) (d .is)); fits = rw (a, b, e) (omega arith) }
-
--- So it is with a prefix and a name that it does not have.
-pub prefix-push : (v : ℕ) (m : Found) → v < 8 → elem v (namesOf (m .count) (m .names)) ≡ false → Prefix m
-    → Prefix (pushName v m) × (namesOf (pushName v m .count) (pushName v m .names) ≡ v ∷ namesOf (m .count) (m .names))
-prefix-push v m l h p =
-    let few = distinct-few 8 (v ∷ namesOf (m .count) (m .names)) (l, names-below (m .count) (m .names)) (h, p .distinct) in
-    let d = digits-push v m (namesOf (m .count) (m .names)) l (omega arith) (record { is = refl; fits = p .fits }) in
-    (record { distinct = subst Distinct (sym (d .is)) (h, p .distinct); fits = d .fits }, d .is)

@@ -37,15 +37,16 @@ use Rattle.printing.specs.Writer.{textLimit, proofPass, prepare, firstLi
 use Rattle.printing.specs.Writer.{writeSpent}
 use Rattle.sheet_format.specs.Bytes.{ascii}
 use Rattle.memory.specs.Records.{field, putField}
-use Rattle.clause_members.specs.Members.{hasName, pushName, addName, findMember, member, headOf}
+use Rattle.node_table.specs.Chains.{belowOf, chainNames, chainCount}
+use Rattle.clause_members.specs.Members.{chainAt, reverseFree, passChain, findMember, member, headOf}
 
 -- A run of the machine, and the text written.
 unfoldable computeAnswer : List ℕ → List ℕ → ℕ → ℕ → ℕ → List ℕ → List ℕ → Answered
 unfolding field putField cellOf levelOf putCell putLevel putEntry putGoal putAssumption putPath putUse putChoice putChosen putPosition
     putPairs putNodes withActs withMode withNext withTrail withChoice withGoals withPath withGoal withMember withPairs withSides withCheck
     withDue withNodes truncate increment variableWord constantWord closureWord tagOf nameOf nodeOf frameOf slotOf wordOf bindingOf deref
-    leafOf environmentAt termOf lowerTo bindTo oldLevel effect undoEntry undo copyFrame putVariable putFresh putVariables hasName pushName
-    addName findMember member headOf saveChoice resumeGoal resumeMember resumeBranch resume backtrack failed dueGoal proceed membersLeft
+    leafOf environmentAt termOf lowerTo bindTo oldLevel effect undoEntry undo copyFrame putVariable putFresh putVariables belowOf chainNames
+    chainCount chainAt reverseFree passChain findMember member headOf saveChoice resumeGoal resumeMember resumeBranch resume backtrack failed dueGoal proceed membersLeft
     tryFrom takeAtom takeTrue takeAnd rightBranch takeOr takeImplies takeExists putConstant takeForall takeGoal positionWord pairsFrom
     nodesFrom argumentWord pairsAfter nodesAfter duePairs compareClosures compareLeaves compareWords leftWord rightWord compareSides
     comparePair bindValue passNode visitVariable visitConstant visitClosure visitWord dueWord checkWord checkNode clauseOf clauseFrame
@@ -68,8 +69,8 @@ constants = ascii "P\tp\t2\nV\t0\nV\t1\nA\t0\t0\t0\nU\t0\t2\nA\t0\t0\t1\nE\t0\t4
 constants-table : List ℕ
 constants-table =
     (2 ∷ 1 ∷ 4 ∷ []) ++ (replicate 765 0
-    ++ ((0 ∷ 0 ∷ 0 ∷ 0 ∷ 0 ∷ 0 ∷ 65537 ∷ 0 ∷ 1 ∷ 0 ∷ 0 ∷ 0 ∷ 0 ∷ 65538 ∷ 34 ∷ 0 ∷ 0 ∷ 0 ∷ 0 ∷ 0 ∷ 769 ∷ 24 ∷ 0 ∷ 2 ∷ 0 ∷ 0 ∷ 0 ∷ 768 ∷ 34
-    ∷ 0 ∷ 0 ∷ 1 ∷ 0 ∷ 0 ∷ 771 ∷ 23 ∷ 0 ∷ 4 ∷ 0 ∷ 0 ∷ 0 ∷ 258 ∷ 24 ∷ 1 ∷ 5 ∷ 0 ∷ 0 ∷ 0 ∷ 256 ∷ [])
+    ++ ((0 ∷ 0 ∷ 0 ∷ 0 ∷ 0 ∷ 0 ∷ 65537 ∷ 0 ∷ 1 ∷ 0 ∷ 0 ∷ 0 ∷ 0 ∷ 65538 ∷ 34 ∷ 0 ∷ 0 ∷ 0 ∷ 0 ∷ 0 ∷ 769 ∷ 24 ∷ 0 ∷ 2 ∷ 2 ∷ 0 ∷ 1 ∷ 768 ∷ 34
+    ∷ 0 ∷ 0 ∷ 1 ∷ 0 ∷ 0 ∷ 771 ∷ 23 ∷ 0 ∷ 4 ∷ 0 ∷ 0 ∷ 0 ∷ 258 ∷ 24 ∷ 1 ∷ 5 ∷ 5 ∷ 1 ∷ 1 ∷ 256 ∷ [])
     ++ (replicate 7119 0 ++ (3 ∷ []))))
 
 -- The text of `constants` is written, and the ten bytes after it stay.
@@ -92,7 +93,7 @@ variables = ascii "P\tp\t1\nF\tf\t1\nV\t0\nA\t1\t0\nA\t0\t1\nU\t0\t2\nA\t0\t0\nC
 variables-table : List ℕ
 variables-table =
     (2 ∷ 1 ∷ 2 ∷ 8 ∷ 1 ∷ 3 ∷ []) ++ (replicate 762 0
-    ++ ((0 ∷ 0 ∷ 0 ∷ 0 ∷ 0 ∷ 0 ∷ 65537 ∷ 17 ∷ 1 ∷ 0 ∷ 0 ∷ 0 ∷ 0 ∷ 131073 ∷ 18 ∷ 0 ∷ 1 ∷ 0 ∷ 0 ∷ 0 ∷ 769 ∷ 24 ∷ 0 ∷ 2 ∷ 0 ∷ 0 ∷ 0 ∷ 768
+    ++ ((0 ∷ 0 ∷ 0 ∷ 0 ∷ 0 ∷ 0 ∷ 65537 ∷ 17 ∷ 1 ∷ 0 ∷ 0 ∷ 0 ∷ 0 ∷ 131073 ∷ 18 ∷ 0 ∷ 1 ∷ 0 ∷ 0 ∷ 0 ∷ 769 ∷ 24 ∷ 0 ∷ 2 ∷ 2 ∷ 0 ∷ 1 ∷ 768
     ∷ 18 ∷ 0 ∷ 0 ∷ 0 ∷ 0 ∷ 0 ∷ 769 ∷ [])
     ++ (replicate 7133 0 ++ (3 ∷ []))))
 

@@ -1,4 +1,3 @@
-use mathlib.Core.Path.{refl}
 use Rattle.clause_members.specs.Members.{pushName}
 use borrow.Author.Needs.{needs}
 use Rattle.clause_members.proofs.push_name.Statement.{statement}
@@ -6,7 +5,7 @@ use Rattle.clause_members.proofs.push_name.Tie as tie
 
 returns : tie.Need-returns
 unfolding pushName
-returns c = refl
+returns c = simp (pushName, ← c .one-more .ensures, ← c .before .name-before .ensures)
 
 pub push-name-spec : {M : Type 1} → statement M
-push-name-spec = tie.close (tie.spec (λ c. search needs) (λ c. search needs) (λ c. search needs) returns)
+push-name-spec = tie.close (tie.spec (λ c κs. search needs) (λ c κs. search needs) returns)
