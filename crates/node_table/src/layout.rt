@@ -23,7 +23,8 @@ pub const NAME_LENGTH: usize = 1;
 
 pub const ARITY: usize = 2;
 
-// Fields of a node: its kind with its number of children, its label, its children, what it is.
+// Fields of a node: its kind with its number of children, its label, its children, what it is. A U node has one child, and keeps in the
+// fields of the others what the U nodes from it on come to.
 pub const HEAD: usize = 0;
 
 pub const LABEL: usize = 1;

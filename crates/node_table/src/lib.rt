@@ -145,16 +145,10 @@ pub fn order_number(t: &[u32]) -> u32
 pub fn bit_of(m: u32, v: u32) -> u32
     ensures { λ r. ⌜ r ≡ bitOf m v ⌝ }
 {
-    let mut rest = m;
-    let mut left = v;
-    while 0 < left {
-        if rest == 0 {
-            return 0;
-        }
-        rest = rest / 2;
-        left -= 1;
+    if 32 <= v {
+        return 0;
     }
-    rest % 2
+    (m >> v) % 2
 }
 
 // Whether variable v stands free in node n.
