@@ -5,7 +5,7 @@ use mathlib.Core.Path.{_≡_, refl, ap}
 use mathlib.Core.List.{List}
 use lib.ListN.{getD}
 use Rattle.node_table.specs.Layout.{symbolAt, nodeAt, kindOf, childCount, labelOf, childOf, infoOf, maskOf, goalBit, membersOf}
-use Rattle.node_table.specs.Layout.{sizeOf, nameStart, nameLength, isFunctionBit, arityOf}
+use Rattle.node_table.specs.Layout.{sizeOf, nameStart, nameWord, nameLength, isFunctionBit, arityOf}
 use Rattle.node_table.specs.Chains.{belowOf, chainNames, chainCount, isFree, namesOver, countOver}
 
 pub record Same (t u : List ℕ) (symbols nodes : ℕ) : Type 0 where
@@ -22,9 +22,13 @@ module _ (t u : List ℕ) (symbols nodes : ℕ) (s : Same t u symbols nodes) whe
     unfolding nameStart
     same-start = s .symbol i 0 h (omega arith)
 
+    pub same-word : nameWord u i ≡ nameWord t i
+    unfolding nameWord
+    same-word = s .symbol i 1 h (omega arith)
+
     pub same-length : nameLength u i ≡ nameLength t i
     unfolding nameLength
-    same-length = s .symbol i 1 h (omega arith)
+    same-length = ap (λ (x : ℕ). x % 32) same-word
 
     pub same-function : isFunctionBit u i ≡ isFunctionBit t i
     unfolding isFunctionBit

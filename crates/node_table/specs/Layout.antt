@@ -27,13 +27,13 @@ defaultOrder = 0
 abbrev pub formerOrder : ℕ
 formerOrder = 1
 
--- Fields of a symbol: where its name starts on the sheet, how long it is, and 2 * arity + 1 for a function symbol, 2 * arity for a
--- predicate.
+-- Fields of a symbol: where its name starts on the sheet, its name's word, which has the length and a fingerprint (Fingerprints.antt), and
+-- 2 * arity + 1 for a function symbol, 2 * arity for a predicate.
 abbrev pub nameStartField : ℕ
 nameStartField = 0
 
-abbrev pub nameLengthField : ℕ
-nameLengthField = 1
+abbrev pub nameWordField : ℕ
+nameWordField = 1
 
 abbrev pub arityField : ℕ
 arityField = 2
@@ -60,6 +60,10 @@ fourthChildField = 5
 
 abbrev pub infoField : ℕ
 infoField = 6
+
+-- What a fingerprint adds to the word of a name: the length is below it.
+abbrev pub fingerprintUnit : ℕ
+fingerprintUnit = 32
 
 -- What a child adds to the head of a node; what a goal, a member and a symbol of a term add to what it is.
 abbrev pub childUnit : ℕ
@@ -156,8 +160,11 @@ bitOf mask (suc v) = bitOf (mask / 2) v
 unfoldable pub nameStart : List ℕ → ℕ → ℕ
 nameStart t i = getD t (symbolAt i nameStartField) 0
 
+unfoldable pub nameWord : List ℕ → ℕ → ℕ
+nameWord t i = getD t (symbolAt i nameWordField) 0
+
 unfoldable pub nameLength : List ℕ → ℕ → ℕ
-nameLength t i = getD t (symbolAt i nameLengthField) 0
+nameLength t i = nameWord t i % fingerprintUnit
 
 unfoldable pub isFunctionBit : List ℕ → ℕ → ℕ
 isFunctionBit t i = getD t (symbolAt i arityField) 0 % 2

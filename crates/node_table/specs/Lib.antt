@@ -3,3 +3,4 @@ pub mod Layout
 pub mod Chains
 pub mod Decoding
 pub mod WellMade
+pub mod Fingerprints

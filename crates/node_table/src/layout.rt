@@ -16,10 +16,10 @@ pub const DEFAULT_ORDER: u32 = 0;
 
 pub const FORMER_ORDER: u32 = 1;
 
-// Fields of a symbol: where its name starts, how long it is, its arity with its sort.
+// Fields of a symbol: where its name starts, its name's word, its arity with its sort.
 pub const NAME_START: usize = 0;
 
-pub const NAME_LENGTH: usize = 1;
+pub const NAME_WORD: usize = 1;
 
 pub const ARITY: usize = 2;
 
@@ -38,6 +38,9 @@ pub const THIRD_CHILD: usize = 4;
 pub const FOURTH_CHILD: usize = 5;
 
 pub const INFO: usize = 6;
+
+// What a fingerprint adds to the word of a name: the length is below it.
+pub const FINGERPRINT_UNIT: u32 = 32;
 
 // What a child adds to the head of a node; what a goal, a member and a symbol of a term add to its info.
 pub const CHILD_UNIT: u32 = 16;

@@ -1,4 +1,5 @@
 // The lent table of 8,192 numbers: symbols, nodes, clauses and the order in force, read field by field. A read past the end gives 0.
+pub mod fingerprints;
 pub mod kinds;
 pub mod layout;
 
@@ -10,7 +11,8 @@ ghost use Prim.Native.Nat.{_+_, _*_, _<_, _≤_};
 ghost use lib.Dec.{eqb};
 ghost use lib.ListN.{getD};
 ghost use Rattle.node_table.specs.Layout.{symbolAt, nodeAt, kindOf, childCount, labelOf, childOf, infoOf, maskOf, bitOf, goalBit};
-ghost use Rattle.node_table.specs.Layout.{membersOf, sizeOf, nameStart, nameLength, isFunctionBit, arityOf, clauseNode, orderNumber};
+ghost use Rattle.node_table.specs.Layout.{membersOf, sizeOf, nameStart, nameWord, nameLength, isFunctionBit, arityOf, clauseNode};
+ghost use Rattle.node_table.specs.Layout.{orderNumber};
 ghost use Rattle.node_table.specs.Chains.{belowOf, chainNames, chainCount, isFree, nameBefore, oneMore};
 
 // The names of a prefix are digits: so many numbers have eight of them.
@@ -108,10 +110,17 @@ pub fn name_start(t: &[u32], i: u32) -> u32
     symbol_field(t, i, layout::NAME_START)
 }
 
+// The length of the name and its fingerprint in one number.
+pub fn name_word(t: &[u32], i: u32) -> u32
+    ensures { λ r. ⌜ r ≡ nameWord (now (t .entry)) i ⌝ }
+{
+    symbol_field(t, i, layout::NAME_WORD)
+}
+
 pub fn name_length(t: &[u32], i: u32) -> u32
     ensures { λ r. ⌜ r ≡ nameLength (now (t .entry)) i ⌝ }
 {
-    symbol_field(t, i, layout::NAME_LENGTH)
+    name_word(t, i) % layout::FINGERPRINT_UNIT
 }
 
 pub fn is_function(t: &[u32], i: u32) -> bool

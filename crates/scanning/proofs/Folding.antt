@@ -11,6 +11,8 @@ use Rattle.sheet_format.specs.Limits.{maxNumber, maxSymbols, maxNodes}
 use Rattle.sheet_format.specs.Bytes.{isDigit, isSmall, isCapital, isLetter, isNameByte, folded, foldedName}
 use Rattle.sheet_format.proofs.Capitals.{digit-folded, name-folded, foldedName-twice, test-folded, digit-stays}
 use Rattle.node_table.specs.Layout.{labelOf, nameStart, arityOf}
+use Rattle.node_table.specs.Fingerprints.{wordAt}
+use Rattle.node_table.proofs.Words.{byte-folded, bytes-word}
 use Rattle.scanning.specs.declared.Number.{Number}
 use Rattle.scanning.specs.declared.Number.the-variants.{Value, Missing}
 use Rattle.scanning.specs.declared.Scan.{Scan}
@@ -18,8 +20,8 @@ use Rattle.scanning.specs.declared.Scan.the-variants.{Term, Malformed}
 use Rattle.scanning.specs.declared.Reach.{Reach}
 use Rattle.scanning.specs.declared.Reach.the-variants.{To, Differs}
 use Rattle.scanning.specs.Ranges.{sameRange, sameFolded, numberFrom, numberZero, scanNumber}
-use Rattle.scanning.specs.Scanning.{nameFrom, nameEnd, nameSize, isNamed, symbolFrom, scanLevel, scanAt, scanSymbol, higher, scanMore}
-use Rattle.scanning.specs.Scanning.{scanNumeral, scanArguments, scanApplication, scanTerm}
+use Rattle.scanning.specs.Scanning.{nameFrom, nameEnd, nameSize, isNamed, symbolFrom, symbolNamed, scanLevel, scanAt, scanSymbol}
+use Rattle.scanning.specs.Scanning.{higher, scanMore, scanNumeral, scanArguments, scanApplication, scanTerm}
 use Rattle.scanning.specs.Frames.{slotStart, slotEnd}
 use Rattle.scanning.specs.Classes.{nodeElement, elementSide, elementNode, elementChild, sideFrame, separate, rootOf}
 use Rattle.scanning.specs.Instances.{sameSlots, matchRange, matchName, matchNumber, matchFunctor, matchSlot, argumentCount}
@@ -27,7 +29,7 @@ use Rattle.scanning.specs.Instances.{argumentOf, matchMore, matchArgumen
 use Rattle.scanning.specs.Instances.{startOf, endOf}
 use Rattle.scanning.specs.Instances.{sameName, joinName, sameChildren, sameNodes, sameRoots, sameElements, comparisonDepth, sameAtoms}
 use Rattle.scanning.specs.Numbering.{outsideName, isSymbol, noNumber, numberAt, levelAt}
-use Rattle.scanning.proofs.Ranges.{Folded, byte-folded, range-folded}
+use Rattle.scanning.proofs.Ranges.{Folded, range-folded}
 use Rattle.scanning.proofs.SymbolsInText.{symbolAt, startsIn}
 
 -- Folded bytes are folded.
@@ -200,14 +202,18 @@ module _ (b t : List ℕ) where
   size-folded k = rw (left-folded b (nameStart t k))
 
   module _ (x : List ℕ) where
-    named-folded : (k i e : ℕ) → isNamed (foldedName b) t k (foldedName x) i e ≡ isNamed b t k x i e
+    named-folded : (k word i e : ℕ) → isNamed (foldedName b) t k word (foldedName x) i e ≡ isNamed b t k word x i e
     unfolding isNamed
-    named-folded k i e = rw (size-folded k, range-twice (e - i) x i b (nameStart t k))
+    named-folded k word i e = rw (size-folded k, range-twice (e - i) x i b (nameStart t k))
 
-    from-folded : (n k i e : ℕ) → symbolFrom n (foldedName b) t k (foldedName x) i e ≡ symbolFrom n b t k x i e
+    from-folded : (n k word i e : ℕ) → symbolFrom n (foldedName b) t k word (foldedName x) i e ≡ symbolFrom n b t k word x i e
     unfolding symbolFrom
-    from-folded zero k i e = refl
-    from-folded (suc n) k i e = rw (named-folded k i e, from-folded n (k + 1) i e)
+    from-folded zero k word i e = refl
+    from-folded (suc n) k word i e = rw (named-folded k word i e, from-folded n (k + 1) word i e)
+
+    symbol-named : (symbols i e : ℕ) → symbolNamed symbols (foldedName b) t (foldedName x) i e ≡ symbolNamed symbols b t x i e
+    unfolding symbolNamed
+    symbol-named symbols i e = rw (bytes-word x i (e - i)) (from-folded symbols 0 (wordAt x i (e - i)) i e)
 
     -- A term is scanned alike.
     pub term-folded : (symbols f i : ℕ) → scanTerm f (foldedName b) t symbols (foldedName x) i ≡ scanTerm f b t symbols x i
@@ -221,9 +227,9 @@ module _ (b t : List ℕ) where
           digit-test x i,
           numeral-folded x i,
           name-end x i,
-          from-folded symbols 0 i (nameEnd x i),
+          symbol-named symbols i (nameEnd x i),
           application-folded x (scanTerm f (foldedName b) t symbols (foldedName x)) (scanTerm f b t symbols x) (term-folded symbols f) t symbols
-              (symbolFrom symbols b t 0 x i (nameEnd x i)) (nameEnd x i),
+              (symbolNamed symbols b t x i (nameEnd x i)) (nameEnd x i),
         )
 
     -- instances

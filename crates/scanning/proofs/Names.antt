@@ -1,23 +1,25 @@
 -- Names in place: where they end, and the symbol that has one.
-use Prim.Native.Nat.{ℕ, zero, suc, _+_, _-_, _<_, min}
+use Prim.Native.Nat.{ℕ, zero, suc, _+_, _-_, _*_, _%_, _<_, min}
 use native.Mathlib.Omega.{arith}
 use native.Mathlib.Numerals.{add-one}
 use mathlib.Core.Path.{_≡_, refl, sym, ap, _∙_, subst}
-use mathlib.Core.Bool.{Bool, true, false, cond}
+use mathlib.Core.Bool.{Bool, true, false, cond, true≢false}
 use mathlib.Core.List.{List, [], _∷_, _++_}
 use mathlib.Core.Option.{Option, none, some}
 use lib.Dec.{eqb, ltb}
-use lib.ListN.{length, take, drop, length-take, length-drop}
+use lib.ListN.{length, take, drop, getD, length-take, length-drop}
 use borrow.Author.Tests.{eqb-true, eqb-false, lt-ltb, le-ltb}
 use Rattle.terms.proofs.Lists.{all-weaken}
-use Rattle.sheet_format.specs.Bytes.{isNameByte, sameBytes}
+use Rattle.sheet_format.specs.Bytes.{isNameByte, sameBytes, folded}
 use Rattle.sheet_format.proofs.Bytes.{Every, name-graphic}
-use Rattle.node_table.specs.Layout.{nameStart, nameLength, isFunctionBit, arityOf}
+use Rattle.node_table.specs.Layout.{nameStart, nameWord, nameLength, isFunctionBit, arityOf}
+use Rattle.node_table.specs.Fingerprints.{withByte, fingerprintFrom, wordAt, NameStands, NamesStand}
 use Rattle.node_table.specs.Decoding.{declarationAt, declarationsFrom}
+use Rattle.node_table.proofs.Words.{with-folded}
 use Rattle.text_judging.specs.Reading.{Span, span, Found, findName}
 use Rattle.text_judging.proofs.Spans.{Stops}
 use Rattle.scanning.specs.Ranges.{sameFolded}
-use Rattle.scanning.specs.Scanning.{nameFrom, nameEnd, nameSize, isNamed, symbolFrom}
+use Rattle.scanning.specs.Scanning.{nameFrom, nameEnd, nameSize, isNamed, symbolFrom, symbolNamed}
 use Rattle.scanning.proofs.Positions.{byte-is, drop-next, drop-length}
 use Rattle.scanning.proofs.Ranges.{begins-same, unequal-lengths, Solid, range-begins, Folded, folded-range, span-yes, span-no}
 
@@ -60,14 +62,62 @@ size-length b t k = length-take (nameLength t k) (drop (nameStart t k) b) ∙ ap
 abbrev pub foundAt : List ℕ → ℕ → ℕ → Option Found
 foundAt t limit j = cond (ltb j limit) (cond (eqb (isFunctionBit t j) 1) (some (record { symbol = j; arity = arityOf t j })) none) none
 
+-- Ranges that are the same but for the case of letters have the same fingerprint.
+folded-fingerprint : (n : ℕ) (a : List ℕ) (i : ℕ) (b : List ℕ) (j h : ℕ) → sameFolded n a i b j ≡ true
+    → fingerprintFrom n a i h ≡ fingerprintFrom n b j h
+unfolding sameFolded fingerprintFrom
+folded-fingerprint zero a i b j h s = refl
+folded-fingerprint (suc n) a i b j h s = go (eqb (folded (getD a i 0)) (folded (getD b j 0))) refl s (folded-fingerprint n a (i + 1) b (j + 1))
+  where
+    go : (z : Bool) → eqb (folded (getD a i 0)) (folded (getD b j 0)) ≡ z → cond z (sameFolded n a (i + 1) b (j + 1)) false ≡ true
+        → ((g : ℕ) → sameFolded n a (i + 1) b (j + 1) ≡ true → fingerprintFrom n a (i + 1) g ≡ fingerprintFrom n b (j + 1) g)
+        → fingerprintFrom n a (i + 1) (withByte h (getD a i 0)) ≡ fingerprintFrom n b (j + 1) (withByte h (getD b j 0))
+    go true e k ih =
+        ih (withByte h (getD a i 0)) k
+        ∙ ap (fingerprintFrom n b (j + 1)) (sym (with-folded h (getD a i 0))
+        ∙ ap (withByte h) (eqb-true (folded (getD a i 0)) (folded (getD b j 0)) e) ∙ with-folded h (getD b j 0))
+    go false e k ih = absurd (true≢false (sym k))
+
+-- So a symbol whose name is spelled in the text from i to e has its word, and the words need not be compared.
+module _ (b t x : List ℕ) (k i e : ℕ) (stands : NameStands b t k) where
+  abbrev spelled : Bool
+  spelled = cond (eqb (e - i) (nameSize b t k)) (sameFolded (e - i) x i b (nameStart t k)) false
+
+  spelled-word : spelled ≡ true → nameWord t k ≡ wordAt x i (e - i)
+  unfolding nameSize wordAt
+  spelled-word h = go (eqb (e - i) (nameSize b t k)) refl h
+    where
+      go : (z : Bool) → eqb (e - i) (nameSize b t k) ≡ z → cond z (sameFolded (e - i) x i b (nameStart t k)) false ≡ true
+          → nameWord t k ≡ wordAt x i (e - i)
+      go true q s =
+          let w = stands .within in
+          let l : e - i ≡ min (nameLength t k) (length b - nameStart t k) = eqb-true (e - i) (nameSize b t k) q in
+          let n : e - i ≡ nameLength t k = omega arith in
+          stands .word ∙ ap (wordAt b (nameStart t k)) (sym n)
+          ∙ ap (λ (f : ℕ). (e - i) % 32 + 32 * f) (sym (folded-fingerprint (e - i) x i b (nameStart t k) 0 s))
+      go false q s = absurd (true≢false (sym s))
+
+  named-spelled : isNamed b t k (wordAt x i (e - i)) x i e ≡ spelled
+  unfolding isNamed
+  named-spelled = go (eqb (nameWord t k) (wordAt x i (e - i))) spelled refl spelled-word
+    where
+      go : (z s : Bool) → eqb (nameWord t k) (wordAt x i (e - i)) ≡ z → (s ≡ true → nameWord t k ≡ wordAt x i (e - i)) → cond z s false ≡ s
+      go true s q h = refl
+      go false true q h = absurd (eqb-false (nameWord t k) (wordAt x i (e - i)) q (h refl))
+      go false false q h = refl
+
 module _ (b t x n r : List ℕ) (i e : ℕ) (at : drop i x ≡ n ++ r) (solid : Solid n) (end : e ≡ i + length n)
     (small : Folded b x) where
+  -- The word of the name n.
+  abbrev word : ℕ
+  word = wordAt x i (e - i)
+
   -- The test tells whether symbol k has the name n, which stands at position i.
-  pub named-same : (k : ℕ) → isNamed b t k x i e ≡ sameBytes n (declarationAt b t k .name)
-  unfolding isNamed declarationAt
-  named-same k =
+  pub named-same : (k : ℕ) → NameStands b t k → isNamed b t k (wordAt x i (e - i)) x i e ≡ sameBytes n (declarationAt b t k .name)
+  unfolding declarationAt
+  named-same k stands =
       let l : e - i ≡ length n = omega arith in
-      rw l (go (eqb (length n) (nameSize b t k)) refl)
+      named-spelled b t x k i e stands ∙ rw l (go (eqb (length n) (nameSize b t k)) refl)
     where
       m : List ℕ
       m = take (nameLength t k) (drop (nameStart t k) b)
@@ -79,24 +129,29 @@ module _ (b t x n r : List ℕ) (i e : ℕ) (at : drop i x ≡ n ++ r) (solid : 
       go false q = sym (unequal-lengths n m (λ p. eqb-false (length n) (nameSize b t k) q (p ∙ size-length b t k)))
 
   -- Searching c symbols from k on finds the symbol with the name n.
-  symbol-from : (c k : ℕ) → findName k (declarationsFrom b t c k) n ≡ foundAt t (k + c) (symbolFrom c b t k x i e)
+  symbol-from : (c k : ℕ) → NamesStand b t (k + c) → findName k (declarationsFrom b t c k) n ≡ foundAt t (k + c) (symbolFrom c b t k word x i e)
   unfolding findName declarationsFrom symbolFrom declarationAt
-  symbol-from zero k = let q : k + 0 ≡ k = omega arith in rw (q, le-ltb k k (omega arith))
-  symbol-from (suc c) k = go (sameBytes n (declarationAt b t k .name)) refl (symbol-from c (suc k))
+  symbol-from zero k h = let q : k + 0 ≡ k = omega arith in rw (q, le-ltb k k (omega arith))
+  symbol-from (suc c) k h =
+      go (sameBytes n (declarationAt b t k .name)) refl (symbol-from c (suc k) (λ j l. h j (omega arith))) (named-same k (h k (omega arith)))
     where
       go : (z : Bool) → sameBytes n (declarationAt b t k .name) ≡ z
-          → findName (suc k) (declarationsFrom b t c (suc k)) n ≡ foundAt t (suc k + c) (symbolFrom c b t (suc k) x i e)
+          → findName (suc k) (declarationsFrom b t c (suc k)) n ≡ foundAt t (suc k + c) (symbolFrom c b t (suc k) word x i e)
+          → isNamed b t k word x i e ≡ sameBytes n (declarationAt b t k .name)
           → findName k (declarationAt b t k ∷ declarationsFrom b t c (suc k)) n ≡ foundAt t (k + suc c)
-          (cond (isNamed b t k x i e) k (symbolFrom c b t (k + 1) x i e))
-      go true q ih = rw (findName, q, named-same k, q) (rw (lt-ltb k (k + suc c) (omega arith)))
-      go false q ih =
+          (cond (isNamed b t k word x i e) k (symbolFrom c b t (k + 1) word x i e))
+      go true q ih s = rw (findName, q, s, q) (rw (lt-ltb k (k + suc c) (omega arith)))
+      go false q ih s =
           let l : suc k + c ≡ k + suc c = omega arith in
-          rw (findName, q, named-same k, q, add-one k) (ih ∙ ap (λ (j : ℕ). foundAt t j (symbolFrom c b t (suc k) x i e)) l)
+          rw (findName, q, s, q, add-one k) (ih ∙ ap (λ (j : ℕ). foundAt t j (symbolFrom c b t (suc k) word x i e)) l)
 
   -- Searching from the first symbol on finds the symbol with the name n.
-  pub find-symbol : (symbols : ℕ) → findName 0 (declarationsFrom b t symbols 0) n ≡ foundAt t symbols (symbolFrom symbols b t 0 x i e)
-  find-symbol symbols =
-      let l : 0 + symbols ≡ symbols = omega arith in symbol-from symbols 0 ∙ ap (λ (j : ℕ). foundAt t j (symbolFrom symbols b t 0 x i e)) l
+  pub find-symbol : (symbols : ℕ) → NamesStand b t symbols
+      → findName 0 (declarationsFrom b t symbols 0) n ≡ foundAt t symbols (symbolNamed symbols b t x i e)
+  unfolding symbolNamed
+  find-symbol symbols h =
+      let l : 0 + symbols ≡ symbols = omega arith in
+      symbol-from symbols 0 (λ j p. h j (omega arith)) ∙ ap (λ (j : ℕ). foundAt t j (symbolFrom symbols b t 0 word x i e)) l
 
 -- A name has no byte 0.
 pub name-solid : (n : List ℕ) → Every isNameByte n → Solid n

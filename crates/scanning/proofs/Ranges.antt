@@ -18,6 +18,7 @@ use Rattle.sheet_format.proofs.Numbers.{decimal-digits, number-decimal}
 use Rattle.sheet_format.proofs.Options.{OnSome, some-weaken}
 use Rattle.text_judging.specs.Reading.{Span, span}
 use Rattle.text_judging.proofs.Spans.{Stops, span-append}
+use Rattle.node_table.proofs.Words.{byte-folded}
 use Rattle.scanning.specs.declared.Number.{Number}
 use Rattle.scanning.specs.declared.Number.the-variants.{Value, Missing}
 use Rattle.scanning.specs.Ranges.{sameRange, sameFolded, findByte, textLineEnd, numberFrom, numberZero, scanNumber}
@@ -91,13 +92,6 @@ range-begins (c ∷ cs) r a i x j h s = go (drop j x) refl (range-begins cs r a 
 pub record Folded (b x : List ℕ) : Type 0 where
   pub bytes : foldedName b ≡ b
   pub text : foldedName x ≡ x
-
--- A byte of a folded list is the folded byte of the list.
-pub byte-folded : (x : List ℕ) (i : ℕ) → getD (foldedName x) i 0 ≡ folded (getD x i 0)
-unfolding folded isCapital
-byte-folded [] i = refl
-byte-folded (c ∷ cs) zero = refl
-byte-folded (c ∷ cs) (suc i) = byte-folded cs i
 
 -- Comparing two ranges folded is comparing the ranges of the folded lists.
 pub range-folded : (n : ℕ) (a : List ℕ) (i : ℕ) (b : List ℕ) (j : ℕ)

@@ -16,6 +16,7 @@ use Rattle.sheet_format.specs.Bytes.{isDigit, isSmall, isCapital, isLetter, isN
 use Rattle.sheet_format.specs.Nodes.{Declaration}
 use Rattle.node_table.specs.Layout.{isFunctionBit, arityOf}
 use Rattle.node_table.specs.Decoding.{declarationsFrom}
+use Rattle.node_table.specs.Fingerprints.{NamesStand}
 use Rattle.text_judging.specs.Reading.{Span, span, Parsed, parsed, withLevel, readLevel, readSymbol, after, consParsed, readMore}
 use Rattle.text_judging.specs.Reading.{readArguments, Found, findName, headOf, findHead, applyTo, readApplication, readTerm}
 use Rattle.sheet_format.proofs.Bytes.{Every, digit-bounds, letter-bounds, digit-name, name-nonempty, name-letter}
@@ -31,7 +32,7 @@ use Rattle.scanning.specs.declared.Number.{Number}
 use Rattle.scanning.specs.declared.Number.the-variants.{Value, Missing}
 use Rattle.scanning.specs.declared.Scan.{Scan}
 use Rattle.scanning.specs.declared.Scan.the-variants.{Term as Scanned, Malformed}
-use Rattle.scanning.specs.Scanning.{nameEnd, symbolFrom, scanLevel, scanAt, scanSymbol, higher, scanMore, scanArguments}
+use Rattle.scanning.specs.Scanning.{nameEnd, symbolNamed, scanLevel, scanAt, scanSymbol, higher, scanMore, scanArguments}
 use Rattle.scanning.specs.Scanning.{scanNumeral, scanApplication, scanTerm}
 use Rattle.scanning.proofs.Positions.{byte-is, byte-none, drop-next, drop-past}
 use Rattle.scanning.proofs.Ranges.{numberTo, read-number, Folded, span-yes, span-no}
@@ -343,11 +344,12 @@ module _ (x : List ℕ) (i : ℕ) where
 
 -- terms
 
-module _ (b t : List ℕ) (symbols : ℕ) (names : Names (declarationsFrom b t symbols 0)) (x : List ℕ) (small : Folded b x) where
+module _ (b t : List ℕ) (symbols : ℕ) (names : Names (declarationsFrom b t symbols 0)) (stand : NamesStand b t symbols) (x : List ℕ)
+    (small : Folded b x) where
   -- Scanning a name and its arguments agrees with reading them, if scanning the arguments' terms does and no digit begins the name.
   scan-named : (f i : ℕ) → Stops isDigit (drop i x)
       → ((j : ℕ) → Scans x (scanTerm f b t symbols x j) (readTerm f (declarationsFrom b t symbols 0) (drop j x)))
-      → Scans x (scanApplication (scanTerm f b t symbols x) t symbols (symbolFrom symbols b t 0 x i (nameEnd x i)) x (nameEnd x i))
+      → Scans x (scanApplication (scanTerm f b t symbols x) t symbols (symbolNamed symbols b t x i (nameEnd x i)) x (nameEnd x i))
       (readApplication (readTerm f (declarationsFrom b t symbols 0))
       (findHead (declarationsFrom b t symbols 0) (span isNameByte (drop i x) .taken))
       (span isNameByte (drop i x) .rest))
@@ -355,11 +357,11 @@ module _ (b t : List ℕ) (symbols : ℕ) (names : Names (declarationsFrom b t s
   scan-named f i stops reads =
       let n = span isNameByte (drop i x) in
       let e = span-split isNameByte (drop i x) in
-      let j = symbolFrom symbols b t 0 x i (nameEnd x i) in
+      let j = symbolNamed symbols b t x i (nameEnd x i) in
       subst (Scans x (scanApplication (scanTerm f b t symbols x) t symbols j x (nameEnd x i)))
       (ap₂ (readApplication (readTerm f (declarationsFrom b t symbols 0)))
       (ap (headOf none) (sym (find-symbol b t x (n .taken) (n .rest) i (nameEnd x i) e
-      (name-solid (n .taken) (span-every isNameByte (drop i x))) (name-end x i) small symbols))
+      (name-solid (n .taken) (span-every isNameByte (drop i x))) (name-end x i) small symbols stand))
       ∙ ap (λ (o : Option ℕ). headOf o (findName 0 (declarationsFrom b t symbols 0) (n .taken))) (sym (name-number (drop i x) stops)))
       (ap (λ (k : ℕ). drop k x) (name-end x i) ∙ drop-past x i (n .taken) (n .rest) e))
       (scan-application x (scanTerm f b t symbols x) (readTerm f (declarationsFrom b t symbols 0)) reads t symbols j (nameEnd x i))
@@ -371,7 +373,7 @@ module _ (b t : List ℕ) (symbols : ℕ) (names : Names (declarationsFrom b t s
   scan-term (suc f) i = go (drop i x) refl (λ s. scan-named f i s (scan-term f))
     where
       A : Scan
-      A = scanApplication (scanTerm f b t symbols x) t symbols (symbolFrom symbols b t 0 x i (nameEnd x i)) x (nameEnd x i)
+      A = scanApplication (scanTerm f b t symbols x) t symbols (symbolNamed symbols b t x i (nameEnd x i)) x (nameEnd x i)
 
       ds : List Declaration
       ds = declarationsFrom b t symbols 0

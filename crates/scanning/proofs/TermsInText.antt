@@ -20,6 +20,7 @@ use Rattle.sheet_format.proofs.Names.{Names}
 use Rattle.node_table.specs.Decoding.{declarationsFrom}
 use Rattle.answer_texts.specs.Spelling.{spellTerm}
 use Rattle.answer_texts.specs.Spelled.{WritableTerm}
+use Rattle.node_table.specs.Fingerprints.{NamesStand}
 use Rattle.text_judging.specs.Reading.{Parsed, parsed, readTerm, termField}
 use Rattle.text_judging.specs.Judging.{sameTerm}
 use Rattle.text_judging.proofs.Spans.{Stops}
@@ -141,7 +142,8 @@ pub record ScansTerm (ds : List Declaration) (x : List ℕ) (i : ℕ) (l r : Lis
   pub end : e ≡ i + length (spellTerm term ds)
   pub rest : drop e x ≡ more ++ (lf ∷ r)
 
-module _ (b t : List ℕ) (symbols : ℕ) (names : Names (declarationsFrom b t symbols 0)) (x : List ℕ) (small : Folded b x) where
+module _ (b t : List ℕ) (symbols : ℕ) (names : Names (declarationsFrom b t symbols 0)) (stand : NamesStand b t symbols) (x : List ℕ)
+    (small : Folded b x) where
   -- The declared symbols are those of the table.
   abbrev ds : List Declaration
   ds = declarationsFrom b t symbols 0
@@ -150,7 +152,7 @@ module _ (b t : List ℕ) (symbols : ℕ) (names : Names (declarationsFrom b t s
   pub scanned-line : (f i : ℕ) (l r : List ℕ) (e k : ℕ) → drop i x ≡ l ++ (lf ∷ r) → scanTerm f b t symbols x i ≡ Scanned e k
       → ScansTerm ds x i l r e k
   scanned-line f i l r e k h q =
-      go (readTerm f ds (drop i x)) (subst (λ (s : Scan). Scans x s (readTerm f ds (drop i x))) q (scan-term b t symbols names x small f i))
+      go (readTerm f ds (drop i x)) (subst (λ (s : Scan). Scans x s (readTerm f ds (drop i x))) q (scan-term b t symbols names stand x small f i))
       (readTerm-some f ds (drop i x))
     where
       go : (o : Option (Parsed Ground)) → Scans x (Scanned e k) o → OnSome (ReadsTerm ds (drop i x)) o → ScansTerm ds x i l r e k
@@ -181,7 +183,7 @@ module _ (b t : List ℕ) (symbols : ℕ) (names : Names (declarationsFrom b t s
   spelled-scan f i u c r h w l s =
       go (scanTerm f b t symbols x i)
       (subst (Scans x (scanTerm f b t symbols x i)) (ap (readTerm f ds) h ∙ read-term u ds f (c ∷ r) names w l s)
-      (scan-term b t symbols names x small f i))
+      (scan-term b t symbols names stand x small f i))
     where
       go : (a : Scan) → Scans x a (parsed u (c ∷ r)) → a ≡ Scanned (i + length (spellTerm u ds)) (level u)
       go Malformed q = absurd q

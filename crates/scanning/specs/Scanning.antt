@@ -6,7 +6,8 @@ use mathlib.Core.List.{List}
 use lib.Dec.{eqb, ltb}
 use lib.ListN.{length, getD}
 use Rattle.sheet_format.specs.Bytes.{isDigit, isNameByte}
-use Rattle.node_table.specs.Layout.{nameStart, nameLength, isFunctionBit, arityOf}
+use Rattle.node_table.specs.Layout.{nameStart, nameWord, nameLength, isFunctionBit, arityOf}
+use Rattle.node_table.specs.Fingerprints.{wordAt}
 use Rattle.scanning.specs.declared.Number.the-variants.{Value, Missing}
 use Rattle.scanning.specs.declared.Scan.{Scan}
 use Rattle.scanning.specs.declared.Scan.the-variants.{Term, Malformed}
@@ -27,14 +28,20 @@ nameEnd x i = nameFrom (length x - i) x i
 unfoldable pub nameSize : List ℕ → List ℕ → ℕ → ℕ
 nameSize b t k = min (nameLength t k) (length b - nameStart t k)
 
--- Symbol k is named by the text from i to e, in either case of its letters (request W-201).
-unfoldable pub isNamed : List ℕ → List ℕ → ℕ → List ℕ → ℕ → ℕ → Bool
-isNamed b t k x i e = cond (eqb (e - i) (nameSize b t k)) (sameFolded (e - i) x i b (nameStart t k)) false
+-- Symbol k is named by the text from i to e, in either case of its letters (request W-201). The name in the text has that word; bytes are
+-- compared only if the words are equal.
+unfoldable pub isNamed : List ℕ → List ℕ → ℕ → ℕ → List ℕ → ℕ → ℕ → Bool
+isNamed b t k word x i e =
+    cond (eqb (nameWord t k) word) (cond (eqb (e - i) (nameSize b t k)) (sameFolded (e - i) x i b (nameStart t k)) false) false
 
 -- The first symbol from k on, of n symbols, that has the name; the one after them if none has.
-unfoldable pub symbolFrom : ℕ → List ℕ → List ℕ → ℕ → List ℕ → ℕ → ℕ → ℕ
-symbolFrom zero b t k x i e = k
-symbolFrom (suc n) b t k x i e = cond (isNamed b t k x i e) k (symbolFrom n b t (k + 1) x i e)
+unfoldable pub symbolFrom : ℕ → List ℕ → List ℕ → ℕ → ℕ → List ℕ → ℕ → ℕ → ℕ
+symbolFrom zero b t k word x i e = k
+symbolFrom (suc n) b t k word x i e = cond (isNamed b t k word x i e) k (symbolFrom n b t (k + 1) word x i e)
+
+-- The first of so many symbols that has the name from i to e.
+unfoldable pub symbolNamed : ℕ → List ℕ → List ℕ → List ℕ → ℕ → ℕ → ℕ
+symbolNamed symbols b t x i e = symbolFrom symbols b t 0 (wordAt x i (e - i)) x i e
 
 -- made constants and leftover variables, after their first byte
 
@@ -85,4 +92,4 @@ scanTerm (suc f) b t symbols x i =
     cond (eqb (getD x i 0) (code "!")) (scanSymbol x (i + 1))
     (cond (eqb (getD x i 0) (code "_")) (scanSymbol x (i + 1))
     (cond (isDigit (getD x i 0)) (scanNumeral x i)
-    (scanApplication (scanTerm f b t symbols x) t symbols (symbolFrom symbols b t 0 x i (nameEnd x i)) x (nameEnd x i))))
+    (scanApplication (scanTerm f b t symbols x) t symbols (symbolNamed symbols b t x i (nameEnd x i)) x (nameEnd x i))))

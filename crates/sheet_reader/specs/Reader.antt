@@ -18,6 +18,7 @@ use Rattle.line_parser.specs.declared.lines.Line.the-variants.{Declare, Node, C
 use Rattle.line_parser.specs.Fields.{firstName}
 use Rattle.line_parser.specs.Lines.{lineAnswer}
 use Rattle.node_table.specs.Decoding.{decodeSheet}
+use Rattle.node_table.specs.Fingerprints.{NamesStand}
 use Rattle.node_table.specs.WellMade.{WellMade, Named}
 use Rattle.table_builder.specs.declared.node_info.Counts.{Counts}
 use Rattle.table_builder.specs.declared.node_info.Taken.the-variants.{Stop}
@@ -43,6 +44,11 @@ WellRead t (Refused f) = Unit {0}
 unfoldable pub NamedRead : List ℕ → Read → Type 0
 NamedRead t (Done k goal) = Named t (k .nodes) (k .symbols)
 NamedRead t (Refused f) = Unit {0}
+
+-- It has the names of its symbols, with their words.
+unfoldable pub NamesRead : List ℕ → List ℕ → Read → Type 0
+NamesRead bytes t (Done k goal) = NamesStand bytes t (k .symbols)
+NamesRead bytes t (Refused f) = Unit {0}
 
 -- How many nodes a line makes, and the lines together.
 unfoldable pub nodesIn : Option SheetLine → ℕ
@@ -81,6 +87,7 @@ pub record ReadContract (bytes t t′ : List ℕ) (r : Read) : Type 0 where
   pub long : length t′ ≡ length t
   pub rest : drop tableNumbers t′ ≡ drop tableNumbers t
   pub named : NamedRead t′ r
+  pub names : NamesRead bytes t′ r
 
 -- Lines
 

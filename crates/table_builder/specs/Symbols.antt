@@ -9,8 +9,9 @@ use lib.Dec.{ltb, leb, eqb}
 use lib.ListN.{length, take, drop, getD, set}
 use Rattle.sheet_format.specs.Limits.{maxTermSize, maxSymbols, maxNodes}
 use Rattle.sheet_format.specs.Bytes.{folded}
-use Rattle.node_table.specs.Layout.{symbolAt, maskOf, sizeOf, packInfo, nameStart, nameLength, isFunctionBit, arityOf, applicationKind}
-use Rattle.node_table.specs.Layout.{atomKind, nameStartField, nameLengthField, arityField, childUnit}
+use Rattle.node_table.specs.Layout.{symbolAt, maskOf, sizeOf, packInfo, nameStart, nameWord, isFunctionBit, arityOf, applicationKind}
+use Rattle.node_table.specs.Layout.{atomKind, nameStartField, nameWordField, arityField, childUnit}
+use Rattle.node_table.specs.Fingerprints.{wordAt}
 use Rattle.table_builder.specs.declared.node_info.Counts.{Counts}
 use Rattle.table_builder.specs.declared.node_info.Taken.the-variants.{Next, Stop}
 use Rattle.table_builder.specs.Nodes.{Made, made, counts, nodeRecord, addNode}
@@ -59,24 +60,24 @@ insertApplication t k f count a b c d =
     (made t (Stop 8))))
 
 -- F and P. The name stands on the sheet at `at`; it is symbol i's name; it is one of `left` symbols' names from the i-th on. Names are
--- compared whatever the case of their letters (request W-201).
+-- compared whatever the case of their letters (request W-201), and only if their words are equal.
 unfoldable pub sameAt : List ℕ → ℕ → List ℕ → Bool
 sameAt sheet at [] = true
 sameAt sheet at (b ∷ l) = cond (eqb (folded (getD sheet at 0)) (folded b)) (sameAt sheet (at + 1) l) false
 
-unfoldable pub nameIs : List ℕ → List ℕ → ℕ → List ℕ → Bool
-nameIs sheet t i name = cond (eqb (nameLength t i) (length name)) (sameAt sheet (nameStart t i) name) false
+unfoldable pub nameIs : List ℕ → List ℕ → ℕ → ℕ → List ℕ → Bool
+nameIs sheet t i word name = cond (eqb (nameWord t i) word) (sameAt sheet (nameStart t i) name) false
 
-unfoldable pub findFrom : ℕ → List ℕ → List ℕ → ℕ → List ℕ → Bool
-findFrom zero sheet t i name = false
-findFrom (suc left) sheet t i name = cond (nameIs sheet t i name) true (findFrom left sheet t (i + 1) name)
+unfoldable pub findFrom : ℕ → List ℕ → List ℕ → ℕ → ℕ → List ℕ → Bool
+findFrom zero sheet t i word name = false
+findFrom (suc left) sheet t i word name = cond (nameIs sheet t i word name) true (findFrom left sheet t (i + 1) word name)
 
-unfoldable pub findName : List ℕ → List ℕ → ℕ → List ℕ → Bool
-findName sheet t count name = findFrom count sheet t 0 name
+unfoldable pub findName : List ℕ → List ℕ → ℕ → ℕ → List ℕ → Bool
+findName sheet t count word name = findFrom count sheet t 0 word name
 
 unfoldable pub symbolWritten : List ℕ → ℕ → ℕ → ℕ → ℕ → List ℕ
-symbolWritten t i start len word =
-    set (set (set t (symbolAt i nameStartField) start) (symbolAt i nameLengthField) len) (symbolAt i arityField) word
+symbolWritten t i start name word =
+    set (set (set t (symbolAt i nameStartField) start) (symbolAt i nameWordField) name) (symbolAt i arityField) word
 
 unfoldable pub symbolWord : Bool → ℕ → ℕ
 symbolWord function arity = cond function (2 * arity + 1) (2 * arity)
@@ -88,5 +89,6 @@ StandsAt sheet start name = (start + length name ≤ length sheet) × (name ≡ 
 unfoldable pub insertDeclaration : List ℕ → List ℕ → Counts → Bool → ℕ → ℕ → ℕ → Made
 insertDeclaration sheet t k function start len arity =
     cond (leb maxSymbols (k .symbols)) (made t (Stop 7))
-    (cond (findName sheet t (k .symbols) (take len (drop start sheet))) (made t (Stop 8))
-    (made (symbolWritten t (k .symbols) start len (symbolWord function arity)) (Next (counts (k .symbols + 1) (k .nodes) (k .clauses)))))
+    (cond (findName sheet t (k .symbols) (wordAt sheet start len) (take len (drop start sheet))) (made t (Stop 8))
+    (made (symbolWritten t (k .symbols) start (wordAt sheet start len) (symbolWord function arity))
+    (Next (counts (k .symbols + 1) (k .nodes) (k .clauses)))))

@@ -4,10 +4,10 @@ use super::node_info::Taken;
 use memory::byte;
 use memory::put;
 use memory::widen;
-use node_table::arity;
+use node_table::fingerprints::word_at;
 use node_table::layout;
-use node_table::name_length;
 use node_table::name_start;
+use node_table::name_word;
 use outcomes::refusals;
 use sheet_format::letters::same_letter;
 use sheet_format::limits;
@@ -26,11 +26,11 @@ fn put_symbol_field(t: &mut [u32], i: u32, f: usize, x: u32)
     put(t, layout::SYMBOL_NUMBERS * w + f, x);
 }
 
-fn put_symbol(t: &mut [u32], i: u32, start: u32, len: u32, word: u32)
-    ensures { λ _. ⌜ now (t .exit) ≡ symbolWritten (now (t .entry)) i start len word ⌝ }
+fn put_symbol(t: &mut [u32], i: u32, start: u32, name: u32, word: u32)
+    ensures { λ _. ⌜ now (t .exit) ≡ symbolWritten (now (t .entry)) i start name word ⌝ }
 {
     put_symbol_field(t, i, layout::NAME_START, start);
-    put_symbol_field(t, i, layout::NAME_LENGTH, len);
+    put_symbol_field(t, i, layout::NAME_WORD, name);
     put_symbol_field(t, i, layout::ARITY, word);
 }
 
@@ -51,24 +51,23 @@ fn same_at(sheet: &[u8], at: usize, name: &[u8]) -> bool
     true
 }
 
-// Whether symbol i has the name.
-fn name_is(sheet: &[u8], t: &[u32], i: u32, name: &[u8]) -> bool
-    ensures { λ r. ⌜ r ≡ nameIs (now (sheet .entry)) (now (t .entry)) i (now (name .entry)) ⌝ }
+// Whether symbol i has the name, whose word is given.
+fn name_is(sheet: &[u8], t: &[u32], i: u32, word: u32, name: &[u8]) -> bool
+    ensures { λ r. ⌜ r ≡ nameIs (now (sheet .entry)) (now (t .entry)) i word (now (name .entry)) ⌝ }
 {
-    let n = widen(name_length(t, i));
-    if n != name.len() {
+    if name_word(t, i) != word {
         return false;
     }
     same_at(sheet, widen(name_start(t, i)), name)
 }
 
-// Whether one of the first `count` symbols has the name.
-pub fn find_name(sheet: &[u8], t: &[u32], count: u32, name: &[u8]) -> bool
-    ensures { λ r. ⌜ r ≡ findName (now (sheet .entry)) (now (t .entry)) count (now (name .entry)) ⌝ }
+// Whether one of the first `count` symbols has the name, whose word is given.
+pub fn find_name(sheet: &[u8], t: &[u32], count: u32, word: u32, name: &[u8]) -> bool
+    ensures { λ r. ⌜ r ≡ findName (now (sheet .entry)) (now (t .entry)) count word (now (name .entry)) ⌝ }
 {
     let mut i: u32 = 0;
     while i < count {
-        if name_is(sheet, t, i, name) {
+        if name_is(sheet, t, i, word, name) {
             return true;
         }
         i += 1;
@@ -113,11 +112,11 @@ pub fn insert_declaration(
         return Taken::Stop(refusals::TOO_MANY);
     }
     let i = k.symbols;
-    if find_name(sheet, t, i, name) {
+    let word = word_at(sheet, start, start + name.len());
+    if find_name(sheet, t, i, word, name) {
         return Taken::Stop(refusals::UNKNOWN);
     }
-    let word = symbol_word(function, arity);
-    put_symbol(t, i, to_u32(start), to_u32(name.len()), word);
+    put_symbol(t, i, to_u32(start), word, symbol_word(function, arity));
     Taken::Next(Counts {
         symbols: i + 1,
         nodes: k.nodes,

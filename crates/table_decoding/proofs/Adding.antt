@@ -18,6 +18,7 @@ use Rattle.node_table.specs.Layout.{kindOf, infoOf, goalBit, membersOf, sizeOf,
 use Rattle.node_table.specs.Decoding.{termAt, goalAt, clauseAtNode, declarationAt, declarationsFrom, clausesFrom}
 use Rattle.node_table.specs.WellMade.{IsTerm, IsGoal, IsClause, Labelled, TermNode, GoalNode, ClauseNode}
 use Rattle.node_table.proofs.Same.{Same, same-kind, same-start, same-length, same-function, same-arity, same-goal, same-members}
+use Rattle.node_table.proofs.Words.{name-same}
 use Rattle.node_table.proofs.Same.{same-size}
 use Rattle.node_table.proofs.Decoding.{Nodes, termAt-same, goalAt-same, clauseAt-same}
 use Rattle.node_table.proofs.Nodes.{is-term-back, is-goal-back, is-clause-back, is-clause-same, labelled-same, term-same, goal-same, clause-same}
@@ -137,11 +138,7 @@ module _ (bytes t : List ℕ) (k : Counts) (st : Decodes bytes t k) (h : k .node
         fewSymbols = st .fewSymbols;
         fewNodes = omega arith;
         fewClauses = st .fewClauses;
-        names = λ i l.
-            let a = same-start t u (k .symbols) n same i l in
-            let b = same-length t u (k .symbols) n same i l in
-            let c = st .names i l in
-            omega arith;
+        names = λ i l. name-same t u (k .symbols) n same bytes i l (st .names i l);
         named = below-more (λ i. applicationKind ≤ kindOf u i → kindOf u i ≤ atomKind → Labelled u (k .symbols) i) n
             (λ i l p q.
             let e = same-kind t u (k .symbols) n same i l in

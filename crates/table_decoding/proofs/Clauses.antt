@@ -17,7 +17,8 @@ use Rattle.sheet_format.specs.Sheets.{goalAt as sheetGoalAt}
 use Rattle.node_table.specs.Layout.{clauseAt, maskOf, goalBit, membersOf, clauseNode}
 use Rattle.node_table.specs.Decoding.{goalAt, clauseAtNode, clausesFrom}
 use Rattle.node_table.specs.WellMade.{IsClause}
-use Rattle.node_table.proofs.Same.{Same, same-kind, same-start, same-length}
+use Rattle.node_table.proofs.Same.{Same, same-kind}
+use Rattle.node_table.proofs.Words.{name-same}
 use Rattle.node_table.proofs.Decoding.{clauseAt-same}
 use Rattle.node_table.proofs.Nodes.{is-term-back, is-goal-back, is-clause-back, is-clause-same, labelled-same, term-same, goal-same, clause-same}
 use Rattle.table_builder.specs.declared.node_info.Counts.{Counts}
@@ -74,11 +75,7 @@ module _ (bytes t : List ℕ) (k : Counts) (st : Decodes bytes t k) (n : ℕ) wh
           fewSymbols = st .fewSymbols;
           fewNodes = st .fewNodes;
           fewClauses = omega arith;
-          names = λ j p.
-              let a = same-start t u (k .symbols) (k .nodes) s j p in
-              let b = same-length t u (k .symbols) (k .nodes) s j p in
-              let c = st .names j p in
-              omega arith;
+          names = λ j p. name-same t u (k .symbols) (k .nodes) s bytes j p (st .names j p);
           named = λ j p q r.
               let e = same-kind t u (k .symbols) (k .nodes) s j p in
               labelled-same t u (k .symbols) (k .nodes) s (k .symbols) j (omega arith) p (st .named j p (omega arith) (omega arith));

@@ -9,7 +9,7 @@ use mathlib.Core.Option.{Option, none, some, Option·map}
 use lib.Dec.{ltb, leb}
 use lib.ListN.{length, take, drop, getElem?}
 use borrow.Author.Tests.{le-ltb, lt-ltb, leb-true, leb-false}
-use Rattle.sheet_format.specs.Limits.{maxNumber}
+use Rattle.sheet_format.specs.Limits.{maxNumber, maxName}
 use Rattle.sheet_format.specs.Bytes.{sameName}
 use Rattle.sheet_format.specs.SheetLines.{NodeLine, variableLine, numberLine, applyLine, trueLine, andLine, orLine, impliesLine, someLine}
 use Rattle.sheet_format.specs.SheetLines.{everyLine, declareLine, nodeLine, clauseLine, goalLine}
@@ -18,6 +18,7 @@ use Rattle.sheet_format.specs.Sheets.{Table, stop, takeNode, takeLine}
 use Rattle.sheet_format.specs.Sheets.{Taken as SheetTaken}
 use Rattle.sheet_format.specs.Sheets.{addNode as sheetAddNode}
 use Rattle.node_table.specs.Decoding.{declarationAt}
+use Rattle.node_table.specs.Fingerprints.{NamesStand}
 use Rattle.node_table.specs.WellMade.{IsGoal, WellMade, Named}
 use Rattle.table_builder.specs.declared.node_info.Counts.{Counts}
 use Rattle.table_builder.specs.declared.node_info.NodeRecord.{NodeRecord}
@@ -177,11 +178,11 @@ module _ (bytes t : List ℕ) (k : Counts) (st : Decodes bytes t k) where
   unfolding takeLine
   follows-goal n = goal-follows bytes t k st n
 
-  pub follows-declaration : (function : Bool) (start len arity : ℕ) → start + len ≤ length bytes
+  pub follows-declaration : (function : Bool) (start len arity : ℕ) → start + len ≤ length bytes → len ≤ maxName
       → Follows bytes t k (insertDeclaration bytes t k function start len arity)
       (takeLine sameName table (some (declareLine function (take len (drop start bytes)) arity)))
   unfolding takeLine
-  follows-declaration function start len arity h = declaration-follows bytes t k st function start len arity h
+  follows-declaration function start len arity h short = declaration-follows bytes t k st function start len arity h short
 
 -- the beginning and the end
 
@@ -218,3 +219,6 @@ well-made bytes t k goal st l i =
 
 pub all-named : (bytes t : List ℕ) (k : Counts) → Decodes bytes t k → Named t (k .nodes) (k .symbols)
 all-named bytes t k st = st .named
+
+pub names-stand : (bytes t : List ℕ) (k : Counts) → Decodes bytes t k → NamesStand bytes t (k .symbols)
+names-stand bytes t k st = st .names

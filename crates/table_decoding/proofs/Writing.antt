@@ -6,7 +6,7 @@ use mathlib.Core.List.{List}
 use lib.ListN.{length, getD, set, drop, length-set}
 use lib.Seq.{getD-set-same, getD-set-other, drop-set-lt}
 use Rattle.node_table.specs.Layout.{symbolAt, nodeAt, clauseAt, kindOf, childCount, labelOf, childOf, infoOf, maskOf, goalBit, membersOf}
-use Rattle.node_table.specs.Layout.{sizeOf, packInfo, nameStart, nameLength, isFunctionBit, arityOf, clauseNode, orderAt, orderNumber}
+use Rattle.node_table.specs.Layout.{sizeOf, packInfo, nameStart, nameWord, isFunctionBit, arityOf, clauseNode, orderAt, orderNumber}
 use Rattle.node_table.proofs.Same.{Same}
 use Rattle.table_builder.specs.declared.node_info.NodeRecord.{NodeRecord}
 use Rattle.table_builder.specs.Nodes.{nodeRecord, nodeWritten}
@@ -198,60 +198,60 @@ written t n kind count label a b c d mask goal members size h k p q v w =
 
 -- symbols
 
-module _ (t : List ℕ) (i start len word : ℕ) (k : i < 256) where
+module _ (t : List ℕ) (i start name word : ℕ) (k : i < 256) where
   abbrev put0 : List ℕ
   put0 = set t (symbolAt i 0) start
 
   abbrev put1 : List ℕ
-  put1 = set put0 (symbolAt i 1) len
+  put1 = set put0 (symbolAt i 1) name
 
-  pub rest-symbol : Rest t (symbolWritten t i start len word)
+  pub rest-symbol : Rest t (symbolWritten t i start name word)
   unfolding symbolWritten
   rest-symbol =
       rest-set t put1 (symbolAt i 2) word (omega arith)
-      (rest-set t put0 (symbolAt i 1) len (omega arith) (rest-set t t (symbolAt i 0) start (omega arith) (rest-refl t)))
+      (rest-set t put0 (symbolAt i 1) name (omega arith) (rest-set t t (symbolAt i 0) start (omega arith) (rest-refl t)))
 
-  symbol-other : (j : ℕ) → ((f : ℕ) → f < 3 → j ≡ symbolAt i f → ⊥) → getD (symbolWritten t i start len word) j 0 ≡ getD t j 0
+  symbol-other : (j : ℕ) → ((f : ℕ) → f < 3 → j ≡ symbolAt i f → ⊥) → getD (symbolWritten t i start name word) j 0 ≡ getD t j 0
   unfolding symbolWritten
   symbol-other j h =
-      getD-set-other put1 (symbolAt i 2) j word 0 (h 2 (omega arith)) ∙ getD-set-other put0 (symbolAt i 1) j len 0 (h 1 (omega arith))
+      getD-set-other put1 (symbolAt i 2) j word 0 (h 2 (omega arith)) ∙ getD-set-other put0 (symbolAt i 1) j name 0 (h 1 (omega arith))
       ∙ getD-set-other t (symbolAt i 0) j start 0 (h 0 (omega arith))
 
   -- Writing a symbol keeps the nodes and the symbols before it.
-  pub same-but-symbol : (nodes : ℕ) → Same t (symbolWritten t i start len word) i nodes
+  pub same-but-symbol : (nodes : ℕ) → Same t (symbolWritten t i start name word) i nodes
   same-but-symbol nodes =
       record {
         symbol = λ j f l m. symbol-other (symbolAt j f) (λ g p e. omega arith);
         node = λ n f l m. symbol-other (nodeAt n f) (λ g p e. omega arith);
       }
 
-  pub clause-kept-symbol : (j : ℕ) → clauseNode (symbolWritten t i start len word) j ≡ clauseNode t j
+  pub clause-kept-symbol : (j : ℕ) → clauseNode (symbolWritten t i start name word) j ≡ clauseNode t j
   unfolding clauseNode
   clause-kept-symbol j = symbol-other (clauseAt j) (λ g p e. omega arith)
 
   module _ (h : 8192 ≤ length t) where
-    pub written-start : nameStart (symbolWritten t i start len word) i ≡ start
+    pub written-start : nameStart (symbolWritten t i start name word) i ≡ start
     unfolding nameStart symbolWritten
     written-start =
         getD-set-other put1 (symbolAt i 2) (symbolAt i 0) word 0 (λ e. omega arith)
-        ∙ getD-set-other put0 (symbolAt i 1) (symbolAt i 0) len 0 (λ e. omega arith)
+        ∙ getD-set-other put0 (symbolAt i 1) (symbolAt i 0) name 0 (λ e. omega arith)
         ∙ getD-set-same t (symbolAt i 0) start 0 (omega arith)
 
-    pub written-length : nameLength (symbolWritten t i start len word) i ≡ len
-    unfolding nameLength symbolWritten
-    written-length =
+    pub written-name : nameWord (symbolWritten t i start name word) i ≡ name
+    unfolding nameWord symbolWritten
+    written-name =
         getD-set-other put1 (symbolAt i 2) (symbolAt i 1) word 0 (λ e. omega arith)
-        ∙ getD-set-same put0 (symbolAt i 1) len 0 (simp length-set (omega arith))
+        ∙ getD-set-same put0 (symbolAt i 1) name 0 (simp length-set (omega arith))
 
-    written-word : getD (symbolWritten t i start len word) (symbolAt i 2) 0 ≡ word
+    written-word : getD (symbolWritten t i start name word) (symbolAt i 2) 0 ≡ word
     unfolding symbolWritten
     written-word = getD-set-same put1 (symbolAt i 2) word 0 (simp length-set (omega arith))
 
-    pub written-function : isFunctionBit (symbolWritten t i start len word) i ≡ word % 2
+    pub written-function : isFunctionBit (symbolWritten t i start name word) i ≡ word % 2
     unfolding isFunctionBit
     written-function = ap (λ (x : ℕ). x % 2) written-word
 
-    pub written-arity : arityOf (symbolWritten t i start len word) i ≡ word / 2
+    pub written-arity : arityOf (symbolWritten t i start name word) i ≡ word / 2
     unfolding arityOf
     written-arity = ap (λ (x : ℕ). x / 2) written-word
 

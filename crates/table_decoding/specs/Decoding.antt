@@ -1,6 +1,6 @@
 -- The table that is being made, read back as the reader's state of document 01's definitions; and when a line's answer agrees with
 -- theirs.
-use Prim.Native.Nat.{ℕ, zero, suc, _+_, _≤_, _<_}
+use Prim.Native.Nat.{ℕ, zero, suc, _≤_, _<_}
 use mathlib.Core.Path.{_≡_}
 use mathlib.Core.Bool.{cond}
 use mathlib.Core.List.{List, [], _∷_}
@@ -11,8 +11,9 @@ use Rattle.sheet_format.specs.Nodes.{Node}
 use Rattle.sheet_format.specs.Sheets.{Table, next, stop, last}
 use Rattle.sheet_format.specs.Sheets.{Taken as SheetTaken}
 use Rattle.sheet_format.specs.Limits.{maxNodes, tableNumbers, maxSymbols, maxClauses}
-use Rattle.node_table.specs.Layout.{kindOf, goalBit, membersOf, sizeOf, nameStart, nameLength, clauseNode, applicationKind}
+use Rattle.node_table.specs.Layout.{kindOf, goalBit, membersOf, sizeOf, clauseNode, applicationKind}
 use Rattle.node_table.specs.Layout.{atomKind, orderNumber}
+use Rattle.node_table.specs.Fingerprints.{NamesStand}
 use Rattle.node_table.specs.Decoding.{termAt, goalAt, clauseAtNode, declarationsFrom, clausesFrom}
 use Rattle.node_table.specs.WellMade.{IsTerm, IsGoal, IsClause, Labelled, TermNode, GoalNode, ClauseNode}
 use Rattle.table_builder.specs.declared.node_info.Counts.{Counts}
@@ -45,7 +46,7 @@ pub record Decodes (bytes t : List ℕ) (k : Counts) : Type 0 where
   pub fewSymbols : k .symbols ≤ maxSymbols
   pub fewNodes : k .nodes ≤ maxNodes
   pub fewClauses : k .clauses ≤ maxClauses
-  pub names : (i : ℕ) → i < k .symbols → nameStart t i + nameLength t i ≤ length bytes
+  pub names : NamesStand bytes t (k .symbols)
   pub named : (n : ℕ) → n < k .nodes → applicationKind ≤ kindOf t n → kindOf t n ≤ atomKind → Labelled t (k .symbols) n
   pub term : (n : ℕ) → n < k .nodes → IsTerm t n → TermNode t n
   pub goal : (n : ℕ) → n < k .nodes → IsGoal t n → GoalNode t n

@@ -12,7 +12,7 @@ use Rattle.scanning.specs.declared.Number.the-variants.{Value, Missing}
 use Rattle.scanning.specs.declared.Scan.{Scan}
 use Rattle.scanning.specs.declared.Scan.the-variants.{Term, Malformed}
 use Rattle.scanning.specs.Ranges.{numberFrom, numberZero, scanNumber}
-use Rattle.scanning.specs.Scanning.{nameFrom, nameEnd, symbolFrom, scanLevel, scanAt, scanSymbol, higher, scanMore, scanArguments}
+use Rattle.scanning.specs.Scanning.{nameFrom, nameEnd, symbolNamed, scanLevel, scanAt, scanSymbol, higher, scanMore, scanArguments}
 use Rattle.scanning.specs.Scanning.{scanNumeral, scanApplication, scanTerm}
 
 -- A number that ends at i or after it.
@@ -137,7 +137,7 @@ module _ (b t : List ℕ) (symbols : ℕ) (x : List ℕ) where
   term-ends zero i = tt
   term-ends (suc f) i =
       let s = ends-sooner i (i + 1) (scanSymbol x (i + 1)) (omega arith) (symbol-ends x (i + 1)) in
-      let k = symbolFrom symbols b t 0 x i (nameEnd x i) in
+      let k = symbolNamed symbols b t x i (nameEnd x i) in
       let a = scanApplication (scanTerm f b t symbols x) t symbols k x (nameEnd x i) in
       ends-either i (eqb (getD x i 0) 33) (scanSymbol x (i + 1)) _ s
       (ends-either i (eqb (getD x i 0) 95) (scanSymbol x (i + 1)) _ s

@@ -12,7 +12,7 @@ use Rattle.sheet_format.specs.Bytes.{isDigit}
 use Rattle.node_table.specs.Layout.{isFunctionBit, arityOf}
 use Rattle.scanning.specs.declared.Scan.{Scan}
 use Rattle.scanning.specs.declared.Scan.the-variants.{Term, Malformed}
-use Rattle.scanning.specs.Scanning.{nameEnd, symbolFrom, scanSymbol, scanNumeral, higher, scanMore, scanArguments, scanApplication}
+use Rattle.scanning.specs.Scanning.{nameEnd, symbolNamed, scanSymbol, scanNumeral, higher, scanMore, scanArguments, scanApplication}
 use Rattle.scanning.specs.Scanning.{scanTerm}
 use Rattle.term_scanner.specs.declared.Head.{Head}
 use Rattle.term_scanner.specs.declared.Head.the-variants.{Leaf, Open, Absent}
@@ -62,7 +62,7 @@ module _ (b t : List ℕ) (symbols : ℕ) (x : List ℕ) where
   pub head-scan : (f i : ℕ) → scanTerm (suc f) b t symbols x i ≡ scanHead (scanTerm f b t symbols x) x (headAt b t symbols x i)
   unfolding scanTerm headAt
   head-scan f i =
-      let k = symbolFrom symbols b t 0 x i (nameEnd x i) in
+      let k = symbolNamed symbols b t x i (nameEnd x i) in
       go (eqb (getD x i 0) 33) (eqb (getD x i 0) 95) (isDigit (getD x i 0)) (leafOf (scanSymbol x (i + 1))) (leafOf (scanNumeral x i))
       (headOf t symbols k x (nameEnd x i)) (leaf-scan (scanTerm f b t symbols x) x (scanSymbol x (i + 1)))
       (leaf-scan (scanTerm f b t symbols x) x (scanNumeral x i))
@@ -108,7 +108,7 @@ open-from n x i j l = go (eqb n 0) (eqb (getD x j 0) 40) refl refl
 pub head-from : (b t : List ℕ) (symbols : ℕ) (x : List ℕ) (i : ℕ) → HeadFrom x i (headAt b t symbols x i)
 unfolding headAt headOf
 head-from b t symbols x i =
-    let k = symbolFrom symbols b t 0 x i (nameEnd x i) in
+    let k = symbolNamed symbols b t x i (nameEnd x i) in
     head-either x i (cond (eqb (getD x i 0) 33) true (eqb (getD x i 0) 95)) (leafOf (scanSymbol x (i + 1))) _
     (leaf-from x i (i + 1) (scanSymbol x (i + 1)) (omega arith) (symbol-ends x (i + 1)))
     (head-either x i (isDigit (getD x i 0)) (leafOf (scanNumeral x i)) (headOf t symbols k x (nameEnd x i))

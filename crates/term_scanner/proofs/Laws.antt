@@ -14,7 +14,7 @@ use Rattle.scanning.specs.declared.Number.the-variants.{Value, Missing}
 use Rattle.scanning.specs.declared.Scan.{Scan}
 use Rattle.scanning.specs.declared.Scan.the-variants.{Term, Malformed}
 use Rattle.scanning.specs.Ranges.{scanNumber}
-use Rattle.scanning.specs.Scanning.{nameEnd, symbolFrom, scanLevel, scanAt, scanSymbol, scanNumeral}
+use Rattle.scanning.specs.Scanning.{nameEnd, symbolNamed, scanLevel, scanAt, scanSymbol, scanNumeral}
 use Rattle.term_scanner.specs.declared.Head.{Head}
 use Rattle.term_scanner.specs.declared.Head.the-variants.{Leaf, Absent}
 use Rattle.term_scanner.specs.Heads.{leafOf, openAt, headOf, headAt}
@@ -93,7 +93,7 @@ module _ (b t : List ℕ) (symbols : ℕ) (x : List ℕ) (i c : ℕ) (z : Bool) 
     unfolding headAt
     head-numeral s r g k l = l ∙ rw (← e, ← d, h, ← v, g, k)
 
-    module _ (u : w ≡ false) (at k : ℕ) (g : at ≡ nameEnd x i) (y : k ≡ symbolFrom symbols b t 0 x i at) (a : Bool)
+    module _ (u : w ≡ false) (at k : ℕ) (g : at ≡ nameEnd x i) (y : k ≡ symbolNamed symbols b t x i at) (a : Bool)
         (p : a ≡ cond (ltb k symbols) (eqb (isFunctionBit t k) 1) false) where
       head-name : cond a (openAt (arityOf t k) x at) Absent ≡ headAt b t symbols x i
       unfolding headAt headOf

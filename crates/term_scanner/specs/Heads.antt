@@ -9,7 +9,7 @@ use Rattle.sheet_format.specs.Bytes.{isDigit}
 use Rattle.node_table.specs.Layout.{isFunctionBit, arityOf}
 use Rattle.scanning.specs.declared.Scan.{Scan}
 use Rattle.scanning.specs.declared.Scan.the-variants.{Term, Malformed}
-use Rattle.scanning.specs.Scanning.{nameEnd, symbolFrom, scanSymbol, scanNumeral}
+use Rattle.scanning.specs.Scanning.{nameEnd, symbolNamed, scanSymbol, scanNumeral}
 use Rattle.term_scanner.specs.declared.Head.{Head}
 use Rattle.term_scanner.specs.declared.Head.the-variants.{Leaf, Open, Absent}
 
@@ -30,4 +30,4 @@ unfoldable pub headAt : List ℕ → List ℕ → ℕ → List ℕ → ℕ → H
 headAt b t symbols x i =
     cond (cond (eqb (getD x i 0) (code "!")) true (eqb (getD x i 0) (code "_"))) (leafOf (scanSymbol x (i + 1)))
     (cond (isDigit (getD x i 0)) (leafOf (scanNumeral x i))
-    (headOf t symbols (symbolFrom symbols b t 0 x i (nameEnd x i)) x (nameEnd x i)))
+    (headOf t symbols (symbolNamed symbols b t x i (nameEnd x i)) x (nameEnd x i)))

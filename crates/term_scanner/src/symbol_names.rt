@@ -4,8 +4,10 @@ use super::ranges::monus;
 use super::ranges::same_range;
 use memory::byte;
 use memory::widen;
+use node_table::fingerprints::word_at;
 use node_table::name_length;
 use node_table::name_start;
+use node_table::name_word;
 use sheet_format::letters::same_letter;
 ghost use mathlib.Core.Path.{_≡_};
 ghost use mathlib.Core.Bool.{false};
@@ -46,10 +48,13 @@ fn is_spelled(n: usize, sheet: &[u8], s: usize, text: &[u8], i: usize, e: usize)
     false
 }
 
-// Whether symbol k is named by the text from i to e.
-fn is_named(sheet: &[u8], t: &[u32], k: u32, text: &[u8], i: usize, e: usize) -> bool
-    ensures { λ r. ⌜ r ≡ isNamed (now (sheet .entry)) (now (t .entry)) k (now (text .entry)) i e ⌝ }
+// Whether symbol k is named by the text from i to e, where a name has that word.
+fn is_named(sheet: &[u8], t: &[u32], k: u32, word: u32, text: &[u8], i: usize, e: usize) -> bool
+    ensures { λ r. ⌜ r ≡ isNamed (now (sheet .entry)) (now (t .entry)) k word (now (text .entry)) i e ⌝ }
 {
+    if name_word(t, k) != word {
+        return false;
+    }
     let n = name_size(sheet, t, k);
     if monus(e, i) == n {
         return is_spelled(n, sheet, widen(name_start(t, k)), text, i, e);
@@ -59,11 +64,12 @@ fn is_named(sheet: &[u8], t: &[u32], k: u32, text: &[u8], i: usize, e: usize) ->
 
 // The first of so many symbols that has the name from i to e; their number if none has.
 pub fn symbol_from(symbols: u32, sheet: &[u8], t: &[u32], text: &[u8], i: usize, e: usize) -> u32
-    ensures { λ r. ⌜ r ≡ symbolFrom symbols (now (sheet .entry)) (now (t .entry)) 0 (now (text .entry)) i e ⌝ }
+    ensures { λ r. ⌜ r ≡ symbolNamed symbols (now (sheet .entry)) (now (t .entry)) (now (text .entry)) i e ⌝ }
 {
+    let word = word_at(text, i, e);
     let mut k: u32 = 0;
     while k < symbols {
-        if is_named(sheet, t, k, text, i, e) {
+        if is_named(sheet, t, k, word, text, i, e) {
             return k;
         }
         k += 1;

@@ -157,4 +157,5 @@ contract-before s t t₁ t′ r x e c =
       long = c .long ∙ k .0;
       rest = c .rest ∙ k .1;
       named = c .named;
+      names = c .names;
     }

@@ -25,11 +25,11 @@ use Rattle.table_builder.specs.declared.node_info.Taken.{Taken}
 use Rattle.table_builder.specs.declared.node_info.Taken.the-variants.{Next, Stop, Last}
 use Rattle.table_builder.specs.Nodes.{made, counts}
 use Rattle.table_decoding.specs.Decoding.{nodesFrom, tableOf, Decodes, Agrees, Follows}
-use Rattle.table_decoding.proofs.Lines.{stands-empty, well-made, all-named}
+use Rattle.table_decoding.proofs.Lines.{stands-empty, well-made, all-named, names-stand}
 use Rattle.sheet_reader.specs.declared.sheet_lines.Read.{Read}
 use Rattle.sheet_reader.specs.declared.sheet_lines.Read.the-variants.{Done}
-use Rattle.sheet_reader.specs.Reader.{readOf, WellRead, NamedRead, nodesIn, nodeCount, goalOr, goalNamed, Counted, ReadContract}
-use Rattle.sheet_reader.specs.Reader.{lineEnd, lineTaken, refusedRead, finished}
+use Rattle.sheet_reader.specs.Reader.{readOf, WellRead, NamedRead, NamesRead, nodesIn, nodeCount, goalOr, goalNamed, Counted}
+use Rattle.sheet_reader.specs.Reader.{ReadContract, lineEnd, lineTaken, refusedRead, finished}
 use Rattle.sheet_reader.proofs.sheet_lines.Lines.{linesOf-lf, line-at, open-at, end-within}
 use Rattle.sheet_reader.proofs.sheet_lines.Steps.{between, next-adds, line-follows, EndsAt, line-last}
 
@@ -233,7 +233,7 @@ module _ (bytes t₀ t t′ : List ℕ) (k : Counts) (at line end : ℕ) (x : Ta
 
   -- If the line is refused, the contract holds.
   pub reading-stops : (number : ℕ) (r : Read) → x ≡ Stop number → r ≡ refusedRead number line → ReadContract bytes t₀ t′ r
-  unfolding Agrees afterLine readOf WellRead NamedRead Counted
+  unfolding Agrees afterLine readOf WellRead NamedRead NamesRead Counted
   reading-stops number r q z =
       let a = subst (λ (y : Taken). Agrees bytes t′ k y (sheetLine sameName (tableOf bytes t k) (parseLine (between bytes at end)))) q
       (follows .agrees) in
@@ -244,11 +244,12 @@ module _ (bytes t₀ t t′ : List ℕ) (k : Counts) (at line end : ℕ) (x : Ta
         long = follows .long ∙ h .long;
         rest = follows .rest ∙ h .rest;
         named = tt;
+        names = tt;
       })
 
   -- If the line is the Q line, the contract holds.
   pub reading-ends : (goal : ℕ) (r : Read) → x ≡ Last goal → r ≡ finished bytes k goal (end + 1) (line + 1) → ReadContract bytes t₀ t′ r
-  unfolding finished Agrees afterLine readOf WellRead NamedRead Counted decodeSheet tableOf nodesIn nodeCount goalOr linesOf
+  unfolding finished Agrees afterLine readOf WellRead NamedRead NamesRead Counted decodeSheet tableOf nodesIn nodeCount goalOr linesOf
   reading-ends goal r q z = rw (z, here .same) (ended (ltb (end + 1) (length bytes)) refl)
     where
       here : EndsAt bytes t k (h .stands) at end (ends .0) (ends .1) t′ goal (parseLine (between bytes at end))
@@ -284,6 +285,7 @@ module _ (bytes t₀ t t′ : List ℕ) (k : Counts) (at line end : ℕ) (x : Ta
         long = h .long;
         rest = h .rest;
         named = tt;
+        names = tt;
       }
       ended false e = record {
         read = ahead-goal ∙ after-none bytes (end + 1) (suc line) _ (ltb-false (end + 1) (length bytes) e);
@@ -292,14 +294,15 @@ module _ (bytes t₀ t t′ : List ℕ) (k : Counts) (at line end : ℕ) (x : Ta
         long = h .long;
         rest = h .rest;
         named = all-named bytes t k (h .stands);
+        names = names-stand bytes t k (h .stands);
       }
 
 module _ (bytes t₀ t : List ℕ) (k : Counts) (at line : ℕ) (r : Read) (h : Reading bytes t₀ t k at line) where
   -- A refusal that leaves the table as it is satisfies the contract.
   refuses : (number : ℕ) → readOn (orderOf t) (drop at bytes) line (tableOf bytes t k) ≡ refused (refusal number line)
       → r ≡ refusedRead number line → ReadContract bytes t₀ t r
-  unfolding readOf WellRead NamedRead Counted
-  refuses number e z = rw z (record { read = h .ahead ∙ e; wellMade = tt; counted = tt; long = h .long; rest = h .rest; named = tt })
+  unfolding readOf WellRead NamedRead NamesRead Counted
+  refuses number e z = rw z (record { read = h .ahead ∙ e; wellMade = tt; counted = tt; long = h .long; rest = h .rest; named = tt; names = tt })
 
   -- The contract holds for a line without LF.
   pub reading-open : (end : ℕ) → at < length bytes → end ≡ lineEnd bytes at → end ≡ length bytes → r ≡ refusedRead 6 line

@@ -265,7 +265,7 @@ module _ (bytes t : List ℕ) (k : Counts) (h : Decodes bytes t k) where
     answer-follows (Declare function n arity) e =
         let d = declare-bounds (between bytes at end) function n arity e in
         let z = named-at bytes at end n a b (d .within) in
-        rw z (follows-declaration bytes t k h function (at + 2) n arity (declared-within n (d .within)))
+        rw z (follows-declaration bytes t k h function (at + 2) n arity (declared-within n (d .within)) (d .short))
     answer-follows (Node l) e =
         let f = line-formed (between bytes at end) (Node l) (nodeLine (nodeBack l)) e refl in
         node-follows l f (node-formed (between bytes at end) l e f)

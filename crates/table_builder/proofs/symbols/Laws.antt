@@ -4,7 +4,7 @@ use native.Mathlib.Numerals.{add-one}
 use native.Mathlib.Nat.{add-assoc}
 use native.Mathlib.Omega.{arith}
 use mathlib.Core.Bool.{Bool, true, false, cond}
-use mathlib.Core.Path.{_≡_, sym, _∙_}
+use mathlib.Core.Path.{_≡_, sym, ap, _∙_}
 use mathlib.Core.List.{List, [], _∷_}
 use lib.Dec.{eqb}
 use lib.ListN.{length, take, drop, getD, set, drop-of-length-le}
@@ -12,6 +12,7 @@ use lib.Seq.{drop-cons, length-take-le}
 use borrow.Author.Tests.{lt-leb}
 use Rattle.sheet_format.specs.Bytes.{folded}
 use Rattle.node_table.specs.Layout.{symbolAt}
+use Rattle.node_table.specs.Fingerprints.{wordAt}
 use Rattle.table_builder.specs.declared.node_info.Counts.{Counts}
 use Rattle.table_builder.specs.declared.node_info.Taken.the-variants.{Next, Stop}
 use Rattle.table_builder.specs.Nodes.{made, counts}
@@ -19,10 +20,10 @@ use Rattle.table_builder.specs.Symbols.{symbolWritten, firstOf, sameAt, 
 
 -- writes
 
-pub symbol-puts : (t t₀ t₁ t₂ : List ℕ) (i start len word : ℕ) → t₀ ≡ set t (symbolAt i 0) start → t₁ ≡ set t₀ (symbolAt i 1) len
-    → t₂ ≡ set t₁ (symbolAt i 2) word → t₂ ≡ symbolWritten t i start len word
+pub symbol-puts : (t t₀ t₁ t₂ : List ℕ) (i start name word : ℕ) → t₀ ≡ set t (symbolAt i 0) start → t₁ ≡ set t₀ (symbolAt i 1) name
+    → t₂ ≡ set t₁ (symbolAt i 2) word → t₂ ≡ symbolWritten t i start name word
 unfolding symbolWritten
-symbol-puts t t₀ t₁ t₂ i start len word e₀ e₁ e₂ = rw (e₂, e₁, e₀)
+symbol-puts t t₀ t₁ t₂ i start name word e₀ e₁ e₂ = rw (e₂, e₁, e₀)
 
 -- names
 
@@ -51,29 +52,29 @@ same-none s at name =
     let e : at + 0 ≡ at = omega arith in
     rw e
 
-module _ (s t : List ℕ) (n i : ℕ) (name : List ℕ) where
-  pub find-here : (b : Bool) → i < n → b ≡ nameIs s t i name → b ≡ true → findFrom (n - i) s t i name ≡ true
+module _ (s t : List ℕ) (n i word : ℕ) (name : List ℕ) where
+  pub find-here : (b : Bool) → i < n → b ≡ nameIs s t i word name → b ≡ true → findFrom (n - i) s t i word name ≡ true
   unfolding findFrom
   find-here b h e f =
       let z : n - i ≡ suc (n - (i + 1)) = omega arith in
       rw z (simp (sym e ∙ f))
 
-  pub find-on : (b : Bool) → i < n → b ≡ nameIs s t i name → b ≡ false
-      → findFrom (n - i) s t i name ≡ findFrom (n - (i + 1)) s t (i + 1) name
+  pub find-on : (b : Bool) → i < n → b ≡ nameIs s t i word name → b ≡ false
+      → findFrom (n - i) s t i word name ≡ findFrom (n - (i + 1)) s t (i + 1) word name
   unfolding findFrom
   find-on b h e f =
       let z : n - i ≡ suc (n - (i + 1)) = omega arith in
       rw z (simp (sym e ∙ f))
 
-  pub find-end : n ≤ i → findFrom (n - i) s t i name ≡ false
+  pub find-end : n ≤ i → findFrom (n - i) s t i word name ≡ false
   unfolding findFrom
   find-end h =
       let z : n - i ≡ 0 = omega arith in
       rw z
 
-pub find-first : (s t : List ℕ) (n : ℕ) (name : List ℕ) → findName s t n name ≡ findFrom (n - 0) s t 0 name
+pub find-first : (s t : List ℕ) (n word : ℕ) (name : List ℕ) → findName s t n word name ≡ findFrom (n - 0) s t 0 word name
 unfolding findName
-find-first s t n name =
+find-first s t n word name =
     let e : n - 0 ≡ n = omega arith in
     rw e
 
@@ -83,16 +84,20 @@ find-first s t n name =
 pub first-length : (n count a b c d : ℕ) → count ≤ 4 → n ≡ count → n ≡ length (firstOf n a b c d)
 first-length n count a b c d h e = sym (length-take-le n (a ∷ b ∷ c ∷ d ∷ []) (omega arith))
 
--- A name found among the declared ones, and a name that is new. The name is that part of the sheet.
-module _ (s t : List ℕ) (k : Counts) (function : Bool) (start : ℕ) (name : List ℕ) (arity : ℕ)
-    (part : name ≡ take (length name) (drop start s)) (h : k .symbols < 256)
-    (found : Bool) (e : found ≡ findName s t (k .symbols) name) where
+-- A name found among the declared ones, and a name that is new. The name is that part of the sheet, with that word.
+module _ (s t : List ℕ) (k : Counts) (function : Bool) (start : ℕ) (name : List ℕ) (arity word : ℕ)
+    (part : name ≡ take (length name) (drop start s)) (h : k .symbols < 256) (w : word ≡ wordAt s start (start + length name - start))
+    (found : Bool) (e : found ≡ findName s t (k .symbols) word name) where
+  -- The word of the name.
+  named : word ≡ wordAt s start (length name)
+  named = let l : start + length name - start ≡ length name = omega arith in w ∙ ap (wordAt s start) l
+
   pub declaration-found : found ≡ true → made t (Stop 8) ≡ insertDeclaration s t k function start (length name) arity
   unfolding insertDeclaration
-  declaration-found f = rw (lt-leb 256 (k .symbols) h, ← part, ← e, f)
+  declaration-found f = rw (lt-leb 256 (k .symbols) h, ← part, ← named, ← e, f)
 
-  pub declaration-taken : (t′ : List ℕ) (word a b : ℕ) → found ≡ false → word ≡ symbolWord function arity → a ≡ start → b ≡ length name
-      → t′ ≡ symbolWritten t (k .symbols) a b word
+  pub declaration-taken : (t′ : List ℕ) (a b : ℕ) → found ≡ false → b ≡ symbolWord function arity → a ≡ start
+      → t′ ≡ symbolWritten t (k .symbols) a word b
       → made t′ (Next (counts (k .symbols + 1) (k .nodes) (k .clauses))) ≡ insertDeclaration s t k function start (length name) arity
   unfolding insertDeclaration
-  declaration-taken t′ word a b f w x y z = rw (lt-leb 256 (k .symbols) h, ← part, ← e, f, z, w, x, y)
+  declaration-taken t′ a b f x y z = rw (lt-leb 256 (k .symbols) h, ← part, ← named, ← e, f, z, x, y)

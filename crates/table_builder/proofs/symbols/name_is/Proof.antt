@@ -7,25 +7,21 @@ use Rattle.table_builder.proofs.symbols.name_is.Tie as tie
 returns : tie.Need-returns
 unfolding nameIs
 returns c =
-    simp (nameIs, ne-eqb _ _ (c .if1 .taken), ← c .before .widen .ensures .0, ← c .before .before .name-length .ensures)
+    simp (nameIs, ne-eqb _ _ (c .if1 .taken), ← c .before .name-word .ensures)
 
 returns-2 : tie.Need-returns-2
 unfolding nameIs
 returns-2 c =
-    let at-widen = c .before .before .before .before in
-    let at-name-length = at-widen .before in
     simp (
       nameIs,
       ← c .same-at .ensures,
-      ← c .before .widen2 .ensures .0,
+      ← c .before .widen .ensures .0,
       ← c .before .before .name-start .ensures,
       eq-eqb _ _ (c .before .before .before .if1 .left),
-      ← at-widen .widen .ensures .0,
-      ← at-name-length .name-length .ensures,
+      ← c .before .before .before .before .name-word .ensures,
     )
 
 pub name-is-spec : {M : Type 1} → statement M
 name-is-spec =
     tie.close
-    (tie.spec (λ c κs. search needs) (λ c κs. search needs) returns (λ c κs. search needs) (λ c κs. search needs)
-    (λ c κs. search needs) returns-2)
+    (tie.spec (λ c κs. search needs) returns (λ c κs. search needs) (λ c κs. search needs) (λ c κs. search needs) returns-2)
