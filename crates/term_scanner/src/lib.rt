@@ -18,7 +18,7 @@ use node_table::is_function;
 use ranges::monus;
 use scanning::Number;
 use scanning::Scan;
-use symbol_names::symbol_from;
+use symbol_names::symbol_named;
 use tokens::is_digit;
 use tokens::name_end;
 use tokens::scan_number;
@@ -173,7 +173,7 @@ fn scan_head(sheet: &[u8], t: &[u32], symbols: u32, text: &[u8], i: usize) -> He
         return leaf_of(scan_numeral(text, i));
     }
     let at = name_end(text, i);
-    let k = symbol_from(symbols, sheet, t, text, i, at);
+    let k = symbol_named(symbols, sheet, t, text, i, at);
     if is_applied(t, symbols, k) {
         return scan_open(text, at, arity(t, k));
     }

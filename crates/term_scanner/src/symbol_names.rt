@@ -13,7 +13,7 @@ ghost use mathlib.Core.Path.{_≡_};
 ghost use mathlib.Core.Bool.{false};
 ghost use Prim.Native.Nat.{_+_, _-_, _<_};
 ghost use Rattle.scanning.specs.Ranges.{sameFolded};
-ghost use Rattle.scanning.specs.Scanning.{nameSize, isNamed, symbolFrom};
+ghost use Rattle.scanning.specs.Scanning.{nameSize, isNamed, symbolNamed};
 
 // How many bytes the sheet has of the name of symbol k.
 pub fn name_size(sheet: &[u8], t: &[u32], k: u32) -> usize
@@ -63,7 +63,7 @@ fn is_named(sheet: &[u8], t: &[u32], k: u32, word: u32, text: &[u8], i: usize, e
 }
 
 // The first of so many symbols that has the name from i to e; their number if none has.
-pub fn symbol_from(symbols: u32, sheet: &[u8], t: &[u32], text: &[u8], i: usize, e: usize) -> u32
+pub fn symbol_named(symbols: u32, sheet: &[u8], t: &[u32], text: &[u8], i: usize, e: usize) -> u32
     ensures { λ r. ⌜ r ≡ symbolNamed symbols (now (sheet .entry)) (now (t .entry)) (now (text .entry)) i e ⌝ }
 {
     let word = word_at(text, i, e);

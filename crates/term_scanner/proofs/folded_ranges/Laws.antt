@@ -10,7 +10,8 @@ use lib.ListN.{length, getD, length-map}
 use borrow.Author.Tests.{eqb-true, eqb-false, eq-eqb}
 use Rattle.sheet_format.specs.Bytes.{folded, foldedName}
 use Rattle.scanning.specs.Ranges.{sameRange, sameFolded}
-use Rattle.scanning.proofs.Ranges.{byte-folded, range-folded}
+use Rattle.node_table.proofs.Words.{byte-folded}
+use Rattle.scanning.proofs.Ranges.{range-folded}
 use Rattle.term_scanner.proofs.ranges.Laws.{range-end, range-next, range-off, range-last}
 
 -- Two ranges are the same but for case if the ranges of the folded lists are the same, so each law is that of `sameRange` there.

@@ -32,7 +32,7 @@ returns-3 c =
     let at-if1 = at-if2 .before .before in
     head-open _ _ _ _ _ _ _ (at-if1 .before .before .byte .ensures) (at-if1 .before .is-sigil .ensures) (at-if1 .if1 .left) _
     (at-if2 .before .is-digit .ensures) (at-if2 .if2 .left) _ _ (at-is-applied .before .before .name-end .ensures)
-    (at-is-applied .before .symbol-from .ensures) _ (at-is-applied .is-applied .ensures) _ _ (c .before .before .if3 .taken)
+    (at-is-applied .before .symbol-named .ensures) _ (at-is-applied .is-applied .ensures) _ _ (c .before .before .if3 .taken)
     (c .before .arity .ensures) (c .scan-open .ensures)
 
 returns-4 : tie.Need-returns-4
@@ -42,7 +42,7 @@ returns-4 c =
     let at-if1 = at-if2 .before .before in
     head-unknown _ _ _ _ _ _ _ (at-if1 .before .before .byte .ensures) (at-if1 .before .is-sigil .ensures) (at-if1 .if1 .left) _
     (at-if2 .before .is-digit .ensures) (at-if2 .if2 .left) _ _ (at-is-applied .before .before .name-end .ensures)
-    (at-is-applied .before .symbol-from .ensures) _ (at-is-applied .is-applied .ensures) (c .if3 .left)
+    (at-is-applied .before .symbol-named .ensures) _ (at-is-applied .is-applied .ensures) (c .if3 .left)
 
 pub scan-head-spec : {M : Type 1} → statement M
 scan-head-spec =
