@@ -15,7 +15,7 @@ use Rattle.node_table.specs.Decoding.{decodeSheet}
 use Rattle.table_builder.specs.declared.node_info.Counts.{Counts}
 use Rattle.sheet_reader.specs.declared.sheet_lines.Read.{Read}
 use Rattle.sheet_reader.specs.declared.sheet_lines.Read.the-variants.{Done, Refused}
-use Rattle.sheet_reader.specs.Reader.{readOf, WellRead, ReadContract}
+use Rattle.sheet_reader.specs.Reader.{readOf, WellRead, NamesRead, ReadContract}
 use Rattle.text_judging.specs.Judging.{judge}
 use Rattle.line_checking.specs.Judging.{Judged, judgeText}
 use Rattle.line_checking.specs.Judging.{judged as judgedText}
@@ -38,12 +38,12 @@ pub text-judged : (bytes text t t′ : List ℕ) (x : Read) (k : Counts) (goal :
     → ReadContract bytes t t′ x → x ≡ Done k goal → demanded (countLf text) ≤ length w
     → judgedText w′ n ≡ judgeText bytes t′ (k .symbols) (k .clauses) goal text w → v ≡ verdictAt n
     → handed v ≡ handedBack (checkSheet text (readSheet bytes))
-unfolding readOf WellRead checkSheet demanded
+unfolding readOf WellRead NamesRead checkSheet demanded
 text-judged bytes text t t′ x k goal w w′ n v c e room d q =
     let z = subst (ReadContract bytes t t′) e c in
     let s = decodeSheet bytes t′ (k .symbols) (k .clauses) goal in
     let h : numbersPerUnit * lineFeeds text ≤ length w = subst (λ (i : ℕ). numbersPerUnit * i ≤ length w) (countLf-lines text) room in
-    let g = simulates bytes s (z .read) t′ (k .symbols) (k .nodes) (k .clauses) goal (z .wellMade) refl text w h in
+    let g = simulates bytes s (z .read) t′ (k .symbols) (k .nodes) (k .clauses) goal (z .wellMade) (z .names) refl text w h in
     let j : judgementOf n ≡ judge s text = ap (λ (a : Judged). judgementOf (a .verdict)) d ∙ g .verdict in
     rw (q, z .read, ← j) (verdict-handed n)
 

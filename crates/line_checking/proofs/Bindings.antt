@@ -411,7 +411,7 @@ module _ (c : Setting) (filled : Filled c) (q : ℕ) (w : List ℕ) (room : Room
   bind-term : (m : List ℕ) → l ≡ ascii "B\t" ++ ((48 + v) ∷ 9 ∷ m) → drop (i + 4) (folds c) ≡ m ++ (lf ∷ rest)
       → Result c q l a r (bindTerm (c .bytes) (c .table) (c .symbols) (c .goal) (c .text) w r q (i + 4) e)
   unfolding bindTerm bindWith allow ascii
-  bind-term m p y = go (term-case c names (i + 4) e m rest y (let z = ap length p in let o = end in omega arith))
+  bind-term m p y = go (term-case c filled (i + 4) e m rest y (let z = ap length p in let o = end in omega arith))
     where
       R : Made → Type 0
       R = Result c q l a r

@@ -332,7 +332,7 @@ module _ (c : Setting) (filled : Filled c) (q : ℕ) (w : List ℕ) (room : Room
           (λ a. proceed-leftover w₂ r)
 
       -- A line that uses the member with the terms ts is found right or wrong.
-      used : (ts : List Ground) → m ≡ tabbed ts ds → Fits c names q (r .level) e rest vs ts → Frames ts
+      used : (ts : List Ground) → m ≡ tabbed ts ds → Fits c filled q (r .level) e rest vs ts → Frames ts
           → R (useMember (c .bytes) t (c .text) w₂ r q (F .leaf))
       unfolding useMember inferClause inferEntry infer WritableLine
       used ts p fits frames =
@@ -382,7 +382,7 @@ module _ (c : Setting) (filled : Filled c) (q : ℕ) (w : List ℕ) (room : Room
       terms-result : R (useTerms (c .bytes) t (c .text) r q (F .leaf) read-all e)
       unfolding useTerms
       terms-result =
-          go (prefix-case c names q (r .level) e rest (F .count) (F .names) j w₁ m
+          go (prefix-case c filled q (r .level) e rest (F .count) (F .names) j w₁ m
           (kept-room q q w w₁ (copy-kept 16 w q f 0 (omega arith)) room) after ends)
         where
           scan : (s : Scan) → ((a b : ℕ) → s ≡ Scanned a b → eqb a e ≡ false) → R (broken w₂ r)
@@ -394,14 +394,14 @@ module _ (c : Setting) (filled : Filled c) (q : ℕ) (w : List ℕ) (room : Room
           scan Malformed y z = z
           scan (Scanned a b) y z = rw (y a b refl) z
 
-          go : PrefixCase c names q (r .level) e rest w₁ m vs read-all → R (useTerms (c .bytes) t (c .text) r q (F .leaf) read-all e)
+          go : PrefixCase c filled q (r .level) e rest w₁ m vs read-all → R (useTerms (c .bytes) t (c .text) r q (F .leaf) read-all e)
           go (all-read ts p fits a s frames) = rw (useTerms, s) (rw (eq-eqb e e refl) (used ts p fits frames))
           go (not-read none-fits s) =
               scan (read-all .scan) s
               (only-terms w₂ (λ ts p y. uses-none x is-entry ts (refuted (Test x is-entry ts) (λ z. none-fits ts p (fits ts y z)))))
             where
               fits : (ts : List Ground) → All (λ u. WritableTerm u ds) ts → Test x is-entry ts ≡ true
-                  → Fits c names q (r .level) e rest vs ts
+                  → Fits c filled q (r .level) e rest vs ts
               fits ts y z =
                   let A = eqb (length ts) (length vs) in
                   let B = allLow (g .level) ts in

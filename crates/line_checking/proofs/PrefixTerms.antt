@@ -36,7 +36,7 @@ use Rattle.scanning.proofs.Records.{Room, Kept, kept-self, kept-then, kept-room
 use Rattle.scanning.proofs.Frames.{frame-put}
 use Rattle.line_checking.specs.Clauses.{Read, read, prefixTerm, prefixAt, prefixFrom}
 use Rattle.line_checking.proofs.Lines.{tabbed, tabbed-stops}
-use Rattle.line_checking.proofs.Representation.{Setting, folds, declared}
+use Rattle.line_checking.proofs.Representation.{Setting, folds, declared, Filled}
 use Rattle.line_checking.proofs.Terms.{scanned-there, scanAt, spelledAt, scan-there}
 use Rattle.clause_members.proofs.Prefixes.{namesOf}
 
@@ -92,7 +92,7 @@ same-rest a b x y n e = sym (drop-append-seam a x) ∙ ap₂ drop n e ∙ drop-a
 tail-same : {a b : ℕ} {x y : List ℕ} → a ∷ x ≡ b ∷ y → x ≡ y
 tail-same h = cc
 
-module _ (c : Setting) (names : Names (declared c)) (q m e : ℕ) (rest : List ℕ) where
+module _ (c : Setting) (filled : Filled c) (q m e : ℕ) (rest : List ℕ) where
   -- The declared symbols are those of the table.
   abbrev ds : List Declaration
   ds = declared c
@@ -146,16 +146,16 @@ module _ (c : Setting) (names : Names (declared c)) (q m e : ℕ) (rest : List �
       → WritableTerm t ds
       → scanAt c i ≡ Scanned (i + length (spellTerm t ds)) (level t)
   unfolding tabbed isNameByte isLetter isSmall isCapital isDigit
-  scan-tabbed i t [] h w = scan-there c names i t lf rest h w refl
-  scan-tabbed i t (u ∷ ts) h w = scan-there c names i t 9 ((spellTerm u ds ++ tabbed ts ds) ++ (lf ∷ rest)) h w refl
+  scan-tabbed i t [] h w = scan-there c filled i t lf rest h w refl
+  scan-tabbed i t (u ∷ ts) h w = scan-there c filled i t 9 ((spellTerm u ds ++ tabbed ts ds) ++ (lf ∷ rest)) h w refl
 
   -- A term before other terms or the end of the line stands in the text.
   spelled-at-tabbed : (i : ℕ) (t : Ground) (ts : List Ground) → drop i (folds c) ≡ spellTerm t ds ++ (tabbed ts ds ++ (lf ∷ rest))
       → WritableTerm t ds
       → SpelledAt ds (folds c) i (i + length (spellTerm t ds)) t
   unfolding tabbed isNameByte isLetter isSmall isCapital isDigit
-  spelled-at-tabbed i t [] h w = spelledAt c names i t lf rest h w refl
-  spelled-at-tabbed i t (u ∷ ts) h w = spelledAt c names i t 9 ((spellTerm u ds ++ tabbed ts ds) ++ (lf ∷ rest)) h w refl
+  spelled-at-tabbed i t [] h w = spelledAt c filled i t lf rest h w refl
+  spelled-at-tabbed i t (u ∷ ts) h w = spelledAt c filled i t 9 ((spellTerm u ds ++ tabbed ts ds) ++ (lf ∷ rest)) h w refl
 
   -- Putting the term of the name v into a frame gives a frame for v and the names it had.
   frame-next : (w : List ℕ) (v i j : ℕ) (t : Ground) (vs : List ℕ) (d : Environment Symbol) (p p′ : ℕ → Bool) → Room q w
@@ -248,7 +248,7 @@ module _ (c : Setting) (names : Names (declared c)) (q m e : ℕ) (rest : List �
           w₁ = putRange w q v (i + 1) j
 
           t : ScansTerm ds (folds c) (i + 1) l′ rest j k₀
-          t = scanned-there c names (i + 1) l′ rest j k₀ d s
+          t = scanned-there c filled (i + 1) l′ rest j k₀ d s
 
           low : (b : Bool) → leb k₀ m ≡ b → P (next (cond b (read w₁ (Scanned j k₀)) (read w Malformed)))
           low true b =

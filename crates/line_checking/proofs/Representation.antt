@@ -16,7 +16,9 @@ use Rattle.sheet_format.proofs.Names.{Names}
 use Rattle.sheet_format.proofs.Formed.{FormedGoal, FormedClause}
 use Rattle.sheet_format.proofs.Good.{Good}
 use Rattle.node_table.specs.Decoding.{goalAt, clauseAtNode, declarationsFrom, clausesFrom, orderOf, decodeSheet}
+use Rattle.node_table.specs.Fingerprints.{NamesStand}
 use Rattle.node_table.specs.WellMade.{IsGoal, IsClause, WellMade}
+use Rattle.node_table.proofs.Words.{name-folded}
 use Rattle.answer_texts.specs.Spelled.{Stage, opening, bindings, sequents}
 use Rattle.scanning.specs.Fields as fields
 use Rattle.scanning.proofs.InstanceSpelling.{Frame}
@@ -60,11 +62,16 @@ joinedAll o (a ∷ l) s = joined o a (joinedAll o l s)
 pub record Filled (c : Setting) : Type 0 where
   pub wellMade : WellMade (c .table) (c .nodes) (c .clauses) (c .goal)
   pub good : Good (sheetOf c)
+  pub names : NamesStand (c .bytes) (c .table) (c .symbols)
 
 -- The names of the declared symbols are proper.
 pub names-of : (c : Setting) → Filled c → Names (declared c)
 unfolding sheetOf decodeSheet
 names-of c f = f .good .names
+
+-- They stand in the folded bytes of the sheet, and the table has their words.
+pub names-stand : (c : Setting) → Filled c → NamesStand (foldedName (c .bytes)) (c .table) (c .symbols)
+names-stand c f k l = name-folded (c .bytes) (c .table) k (f .names k l)
 
 module _ (c : Setting) where
   -- A hypothesis in record r, which is below k.

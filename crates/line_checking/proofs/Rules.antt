@@ -476,7 +476,7 @@ module _ (c : Setting) (filled : Filled c) (q : ℕ) (w : List ℕ) (room : Room
       term : (m : List ℕ) → l ≡ word ++ m → drop (i + 7) (folds c) ≡ m ++ (lf ∷ rest)
           → R (someTerm (c .bytes) t (c .symbols) (c .text) w r q (i + 7) e)
       term m p y =
-          go (term-case c (names-of c filled) (i + 7) e m rest y (let z = ap length p ∙ length-append word m in let o = end in omega arith))
+          go (term-case c filled (i + 7) e m rest y (let z = ap length p ∙ length-append word m in let o = end in omega arith))
         where
           rests : (u : Ground) → l ≡ word ++ spellTerm u ds → m ≡ spellTerm u ds
           rests u o = append-cancel-left word m (spellTerm u ds) (sym p ∙ o)
@@ -551,7 +551,7 @@ module _ (c : Setting) (filled : Filled c) (q : ℕ) (w : List ℕ) (room : Room
 
       constant : (m : List ℕ) → l ≡ ascii "D\tall\t" ++ (33 ∷ m) → drop (i + 6) (folds c) ≡ (33 ∷ m) ++ (lf ∷ rest)
           → R (allConstant t (c .text) w r q (i + 6) e)
-      constant m p y = go (term-case c (names-of c filled) (i + 6) e (33 ∷ m) rest y (let z = ap length p in let o = end in omega arith))
+      constant m p y = go (term-case c filled (i + 6) e (33 ∷ m) rest y (let z = ap length p in let o = end in omega arith))
         where
           rests : (u : Ground) → l ≡ ascii "D\tall\t" ++ spellTerm u ds → 33 ∷ m ≡ spellTerm u ds
           rests u o = append-cancel-left (ascii "D\tall\t") (33 ∷ m) (spellTerm u ds) (sym p ∙ o)

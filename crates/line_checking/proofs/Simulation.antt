@@ -187,7 +187,7 @@ unlines-length (l ∷ ls) = let h = unlines-length ls in let k = length-append l
 -- The theorem.
 pub simulates : Simulates
 unfolding judge judgeExactly judgeText lineFeeds sheetOf
-simulates bytes s h t symbols nodes clauses goal made decoded x w room =
+simulates bytes s h t symbols nodes clauses goal made stand decoded x w room =
     let split = linesOf-split x in
     let a = unlines-length (l .whole) in
     let b = ap length (split .joined) in
@@ -217,7 +217,7 @@ simulates bytes s h t symbols nodes clauses goal made decoded x w room =
     small = decode-small bytes t symbols clauses goal ∙ ap smallSheet decoded
 
     filled : Filled c
-    filled = record { wellMade = made; good = subst Good (sym small) (good-small s (good bytes s h)) }
+    filled = record { wellMade = made; good = subst Good (sym small) (good-small s (good bytes s h)); names = stand }
 
     first : State c 0 0 w start p
     first = opened c w

@@ -10,7 +10,6 @@ use borrow.Author.Tests.{eqb-true, eqb-false}
 use Rattle.terms.proofs.Lists.{length-map}
 use Rattle.sequents.specs.Symbols.{Ground, level}
 use Rattle.sheet_format.specs.Bytes.{lf, isNameByte, isLetter, isSmall, isCapital, isDigit, folded, foldedName}
-use Rattle.sheet_format.proofs.Names.{Names}
 use Rattle.answer_texts.specs.Spelling.{spellTerm}
 use Rattle.answer_texts.specs.Spelled.{WritableTerm}
 use Rattle.text_judging.proofs.Spans.{Stops}
@@ -20,7 +19,7 @@ use Rattle.scanning.specs.Scanning.{scanTerm}
 use Rattle.scanning.proofs.Positions.{drop-past, drop-length}
 use Rattle.scanning.proofs.TermsInText.{SpelledAt, ScansTerm, scanned-line, spelled-scan}
 use Rattle.scanning.proofs.Folding.{folded-both, term-folded}
-use Rattle.line_checking.proofs.Representation.{Setting, folds, declared}
+use Rattle.line_checking.proofs.Representation.{Setting, folds, declared, Filled, names-of, names-stand}
 use Rattle.line_checking.proofs.Results.{no-more}
 
 -- The scan of the text of a setting.
@@ -34,7 +33,7 @@ pub data TermCase (c : Setting) (i e : ℕ) (m : List ℕ) : Type 0 where
   no-term : ((t : Ground) → m ≡ spellTerm t (declared c) → WritableTerm t (declared c) → ⊥)
       → ((j k : ℕ) → scanAt c i ≡ Scanned j k → eqb j e ≡ false) → TermCase c i e m
 
-module _ (c : Setting) (names : Names (declared c)) where
+module _ (c : Setting) (filled : Filled c) where
   -- A spelled term before a byte that is none of a name stands in the text.
   pub spelledAt : (i : ℕ) (t : Ground) (b : ℕ) (r : List ℕ) → drop i (folds c) ≡ spellTerm t (declared c) ++ (b ∷ r)
       → WritableTerm t (declared c) → isNameByte b ≡ false
@@ -57,14 +56,14 @@ module _ (c : Setting) (names : Names (declared c)) where
       let f = length-map folded (c .text) in
       let k = length-append (spellTerm t (declared c)) (b ∷ r) in
       sym (term-folded (c .bytes) (c .table) (c .text) (c .symbols) (length (c .text)) i)
-      ∙ spelled-scan (foldedName (c .bytes)) (c .table) (c .symbols) names (folds c) (folded-both (c .bytes) (c .text)) (length (c .text)) i t b
+      ∙ spelled-scan (foldedName (c .bytes)) (c .table) (c .symbols) (names-of c filled) (names-stand c filled) (folds c) (folded-both (c .bytes) (c .text)) (length (c .text)) i t b
       r h w (omega arith) n
 
   -- What a scan finds in a line is a term.
   pub scanned-there : (i : ℕ) (l r : List ℕ) (e k : ℕ) → drop i (folds c) ≡ l ++ (lf ∷ r) → scanAt c i ≡ Scanned e k
       → ScansTerm (declared c) (folds c) i l r e k
   scanned-there i l r e k h q =
-      scanned-line (foldedName (c .bytes)) (c .table) (c .symbols) names (folds c) (folded-both (c .bytes) (c .text)) (length (c .text)) i l r
+      scanned-line (foldedName (c .bytes)) (c .table) (c .symbols) (names-of c filled) (names-stand c filled) (folds c) (folded-both (c .bytes) (c .text)) (length (c .text)) i l r
       e k h (term-folded (c .bytes) (c .table) (c .text) (c .symbols) (length (c .text)) i ∙ q)
 
   -- The rest of a line is found to be a term or none.

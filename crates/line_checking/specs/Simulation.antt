@@ -8,6 +8,7 @@ use Rattle.sheet_format.specs.Bytes.{linesOf}
 use Rattle.sheet_format.specs.Sheets.{Sheet, sheet, readSheet}
 use Rattle.sheet_format.specs.Limits.{numbersPerUnit}
 use Rattle.node_table.specs.Decoding.{decodeSheet}
+use Rattle.node_table.specs.Fingerprints.{NamesStand}
 use Rattle.node_table.specs.WellMade.{WellMade}
 use Rattle.answer_texts.specs.Judgements.{Judgement, valid, invalid}
 use Rattle.text_judging.specs.Judging.{judge}
@@ -32,5 +33,5 @@ pub record Judges (s : Sheet) (x w : List ℕ) (a : Judged) : Type 0 where
 abbrev pub Simulates : Type 0
 Simulates =
     (bytes : List ℕ) (s : Sheet) → readSheet bytes ≡ sheet s → (t : List ℕ) (symbols nodes clauses goal : ℕ) → WellMade t nodes clauses goal
-    → decodeSheet bytes t symbols clauses goal ≡ s → (x w : List ℕ) → numbersPerUnit * lineFeeds x ≤ length w
+    → NamesStand bytes t symbols → decodeSheet bytes t symbols clauses goal ≡ s → (x w : List ℕ) → numbersPerUnit * lineFeeds x ≤ length w
     → Judges s x w (judgeText bytes t symbols clauses goal x w)
