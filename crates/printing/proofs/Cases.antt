@@ -24,7 +24,7 @@ use Rattle.machine.specs.Backchaining.{clauseOf, clauseFrame, nextClause, nextM
 use Rattle.machine.specs.Backchaining.{afterAssumption, tryMember, tryFound, tryNext}
 use Rattle.machine.specs.Machine.{dueAct, act, runActs, startMemory, startRegisters, runMachine}
 use Rattle.node_table.specs.Layout.{kindOf, childCount, labelOf, childOf, infoOf, packInfo, maskOf, goalBit, membersOf, sizeOf, bitOf}
-use Rattle.node_table.specs.Layout.{nameStart, nameLength, isFunctionBit, arityOf, clauseNode, orderNumber}
+use Rattle.node_table.specs.Layout.{nameStart, nameWord, nameLength, isFunctionBit, arityOf, clauseNode, orderNumber}
 use Rattle.printing.specs.Output.{emit, writeBytes, copyBytes, writeDigits, writeNumber, writeSymbol}
 use Rattle.printing.specs.Numbering.{withPosition, withVariables, withConstants, wrote, numberVariable, numberConstant, writeVariable}
 use Rattle.printing.specs.Numbering.{writeConstant}
@@ -51,7 +51,7 @@ unfolding field putField cellOf levelOf putCell putLevel putEntry putGoal putAss
     nodesFrom argumentWord pairsAfter nodesAfter duePairs compareClosures compareLeaves compareWords leftWord rightWord compareSides
     comparePair bindValue passNode visitVariable visitConstant visitClosure visitWord dueWord checkWord checkNode clauseOf clauseFrame
     nextClause nextMember putPrefix saveAlternative putBody putTry tried tryMember tryFound tryNext dueAct act runActs startMemory
-    startRegisters runMachine kindOf childCount labelOf childOf infoOf packInfo maskOf goalBit membersOf sizeOf bitOf nameStart nameLength
+    startRegisters runMachine kindOf childCount labelOf childOf infoOf packInfo maskOf goalBit membersOf sizeOf bitOf nameStart nameWord nameLength
     isFunctionBit arityOf clauseNode orderNumber assumptionField jumpFor putChain stepTowards findAncestor oldestFor laterOf afterSheet
     fromClause firstMember afterAssumption emit writeBytes copyBytes writeDigits writeNumber writeSymbol withPosition withVariables
     withConstants wrote numberVariable numberConstant writeVariable writeConstant emitTo writeName writeFunctor separator argumentsBy
@@ -68,7 +68,7 @@ constants = ascii "P\tp\t2\nV\t0\nV\t1\nA\t0\t0\t0\nU\t0\t2\nA\t0\t0\t1\nE\t0\t4
 -- This is the table of the sheet `constants`.
 constants-table : List ℕ
 constants-table =
-    (2 ∷ 1 ∷ 4 ∷ []) ++ (replicate 765 0
+    (2 ∷ 513 ∷ 4 ∷ []) ++ (replicate 765 0
     ++ ((0 ∷ 0 ∷ 0 ∷ 0 ∷ 0 ∷ 0 ∷ 65537 ∷ 0 ∷ 1 ∷ 0 ∷ 0 ∷ 0 ∷ 0 ∷ 65538 ∷ 34 ∷ 0 ∷ 0 ∷ 0 ∷ 0 ∷ 0 ∷ 769 ∷ 24 ∷ 0 ∷ 2 ∷ 2 ∷ 0 ∷ 1 ∷ 768 ∷ 34
     ∷ 0 ∷ 0 ∷ 1 ∷ 0 ∷ 0 ∷ 771 ∷ 23 ∷ 0 ∷ 4 ∷ 0 ∷ 0 ∷ 0 ∷ 258 ∷ 24 ∷ 1 ∷ 5 ∷ 5 ∷ 1 ∷ 1 ∷ 256 ∷ [])
     ++ (replicate 7119 0 ++ (3 ∷ []))))
@@ -92,7 +92,7 @@ variables = ascii "P\tp\t1\nF\tf\t1\nV\t0\nA\t1\t0\nA\t0\t1\nU\t0\t2\nA\t0\t0\nC
 -- This is the table of the sheet `variables`.
 variables-table : List ℕ
 variables-table =
-    (2 ∷ 1 ∷ 2 ∷ 8 ∷ 1 ∷ 3 ∷ []) ++ (replicate 762 0
+    (2 ∷ 513 ∷ 2 ∷ 8 ∷ 193 ∷ 3 ∷ []) ++ (replicate 762 0
     ++ ((0 ∷ 0 ∷ 0 ∷ 0 ∷ 0 ∷ 0 ∷ 65537 ∷ 17 ∷ 1 ∷ 0 ∷ 0 ∷ 0 ∷ 0 ∷ 131073 ∷ 18 ∷ 0 ∷ 1 ∷ 0 ∷ 0 ∷ 0 ∷ 769 ∷ 24 ∷ 0 ∷ 2 ∷ 2 ∷ 0 ∷ 1 ∷ 768
     ∷ 18 ∷ 0 ∷ 0 ∷ 0 ∷ 0 ∷ 0 ∷ 769 ∷ [])
     ++ (replicate 7133 0 ++ (3 ∷ []))))
