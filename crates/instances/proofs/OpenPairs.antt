@@ -15,7 +15,7 @@ use Rattle.node_table.specs.Layout.{kindOf, labelOf, childOf}
 use Rattle.scanning.specs.Classes.{nameElement, nodeElement, elementOf, isNameElement, elementSide, elementNode, elementChild, rootOf}
 use Rattle.scanning.specs.Classes.{separate}
 use Rattle.scanning.specs.Instances.{argumentCount, Compared, compared, joined, sameName, joinName, sameChildren, sameNodes, sameRoots}
-use Rattle.scanning.specs.Instances.{sameElements, sameAtoms}
+use Rattle.scanning.specs.Instances.{sameElements, sameByClasses}
 use Rattle.scanning.proofs.Classes.{Forest, separate-forest, forest-set, root-of}
 use Rattle.instances.specs.declared.Comparison.{Comparison}
 use Rattle.instances.specs.OpenPairs.{levelOf, settled, opening, Looked, looked, decided, compareRoots, compareElements, Elements}
@@ -268,8 +268,8 @@ module _ (b t x w : List ℕ) (f g : ℕ) where
         (of-forest separate (separate-forest Low low-self low-then)) (omega arith) (omega arith))
 
     atoms-are : sameElements (suc (depthLimit - 1)) b t x w f g separate (nodeElement 0 k) (nodeElement 1 m) .same
-        ≡ sameAtoms b t x w f g k m
-    unfolding sameAtoms
+        ≡ sameByClasses b t x w f g k m
+    unfolding sameByClasses
     atoms-are =
         let e : suc (depthLimit - 1) ≡ 2050 = (let y = limit-is in omega arith) in
         ap (λ (r : ℕ). sameElements r b t x w f g separate (nodeElement 0 k) (nodeElement 1 m) .same) e
@@ -280,11 +280,11 @@ module _ (b t x w : List ℕ) (f g : ℕ) where
     pub atoms-level : l .level % 8 ≡ 0
     atoms-level = atoms-known .level
 
-    pub atoms-settled : l .opens ≡ 0 → l .same ≡ sameAtoms b t x w f g k m
+    pub atoms-settled : l .opens ≡ 0 → l .same ≡ sameByClasses b t x w f g k m
     atoms-settled h = sym (ap (λ (o : Compared). o .same) (atoms-known .settled h)) ∙ atoms-are
 
     pub atoms-opened : (z : Bool) → (l .opens ≡ 0 → ⊥) → z ≡ sameApplications b t x w f g d (l .level / 8 / 4096) (l .level / 8 % 4096)
-        → z ≡ sameAtoms b t x w f g k m
+        → z ≡ sameByClasses b t x w f g k m
     unfolding sameApplications
     atoms-opened z h p =
         p ∙ ap (λ (o : Compared). o .same) (fresh (depthLimit - 1) (l .level) d atoms-level ∙ sym (atoms-known .opened h .1)) ∙ atoms-are

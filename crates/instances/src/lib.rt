@@ -1,8 +1,12 @@
 // Comparing instances of sheet terms without unfolding them.
+mod brief_comparisons;
 pub mod frames;
 mod instance_ranges;
 mod name_classes;
 
+use brief_comparisons::SAME;
+use brief_comparisons::UNDECIDED;
+use brief_comparisons::brief_elements;
 use instance_ranges::CHILD_LIMIT;
 use instance_ranges::argument_count;
 use memory::get;
@@ -16,13 +20,17 @@ use scanning::class_elements;
 use sheet_format::limits;
 ghost use mathlib.Core.Path.{_≡_};
 ghost use Prim.Native.Nat.{_/_, _%_};
-ghost use Rattle.scanning.specs.Instances.{sameAtoms};
+ghost use Rattle.scanning.specs.Instances.{sameByClasses};
+ghost use Rattle.scanning.specs.BriefComparisons.{sameAtoms};
 ghost use Rattle.instances.specs.OpenPairs.{levelOf, settled, looked, compareElements, sameApplications, Elements};
 
 // The most comparisons that are open at a time (specs/Instances.antt), and the first application of the second side.
 const COMPARISON_DEPTH: usize = 2050;
 
 const OTHER_SIDE: u32 = class_elements::FIRST_APPLICATION + 1;
+
+// How deep two atoms are compared without classes.
+const BRIEF_DEPTH: u32 = 3;
 
 // The number of elements, as what the first application of a level is multiplied by.
 const ELEMENTS: u32 = class_elements::COUNT as u32;
@@ -156,8 +164,8 @@ fn same_applications(
     true
 }
 
-// Whether two atoms, instances of the nodes of two atoms, are the same.
-pub fn same_atoms(
+// Whether two atoms, instances of the nodes of two atoms, are the same, found by classes.
+fn same_by_classes(
     sheet: &[u8],
     t: &[u32],
     text: &[u8],
@@ -165,8 +173,8 @@ pub fn same_atoms(
     left: Instance,
     right: Instance,
 ) -> bool
-    ensures { λ r. ⌜ r ≡ sameAtoms (now (sheet .entry)) (now (t .entry)) (now (text .entry)) (now (w .entry)) (left .frame) (right .frame)
-        (left .node) (right .node) ⌝ }
+    ensures { λ r. ⌜ r ≡ sameByClasses (now (sheet .entry)) (now (t .entry)) (now (text .entry)) (now (w .entry)) (left .frame)
+        (right .frame) (left .node) (right .node) ⌝ }
 {
     let mut c = [0u32; class_elements::COUNT];
     let atoms = Pair {
@@ -180,4 +188,29 @@ pub fn same_atoms(
         return found.same;
     }
     same_applications(sheet, t, text, w, &mut c, atoms, found.level)
+}
+
+// The same. Classes take an array of all elements, so they are used only where a brief comparison leaves it undecided.
+pub fn same_atoms(
+    sheet: &[u8],
+    t: &[u32],
+    text: &[u8],
+    w: &[u32],
+    left: Instance,
+    right: Instance,
+) -> bool
+    ensures { λ r. ⌜ r ≡ sameAtoms (now (sheet .entry)) (now (t .entry)) (now (text .entry)) (now (w .entry)) (left .frame) (right .frame)
+        (left .node) (right .node) ⌝ }
+{
+    let atoms = Pair {
+        left: left.frame,
+        right: right.frame,
+        first: 2 * (left.node % limits::MAX_NODES) + class_elements::FIRST_APPLICATION,
+        second: 2 * (right.node % limits::MAX_NODES) + OTHER_SIDE,
+    };
+    let found = brief_elements(BRIEF_DEPTH, sheet, t, text, w, atoms);
+    if found == UNDECIDED {
+        return same_by_classes(sheet, t, text, w, left, right);
+    }
+    found == SAME
 }

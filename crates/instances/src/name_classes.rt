@@ -71,20 +71,20 @@ fn side_frame(f: u32, g: u32, s: u32) -> u32
 }
 
 // Where the term of name i starts and ends, in its side's frame.
-fn start_of(w: &[u32], f: u32, g: u32, i: u32) -> usize
+pub fn start_of(w: &[u32], f: u32, g: u32, i: u32) -> usize
     ensures { λ r. ⌜ r ≡ startOf (now (w .entry)) f g i ⌝ }
 {
     widen(slot_start(w, side_frame(f, g, i % 2), i / 2 % limits::VARIABLE_NAMES))
 }
 
-fn end_of(w: &[u32], f: u32, g: u32, i: u32) -> usize
+pub fn end_of(w: &[u32], f: u32, g: u32, i: u32) -> usize
     ensures { λ r. ⌜ r ≡ endOf (now (w .entry)) f g i ⌝ }
 {
     widen(slot_end(w, side_frame(f, g, i % 2), i / 2 % limits::VARIABLE_NAMES))
 }
 
 // Whether the first element, a name, has the term of the second.
-fn same_name(sheet: &[u8], t: &[u32], text: &[u8], w: &[u32], pair: Pair) -> bool
+pub fn same_name(sheet: &[u8], t: &[u32], text: &[u8], w: &[u32], pair: Pair) -> bool
     ensures { λ r. ⌜ r ≡ sameName (now (sheet .entry)) (now (t .entry)) (now (text .entry)) (now (w .entry)) (pair .left) (pair .right)
         (pair .first) (pair .second) ⌝ }
 {

@@ -38,7 +38,8 @@ use Rattle.scanning.specs.declared.Scan.the-variants.{Term as Scanned, Malforme
 use Rattle.scanning.specs.Ranges.{scanNumber}
 use Rattle.scanning.specs.Frames.{copyRanges}
 use Rattle.scanning.proofs.InstanceSpelling.{Frame, frame-fewer}
-use Rattle.scanning.proofs.Instances.{AtomIn, same-atoms}
+use Rattle.scanning.proofs.Instances.{AtomIn}
+use Rattle.scanning.proofs.BriefComparisons.{same-atoms}
 use Rattle.scanning.proofs.Ranges.{read-decimal}
 use Rattle.scanning.proofs.Records.{Room, Kept, kept-then, kept-room, copy-kept}
 use Rattle.scanning.proofs.Frames.{frame-kept, frame-copy}

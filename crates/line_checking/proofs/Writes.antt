@@ -16,7 +16,7 @@ use Rattle.scanning.specs.Fields as fields
 use Rattle.scanning.specs.Ranges.{scanNumber}
 use Rattle.scanning.specs.Scanning.{scanSymbol, scanTerm}
 use Rattle.scanning.specs.Frames.{copyRanges}
-use Rattle.scanning.specs.Instances.{sameAtoms}
+use Rattle.scanning.specs.BriefComparisons.{sameAtoms}
 use Rattle.scanning.proofs.Records.{Kept, kept-self, kept-then, puts-kept, copy-kept, bind-kept}
 use Rattle.line_checking.specs.declared.Registers.{Registers}
 use Rattle.line_checking.specs.declared.Place.{Place}

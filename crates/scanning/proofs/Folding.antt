@@ -27,7 +27,8 @@ use Rattle.scanning.specs.Classes.{nodeElement, elementSide, elementNode
 use Rattle.scanning.specs.Instances.{sameSlots, matchRange, matchName, matchNumber, matchFunctor, matchSlot, argumentCount}
 use Rattle.scanning.specs.Instances.{argumentOf, matchMore, matchArguments, matchApplication, matchInstance, isInstance, Compared}
 use Rattle.scanning.specs.Instances.{startOf, endOf}
-use Rattle.scanning.specs.Instances.{sameName, joinName, sameChildren, sameNodes, sameRoots, sameElements, comparisonDepth, sameAtoms}
+use Rattle.scanning.specs.Instances.{sameName, joinName, sameChildren, sameNodes, sameRoots, sameElements, comparisonDepth, sameByClasses}
+use Rattle.scanning.specs.BriefComparisons.{briefName, briefChildren, briefNodes, briefElements, decidedBy, sameAtoms}
 use Rattle.scanning.specs.Numbering.{outsideName, isSymbol, noNumber, numberAt, levelAt}
 use Rattle.scanning.proofs.Ranges.{Folded, range-folded}
 use Rattle.scanning.proofs.SymbolsInText.{symbolAt, startsIn}
@@ -350,8 +351,32 @@ module _ (b t : List ℕ) where
             roots-folded (sameElements n (foldedName b) t (foldedName x) w f g) (sameElements n b t x w f g) (elements-folded n) (p .root)
             (q .root) (q .classes)
 
+        -- the brief comparison
+
+        brief-name : (i j : ℕ) → briefName (foldedName b) t (foldedName x) w f g i j ≡ briefName b t x w f g i j
+        unfolding briefName
+        brief-name i j = rw (name-folded-too i j)
+
+        brief-children : (r s : ℕ → ℕ → ℕ) → ((i j : ℕ) → r i j ≡ s i j) → (n i j k : ℕ)
+            → briefChildren r n t i j k ≡ briefChildren s n t i j k
+        unfolding briefChildren
+        brief-children r s h zero i j k = refl
+        brief-children r s h (suc n) i j k = rw (h (elementChild t i k) (elementChild t j k), brief-children r s h n i j (k + 1))
+
+        brief-elements : (n i j : ℕ) → briefElements n (foldedName b) t (foldedName x) w f g i j ≡ briefElements n b t x w f g i j
+        unfolding briefElements briefNodes
+        brief-elements zero i j = refl
+        brief-elements (suc n) i j =
+            rw (
+              brief-name i j,
+              brief-name j i,
+              brief-children (briefElements n (foldedName b) t (foldedName x) w f g) (briefElements n b t x w f g) (brief-elements n)
+                  (argumentCount t (elementNode i)) i j 0,
+            )
+
         -- Two atoms are compared alike.
         pub atoms-folded : (k m : ℕ) → sameAtoms (foldedName b) t (foldedName x) w f g k m ≡ sameAtoms b t x w f g k m
-        unfolding sameAtoms
+        unfolding sameAtoms sameByClasses
         atoms-folded k m =
-            ap (λ (o : Compared). o .same) (elements-folded comparisonDepth separate (nodeElement 0 k) (nodeElement 1 m))
+            ap₂ decidedBy (brief-elements 3 (nodeElement 0 k) (nodeElement 1 m))
+            (ap (λ (o : Compared). o .same) (elements-folded comparisonDepth separate (nodeElement 0 k) (nodeElement 1 m)))

@@ -25,7 +25,7 @@ use Rattle.text_judging.specs.Judging.{sameTerm, sameTerms}
 use Rattle.text_judging.proofs.Infer.{sameTerm-refl}
 use Rattle.scanning.specs.Classes.{isNameElement, elementSide, elementNode, elementChild, sideFrame, nodeElement, rootOf, separate}
 use Rattle.scanning.specs.Instances.{argumentCount, Compared, compared, joined, sameName, joinName, sameChildren, sameNodes}
-use Rattle.scanning.specs.Instances.{sameRoots, sameElements, sameAtoms}
+use Rattle.scanning.specs.Instances.{sameRoots, sameElements, sameByClasses}
 use Rattle.scanning.proofs.Ranges.{Folded}
 use Rattle.scanning.proofs.InstanceSpelling.{Frame, frame-fewer, formed-child, free-child, argument-count}
 use Rattle.scanning.proofs.Depth.{depth, child-depth}
@@ -139,7 +139,7 @@ module _ (b t : List ℕ) (symbols : ℕ) (names : Names (declarationsFrom b t s
     -- applications
 
     -- An application means its functor with the instances of its arguments.
-    applied : (l : ℕ) (u : Ground) → isNameElement l ≡ false → M l u
+    pub applied : (l : ℕ) (u : Ground) → isNameElement l ≡ false → M l u
         → u ≡ app (functorOf (labelOf t (elementNode l))) (substitutes (argumentsAt t (elementNode l)) (E (elementSide l)))
     unfolding substitute
     applied l u p h =
@@ -148,7 +148,7 @@ module _ (b t : List ℕ) (symbols : ℕ) (names : Names (declarationsFrom b t s
         (term-application t nodes table (elementNode l) (h .node p .below) (h .node p .is) (h .applied p))
 
     -- The children of an application mean their instances.
-    child-means : (l : ℕ) (u : Ground) → isNameElement l ≡ false → M l u → (a : ℕ) → a < childCount t (elementNode l)
+    pub child-means : (l : ℕ) (u : Ground) → isNameElement l ≡ false → M l u → (a : ℕ) → a < childCount t (elementNode l)
         → M (elementChild t l a) (substitute (termAt t (childOf t (elementNode l) a)) (E (elementSide l)))
     unfolding elementChild
     child-means l u p h a o =
@@ -329,7 +329,7 @@ module _ (b t : List ℕ) (symbols : ℕ) (names : Names (declarationsFrom b t s
     AtomOn i = AtomIn (elementNode i) (sideFrame f g (elementSide i)) (D (elementSide i))
 
     -- The children of an atom mean their instances.
-    atom-means : (i : ℕ) → AtomOn i → (a : ℕ) → a < childCount t (elementNode i)
+    pub atom-means : (i : ℕ) → AtomOn i → (a : ℕ) → a < childCount t (elementNode i)
         → Means b t symbols names x small nodes table few w f g e d (elementChild t i a)
         (substitute (termAt t (childOf t (elementNode i) a)) (D (elementSide i)))
     unfolding elementChild
@@ -366,12 +366,12 @@ module _ (b t : List ℕ) (symbols : ℕ) (names : Names (declarationsFrom b t s
             (alike-then f g e d)) .answer
         go false l = refl
 
-  -- Two atoms: the same predicate, and the same arguments.
-  pub same-atoms : (k m f g : ℕ) (e d : Environment Symbol) → AtomIn k f e → AtomIn m g d
-      → sameAtoms b t x w f g k m ≡ (eqb (labelOf t k) (labelOf t m) && sameTerms (substitutes (argumentsAt t k) e)
+  -- Two atoms: the same predicate, and the same arguments, found by classes.
+  pub same-by-classes : (k m f g : ℕ) (e d : Environment Symbol) → AtomIn k f e → AtomIn m g d
+      → sameByClasses b t x w f g k m ≡ (eqb (labelOf t k) (labelOf t m) && sameTerms (substitutes (argumentsAt t k) e)
       (substitutes (argumentsAt t m) d))
-  unfolding sameAtoms sideFrame
-  same-atoms k m f g e d h i =
+  unfolding sameByClasses sideFrame
+  same-by-classes k m f g e d h i =
       let y = h .below in
       let z = i .below in
       let p = node-number k 0 (omega arith) (omega arith) in

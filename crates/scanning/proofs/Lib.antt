@@ -11,6 +11,7 @@ pub mod Nodes
 pub mod Classes
 pub mod Elements
 pub mod Instances
+pub mod BriefComparisons
 pub mod Records
 pub mod Frames
 pub mod SymbolsInText

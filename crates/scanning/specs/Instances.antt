@@ -153,6 +153,6 @@ sameElements (suc n) b t x w f g c i j =
 abbrev pub comparisonDepth : ℕ
 comparisonDepth = 2050
 
--- The atoms at the nodes k and m, in the frames f and g, are the same.
-unfoldable pub sameAtoms : List ℕ → List ℕ → List ℕ → List ℕ → ℕ → ℕ → ℕ → ℕ → Bool
-sameAtoms b t x w f g k m = sameElements comparisonDepth b t x w f g separate (nodeElement 0 k) (nodeElement 1 m) .same
+-- The atoms at the nodes k and m, in the frames f and g, are the same, found by classes.
+unfoldable pub sameByClasses : List ℕ → List ℕ → List ℕ → List ℕ → ℕ → ℕ → ℕ → ℕ → Bool
+sameByClasses b t x w f g k m = sameElements comparisonDepth b t x w f g separate (nodeElement 0 k) (nodeElement 1 m) .same

@@ -5,4 +5,5 @@ pub mod Fields
 pub mod Frames
 pub mod Classes
 pub mod Instances
+pub mod BriefComparisons
 pub mod Numbering

@@ -27,8 +27,8 @@ pub fn name_size(sheet: &[u8], t: &[u32], k: u32) -> usize
     room
 }
 
-// Whether the name of n bytes from s on stands in the text from i to e. Names of one length mostly differ in their last letter, so it is
-// compared first; and mostly a name is spelled as declared.
+// Whether the name of n bytes from s on stands in the text from i to e. Many names are one letter, so the last one is compared first; and
+// mostly a name is spelled as declared.
 fn is_spelled(n: usize, sheet: &[u8], s: usize, text: &[u8], i: usize, e: usize) -> bool
     requires { ⌜ (e - i ≡ n) × (n < 4294967296) × (s < 4294967296) ⌝ }
     ensures { λ r. ⌜ r ≡ sameFolded n (now (text .entry)) i (now (sheet .entry)) s ⌝ }

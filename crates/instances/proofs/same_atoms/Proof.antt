@@ -1,25 +1,16 @@
-use Rattle.instances.proofs.OpenPairs.{atoms-elements, atoms-level, atoms-settled, atoms-opened}
-use Rattle.instances.proofs.same_atoms.Statement.{statement}
+use Rattle.instances.proofs.brief_comparisons.Laws.{atoms-undecided, atoms-decided}
 use borrow.Author.Needs.{needs}
+use Rattle.instances.proofs.same_atoms.Statement.{statement}
 use Rattle.instances.proofs.same_atoms.Tie as tie
 
 returns : tie.Need-returns
-returns c = atoms-settled _ _ _ _ _ _ _ _ _ _ (c .before .before .before .compare .ensures) (c .if1 .taken)
-
-same-applications-requires : tie.Need-same-applications-requires
-same-applications-requires c κs = (
-  atoms-elements _ _ _ _ _ _ _ _ _ _ (c .before .before .before .before .compare .ensures),
-  atoms-level _ _ _ _ _ _ _ _ _ _ (c .before .before .before .before .compare .ensures),
-)
+returns c = atoms-undecided _ _ _ _ _ _ _ _ _ (c .before .before .brief-elements .ensures) _ (c .before .if1 .taken) (c .same-by-classes .ensures)
 
 returns-2 : tie.Need-returns-2
-returns-2 c =
-    let at-if1 = c .before .before .before in
-    atoms-opened _ _ _ _ _ _ _ _ _ _ (at-if1 .before .before .before .compare .ensures) _ (at-if1 .if1 .left)
-    (c .before .same-applications .ensures)
+returns-2 c = atoms-decided _ _ _ _ _ _ _ _ _ (c .before .brief-elements .ensures) (c .if1 .left)
 
 pub same-atoms-spec : {M : Type 1} → statement M
 same-atoms-spec =
     tie.close
-    (tie.spec (λ c. search needs) (λ c. search needs) (λ c. search needs) (λ c. search needs) (λ c. search needs)
-    (λ c κs. search needs) returns (λ c. search needs) same-applications-requires returns-2)
+    (tie.spec (λ c. search needs) (λ c. search needs) (λ c. search needs) (λ c. search needs) (λ c κs. search needs) (λ c κs. search needs)
+    returns returns-2)

@@ -13,7 +13,7 @@ use Rattle.scanning.specs.declared.Scan.the-variants.{Term, Malformed}
 use Rattle.scanning.specs.Fields as fields
 use Rattle.scanning.specs.Ranges.{scanNumber}
 use Rattle.scanning.specs.Frames.{copyRanges}
-use Rattle.scanning.specs.Instances.{sameAtoms}
+use Rattle.scanning.specs.BriefComparisons.{sameAtoms}
 use Rattle.line_checking.specs.declared.Registers.{Registers}
 use Rattle.line_checking.specs.declared.Place.{Place}
 use Rattle.line_checking.specs.declared.Place.the-variants.{At, Nowhere}
