@@ -3,6 +3,7 @@ pub mod Lines
 pub mod Representation
 pub mod Preservation
 pub mod Results
+pub mod Counts
 pub mod FoldedLines
 pub mod FoldedSheets
 pub mod Terms

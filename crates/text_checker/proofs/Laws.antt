@@ -1,21 +1,27 @@
 -- One law for each way through a turn of the loop or through a call; the hypotheses are the facts on the code's path.
 use Prim.Native.Nat.{ℕ, zero, suc, _+_, _-_, _≤_, _<_}
 use native.Mathlib.Omega.{arith}
-use mathlib.Core.Path.{_≡_, _∙_}
+use mathlib.Core.Path.{_≡_, refl, sym, ap, _∙_, subst}
+use mathlib.Core.Bool.{Bool, true, false, cond}
 use mathlib.Core.List.{List}
-use lib.ListN.{length}
-use borrow.Author.Tests.{lt-ltb, le-ltb, eq-eqb, ne-eqb}
+use lib.Dec.{eqb, ltb}
+use lib.ListN.{length, getD, replicate, length-replicate, getD-replicate, List·getD-eq-default}
+use borrow.Author.Tests.{eqb-true, ltb-true, ltb-false, lt-ltb, le-ltb, eq-eqb, ne-eqb}
 use Rattle.scanning.specs.declared.SymbolCounts.{SymbolCounts}
 use Rattle.scanning.specs.declared.SymbolCounts.the-variants.{Counts, Misnumbered}
-use Rattle.scanning.specs.Ranges.{textLineEnd}
-use Rattle.scanning.specs.Numbering.{checkNumbering}
+use Rattle.scanning.specs.Ranges.{findByte, textLineEnd}
+use Rattle.scanning.specs.Numbering.{isSymbol, checkNumbering}
+use Rattle.numbering_check.specs.LevelCache.{CacheValid, ValidAfter}
+use Rattle.numbering_check.proofs.LevelCache.{none-valid, start-valid}
 use Rattle.line_checking.specs.declared.Registers.{Registers}
-use Rattle.line_checking.specs.Sequents.{Made, made, start, broken, withCounts, brokenStage, doneStage, resultStage, bindingStage}
+use Rattle.line_checking.specs.Sequents.{Made, made, start, broken, withStage, withCounts, brokenStage, doneStage, resultStage, bindingStage}
 use Rattle.line_checking.specs.Sequents.{sequentStage}
 use Rattle.line_checking.specs.Bindings.{checkResult, bindLine}
 use Rattle.line_checking.specs.Judging.{sequentLine, stageLine, countLine, orderLine, judgeLine, Judged, judged, endVerdict, judgeFrom}
 use Rattle.line_checking.specs.Judging.{judgeText}
 use Rattle.scanning.proofs.Ranges.{byte-least}
+use Rattle.line_checking.proofs.Counts.{stage-same}
+use Rattle.text_checker.specs.Levels.{ValidUnlessBroken}
 
 -- the stage
 
@@ -51,6 +57,17 @@ module _ (x w : List ℕ) (r : Registers) (i e : ℕ) where
     unfolding countLine
     misnumbered a h ea = rw (countLine, ← eo, h) ea
 
+  -- What is kept stays right, unless the line is wrong.
+  module _ (v : List ℕ) (s : Registers) where
+    pub counted-valid : (o : SymbolCounts) (m l : ℕ) → ValidAfter x v e o → o ≡ Counts m l → s ≡ withCounts r m l → ValidUnlessBroken x v e s
+    unfolding withCounts
+    counted-valid o m l valid h es =
+        λ b. subst (λ (z : Registers). CacheValid x v e (z .made) (z .leftover)) (sym es) (subst (ValidAfter x v e) h valid)
+
+    pub broken-valid : made w s ≡ broken w r → ValidUnlessBroken x v e s
+    unfolding broken withStage
+    broken-valid ea = λ b. absurd (b (ap (λ (z : Made). z .registers .stage) ea))
+
   pub order-broken : r .stage ≡ brokenStage → made w r ≡ orderLine x (made w r) i e
   unfolding orderLine
   order-broken h = rw (eq-eqb _ _ h)
@@ -64,6 +81,16 @@ pub line-judged : (b t : List ℕ) (symbols clauses goal : ℕ) (x w w′ : List
     → m ≡ judgeLine b t symbols clauses goal x w r q i e
 unfolding judgeLine
 line-judged b t symbols clauses goal x w w′ r s q i e m es em = rw (em, es)
+
+-- The rules of the stages leave what has shown as it is.
+pub staged-valid : (b t : List ℕ) (symbols clauses goal : ℕ) (x w w′ v : List ℕ) (r s : Registers) (q i e : ℕ)
+    → made w′ s ≡ stageLine b t symbols clauses goal x w r q i e → CacheValid x v i (r .made) (r .leftover)
+    → CacheValid x v i (s .made) (s .leftover)
+staged-valid b t symbols clauses goal x w w′ v r s q i e es valid =
+    let same = stage-same r b t symbols clauses goal x w q i e in
+    let m : s .made ≡ r .made = ap (λ (z : Made). z .registers .made) es ∙ same .same-made in
+    let l : s .leftover ≡ r .leftover = ap (λ (z : Made). z .registers .leftover) es ∙ same .same-leftover in
+    rw (m, l) valid
 
 -- the end
 
@@ -87,6 +114,26 @@ pub end-after : (x : List ℕ) (i e : ℕ) → e ≡ textLineEnd x i → i ≤ e
 unfolding textLineEnd
 end-after x i e h = omega (arith, h, byte-least (length x - i) x 10 i)
 
+-- A line that ends before the text does ends at an LF.
+byte-found : (n : ℕ) (x : List ℕ) (c i : ℕ) → findByte n x c i < i + n → getD x (findByte n x c i) 0 ≡ c
+unfolding findByte
+byte-found zero x c i h = absurd (omega arith)
+byte-found (suc n) x c i h = go (eqb (getD x i 0) c) refl (byte-found n x c (i + 1)) h
+  where
+    go : (z : Bool) → eqb (getD x i 0) c ≡ z → (findByte n x c (i + 1) < i + 1 + n → getD x (findByte n x c (i + 1)) 0 ≡ c)
+        → cond z i (findByte n x c (i + 1)) < i + suc n → getD x (cond z i (findByte n x c (i + 1))) 0 ≡ c
+    go true e ih l = eqb-true (getD x i 0) c e
+    go false e ih l = ih (omega arith)
+
+-- There no symbol begins.
+pub next-valid : (x v : List ℕ) (i e m l : ℕ) → e ≡ textLineEnd x i → i ≤ length x → e < length x → CacheValid x v e m l
+    → CacheValid x v (e + 1) m l
+unfolding textLineEnd isSymbol
+next-valid x v i e m l h k q valid = none-valid x v e m l valid (rw ended)
+  where
+    ended : getD x e 0 ≡ 10
+    ended = rw h (byte-found (length x - i) x 10 i (omega (arith, h)))
+
 -- The verdict v of the whole text is that of the lines from line q on, with turns enough for the bytes left.
 pub record Rest (v : Judged) (b t : List ℕ) (symbols clauses goal : ℕ) (x w : List ℕ) (r : Registers) (q i : ℕ) : Type 0 where
   pub turns : ℕ
@@ -97,6 +144,24 @@ pub text-start : (b t : List ℕ) (symbols clauses goal : ℕ) (x w : List ℕ) 
     → Rest (judgeText b t symbols clauses goal x w) b t symbols clauses goal x w r 0 0
 unfolding judgeText
 text-start b t symbols clauses goal x w r h = record { turns = length x + 1; enough = omega arith; same = rw h }
+
+-- Before the first line nothing is kept.
+zero-entry : (n a : ℕ) → getD {A = ℕ} (replicate n 0) a 0 ≡ 0
+zero-entry n a = go (ltb a n) refl
+  where
+    zeros : List ℕ
+    zeros = replicate n 0
+
+    go : (b : Bool) → ltb a n ≡ b → getD zeros a 0 ≡ 0
+    go true e = getD-replicate {A = ℕ} n a 0 0 (ltb-true a n e)
+    go false e =
+        let l = ltb-false a n e in
+        let h : length zeros ≤ a = omega (arith, length-replicate {A = ℕ} n 0) in
+        List·getD-eq-default zeros 0 h
+
+pub text-valid : (n : ℕ) (x : List ℕ) (r : Registers) → r ≡ start → CacheValid x (replicate n 0) 0 (r .made) (r .leftover)
+unfolding start
+text-valid n x r h = rw h (start-valid x (replicate n 0) (zero-entry n))
 
 -- Turns are left while lines are.
 module _ (v : Judged) (b t : List ℕ) (symbols clauses goal : ℕ) (x w : List ℕ) (r : Registers) (q i e : ℕ) (hi : i ≤ length x)

@@ -20,7 +20,14 @@ ghost use mathlib.Core.List.{List};
 ghost use Prim.Native.Nat.{ℕ, _+_, _<_, _≤_};
 ghost use lib.ListN.{length};
 ghost use Rattle.line_checking.specs.Sequents.{made};
-ghost use Rattle.line_checking.specs.Judging.{stageLine, countLine, orderLine, judgeLine, judged, endVerdict, judgeText};
+ghost use Rattle.line_checking.specs.Judging.{stageLine, countLine, orderLine, judged, endVerdict, judgeText};
+ghost use Rattle.numbering_check.specs.LevelCache.{CacheValid};
+ghost use Rattle.text_checker.specs.Levels.{ValidUnlessBroken};
+
+// How many numbers a text of 65,535 bytes can show, of both kinds together. A showing takes `!` or `_`, the number, `@`, the level and a
+// delimiter: 13,780 bytes for the 2,000 numbers of at most three digits, then 8 bytes for each. A level for which there is no room would
+// be looked for in the text.
+const SHOWN_NUMBERS: usize = 8472;
 
 // A line, by the stage; where no line is due it is a surplus one.
 pub fn stage_line(
@@ -50,44 +57,30 @@ pub fn stage_line(
     broken(r)
 }
 
-// The symbols in the line are numbered by first showing.
-pub fn count_line(text: &[u8], r: Registers, line: Line) -> Registers
-    ensures { λ s. ⌜ ((w : List ℕ) → made w s ≡ countLine (now (text .entry)) (made w r) (line .at) (line .end)) ⌝ }
+// The symbols in the line are numbered by first showing. The levels of first showings before the line are kept, and then those in it
+// too.
+pub fn count_line(text: &[u8], levels: &mut [u16], r: Registers, line: Line) -> Registers
+    requires { ⌜ CacheValid (now text) (now levels) (line .at) (r .made) (r .leftover) ⌝ }
+    ensures { λ s. ⌜ ((w : List ℕ) → made w s ≡ countLine (now (text .entry)) (made w r) (line .at) (line .end))
+        × ValidUnlessBroken (now (text .entry)) (now (levels .exit)) (line .end) s ⌝ }
 {
-    match check_numbering(text, line.at, line.end, r.made, r.leftover) {
+    match check_numbering(text, levels, line.at, line.end, r.made, r.leftover) {
         SymbolCounts::Counts(m, l) => with_counts(r, m, l),
         SymbolCounts::Misnumbered => broken(r),
     }
 }
 
 // Unless the line has broken already.
-pub fn order_line(text: &[u8], r: Registers, line: Line) -> Registers
-    ensures { λ s. ⌜ ((w : List ℕ) → made w s ≡ orderLine (now (text .entry)) (made w r) (line .at) (line .end)) ⌝ }
+pub fn order_line(text: &[u8], levels: &mut [u16], r: Registers, line: Line) -> Registers
+    requires { ⌜ CacheValid (now text) (now levels) (line .at) (r .made) (r .leftover) ⌝ }
+    ensures { λ s. ⌜ ((w : List ℕ) → made w s ≡ orderLine (now (text .entry)) (made w r) (line .at) (line .end))
+        × ValidUnlessBroken (now (text .entry)) (now (levels .exit)) (line .end) s ⌝ }
 {
     let stage = r.stage;
     if stage == text_stages::BROKEN {
         return r;
     }
-    count_line(text, r, line)
-}
-
-// A line: at its stage, then its numbering.
-pub fn judge_line(
-    sheet: &[u8],
-    t: &[u32],
-    shape: Shape,
-    text: &[u8],
-    w: &mut [u32],
-    r: Registers,
-    line: Line,
-) -> Registers
-    requires { ⌜ (length (now text) ≤ 65535) × (line .number + 1 < 4294967296) × (line .at + 7 < 4294967296)
-        × (line .end < 4294967296) ⌝ }
-    ensures { λ s. ⌜ made (now (w .exit)) s ≡ judgeLine (now (sheet .entry)) (now (t .entry)) (shape .symbols) (shape .clauses)
-        (shape .goal) (now (text .entry)) (now (w .entry)) r (line .number) (line .at) (line .end) ⌝ }
-{
-    let s = stage_line(sheet, t, shape, text, w, r, line);
-    order_line(text, s, line)
+    count_line(text, levels, r, line)
 }
 
 // No LF from i on: right if no byte is left and no line is due.
@@ -104,12 +97,14 @@ pub fn end_verdict(text: &[u8], r: Registers, q: u32, i: usize) -> u32
     q + 1
 }
 
-// The verdict on the whole text: 0 for valid, or the number of the line that breaks, counted from 1.
+// The verdict on the whole text: 0 for valid, or the number of the line that breaks, counted from 1. Each line is judged at its stage,
+// then by its numbering.
 pub fn judge_text(sheet: &[u8], t: &[u32], shape: Shape, text: &[u8], w: &mut [u32]) -> u32
     requires { ⌜ length (now text) ≤ 65535 ⌝ }
     ensures { λ v. ⌜ judged (now (w .exit)) v ≡ judgeText (now (sheet .entry)) (now (t .entry)) (shape .symbols) (shape .clauses)
         (shape .goal) (now (text .entry)) (now (w .entry)) ⌝ }
 {
+    let mut levels = [0u16; SHOWN_NUMBERS];
     let mut r = start();
     let mut q: u32 = 0;
     let mut i: usize = 0;
@@ -120,7 +115,8 @@ pub fn judge_text(sheet: &[u8], t: &[u32], shape: Shape, text: &[u8], w: &mut [u
             at: i,
             end: e,
         };
-        r = judge_line(sheet, t, shape, text, w, r, line);
+        let s = stage_line(sheet, t, shape, text, w, r, line);
+        r = order_line(text, &mut levels, s, line);
         let stage = r.stage;
         if stage == text_stages::BROKEN {
             return q + 1;

@@ -1,0 +1,3 @@
+-- What the code keeps besides the definitions of the crate scanning: levels of first showings.
+pub mod LevelCache
+pub mod Sigils
