@@ -1,5 +1,6 @@
 // The clause at a place of a sequent: a hypothesis or a clause of the sheet, in the order in force (request W-207).
 // Each function is a definition of the crate line_checking, and its contract says so.
+use super::hypothesis_chains::step_before;
 use line_checking::Place;
 use memory::field;
 use node_table::clause_node;
@@ -28,7 +29,8 @@ pub fn clause_from(clauses: u32, t: &[u32], k: u32) -> Place
     Place::Nowhere
 }
 
-// Member k counted from the hypothesis h on, of at most n hypotheses, then the sheet's clauses: the order of `O latest`.
+// Member k counted from the hypothesis h on, of at most n hypotheses, then the sheet's clauses: the order of `O latest`. Where k passes
+// all members up to a jump's target, the walk goes on there.
 pub fn hypothesis_from(n: u32, t: &[u32], clauses: u32, w: &[u32], h: u32, k: u32) -> Place
     ensures { λ r. ⌜ r ≡ hypothesisFrom n (now (t .entry)) clauses (now (w .entry)) h k ⌝ }
 {
@@ -45,14 +47,20 @@ pub fn hypothesis_from(n: u32, t: &[u32], clauses: u32, w: &[u32], h: u32, k: u3
         if left < count {
             return Place::At(node, field(w, q, fields::HYPOTHESIS_FRAME), left);
         }
-        next = field(w, q, fields::HYPOTHESIS_NEXT);
-        left -= count;
         turns -= 1;
+        let passed = field(w, q, fields::HYPOTHESIS_PASSED);
+        if left < passed {
+            next = field(w, q, fields::HYPOTHESIS_NEXT);
+            left -= count;
+            continue;
+        }
+        next = field(w, q, fields::HYPOTHESIS_JUMP);
+        left -= passed;
     }
     clause_from(clauses, t, left)
 }
 
-// Member k in the default order (request W-207): the hypotheses from h on, at most n, are passed until one starts at k or before.
+// Member k in the default order (request W-207): the walk goes from the hypothesis h, in at most n steps, until one starts at k or before.
 pub fn oldest_from(n: u32, t: &[u32], clauses: u32, w: &[u32], h: u32, k: u32) -> Place
     ensures { λ r. ⌜ r ≡ oldestFrom n (now (t .entry)) clauses (now (w .entry)) h k ⌝ }
 {
@@ -72,7 +80,7 @@ pub fn oldest_from(n: u32, t: &[u32], clauses: u32, w: &[u32], h: u32, k: u32) -
             }
             return Place::Nowhere;
         }
-        next = field(w, q, fields::HYPOTHESIS_NEXT);
+        next = step_before(w, next, k);
         turns -= 1;
     }
     clause_from(clauses, t, k)

@@ -7,7 +7,8 @@ use node_table::members;
 use scanning::fields;
 use sheet_format::limits;
 ghost use mathlib.Core.Path.{_≡_};
-ghost use Rattle.line_checking.specs.Members.{sheetMembers, saturate, startAfter};
+ghost use Rattle.line_checking.specs.HypothesisChains.{saturate};
+ghost use Rattle.line_checking.specs.Members.{sheetMembers, startAfter};
 
 const LAST: usize = limits::MAX_NUMBER as usize;
 
@@ -25,7 +26,7 @@ pub fn sheet_members(clauses: u32, t: &[u32]) -> usize
     total
 }
 
-// A start is counted up to 65,535 only: no line can name a place past it.
+// Members are counted up to 65,535 only: no line can name a place past it.
 pub fn saturate(n: usize) -> u32
     ensures { λ r. ⌜ r ≡ saturate n ⌝ }
 {

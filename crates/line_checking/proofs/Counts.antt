@@ -7,7 +7,7 @@ use lib.Dec.{eqb, ltb, leb}
 use lib.ListN.{length}
 use Rattle.sheet_format.specs.Bytes.{ascii}
 use Rattle.sheet_format.specs.Limits.{maxBudget}
-use Rattle.node_table.specs.Layout.{maskOf, kindOf, labelOf, childOf, trueKind, atomKind, impliesKind, orKind, andKind, existsKind}
+use Rattle.node_table.specs.Layout.{membersOf, maskOf, kindOf, labelOf, childOf, trueKind, atomKind, impliesKind, orKind, andKind, existsKind}
 use Rattle.clause_members.specs.Members.{member, headOf}
 use Rattle.scanning.specs.declared.Number.{Number}
 use Rattle.scanning.specs.declared.Number.the-variants.{Value, Missing}
@@ -23,6 +23,7 @@ use Rattle.line_checking.specs.declared.Place.{Place}
 use Rattle.line_checking.specs.declared.Place.the-variants.{At, Nowhere}
 use Rattle.line_checking.specs.Sequents.{Made, made, broken, withStage, withBinding, withSequent, freeFrom, boundFrom, bound, putSequent}
 use Rattle.line_checking.specs.Sequents.{openSequent, nextSequent, putHypothesis, resultStage, bindingStage, sequentStage}
+use Rattle.line_checking.specs.HypothesisChains.{linksAfter, putLinks}
 use Rattle.line_checking.specs.Members.{startAfter, placeFrom}
 use Rattle.line_checking.specs.Bindings.{beginsWith, isLine, checkResultWith, checkUnits, checkResult, bindWith, bindTerm, bindsVariable}
 use Rattle.line_checking.specs.Bindings.{bindLine}
@@ -156,7 +157,8 @@ module _ (r : Registers) where
       (either (eqb (kindOf t (r .node)) orKind) _ _ (either (isLine (ascii "D\tleft") x i e) _ _ (child-same t w 0)
       (either (isLine (ascii "D\tright") x i e) _ _ (child-same t w 1) (stops w)))
       (either (eqb (kindOf t (r .node)) impliesKind) _ _ (either (isLine (ascii "D\tassume") x i e) _ _ (due
-      (putHypothesis w q (childOf t (r .node) 0) (r .frame) (r .hypotheses) (startAfter t clauses w (r .hypotheses)))
+      (putLinks (putHypothesis w q (childOf t (r .node) 0) (r .frame) (r .hypotheses) (startAfter t clauses w (r .hypotheses))) q
+      (linksAfter w (r .hypotheses) (membersOf t (childOf t (r .node) 0))))
       (childOf t (r .node) 1) (r .frame) (q + 1) (r .level) (r .rest)) (stops w))
       (either (eqb (kindOf t (r .node)) existsKind) _ _ (some-same b t symbols x w q i e) (all-same t x w q i e))))
 

@@ -1,6 +1,7 @@
 -- Laws of the checker's work on flat memory.
 pub mod Lines
 pub mod Representation
+pub mod HypothesisChains
 pub mod Preservation
 pub mod Results
 pub mod Counts

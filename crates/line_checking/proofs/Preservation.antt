@@ -1,7 +1,7 @@
 -- What records below k hold stays when a record from k on is written, and is still below a larger k.
-use Prim.Native.Nat.{ℕ, suc, _<_, _≤_}
+use Prim.Native.Nat.{ℕ, zero, suc, _<_, _≤_}
 use native.Mathlib.Omega.{arith}
-use mathlib.Core.Path.{_≡_, sym, ap, _∙_, subst}
+use mathlib.Core.Path.{_≡_, refl, sym, ap, _∙_, subst}
 use mathlib.Core.List.{List, [], _∷_}
 use lib.ListN.{length}
 use Rattle.formulas.specs.Formulas.{freeC}
@@ -15,7 +15,11 @@ use Rattle.scanning.specs.Fields as fields
 use Rattle.scanning.proofs.InstanceSpelling.{Frame}
 use Rattle.scanning.proofs.Records.{Kept}
 use Rattle.scanning.proofs.Frames.{frame-kept}
-use Rattle.line_checking.proofs.Representation.{Setting, folds, declared, HypothesisAt, HypothesesAt, ProgramAt, SequentAt, SequentsAt}
+use Rattle.line_checking.specs.declared.Links.{Links}
+use Rattle.line_checking.specs.HypothesisChains.{hypothesisField, nextOf}
+use Rattle.line_checking.proofs.Representation.{Setting, folds, declared, climb, JumpAt, HypothesisAt, HypothesesAt, ProgramAt}
+use Rattle.line_checking.proofs.Representation.{SequentAt, SequentsAt}
+use Rattle.line_checking.proofs.HypothesisChains.{hypothesis-field, Linked}
 use Rattle.memory.specs.Records.{field}
 
 module _ (c : Setting) (q : ℕ) (w w′ : List ℕ) (kept : Kept q w w′) where
@@ -46,6 +50,48 @@ module _ (c : Setting) (q : ℕ) (w w′ : List ℕ) (kept : Kept q w w′) wher
             (freeC (clauseAtNode (c .table) (field w r fields.hypothesisNode))) kept (λ e. omega arith) (h .frame)));
       }
 
+  -- The fields of hypotheses below record q stay.
+  hypothesis-same : (h f : ℕ) → h ≤ q → f < numbersPerUnit → hypothesisField w′ h f ≡ hypothesisField w h f
+  unfolding hypothesisField
+  hypothesis-same zero f l b = refl
+  hypothesis-same (suc r) f l b = hypothesis-field w′ r f ∙ same r f (omega arith) b ∙ sym (hypothesis-field w r f)
+
+  -- Steps along hypotheses below record q lead where they led.
+  pub climb-keep : (s k h : ℕ) (l : List (Hypothesis Symbol)) → k ≤ q → s ≤ length l → HypothesesAt c k w h l → climb s w′ h ≡ climb s w h
+  unfolding climb HypothesesAt
+  climb-keep zero k h l u i p = refl
+  climb-keep (suc s) k h [] u i p = absurd (omega arith)
+  climb-keep (suc s) k h (a ∷ l) u i p =
+      let r = p .0 in
+      let b = p .2 .below in
+      let e : h ≡ suc r = p .1 in
+      let n : nextOf w h ≡ field w r fields.hypothesisNext =
+      ap (λ (z : ℕ). nextOf w z) e ∙ hypothesis-field w r fields.hypothesisNext in
+      ap (climb s w′) (hypothesis-same h fields.hypothesisNext (omega arith) (omega arith) ∙ n)
+      ∙ climb-keep s r (field w r fields.hypothesisNext) l (omega arith) (omega arith) (p .3) ∙ ap (climb s w) (sym n)
+
+  -- So do their jumps.
+  jump-keep : (k h : ℕ) (l : List (Hypothesis Symbol)) → h ≤ q → k ≤ q → HypothesesAt c k w h l → JumpAt w h l → JumpAt w′ h l
+  jump-keep k h l i u p j =
+      record {
+        steps = j .steps;
+        least = j .least;
+        most = j .most;
+        there = hypothesis-same h fields.hypothesisJump i (omega arith) ∙ j .there ∙ sym (climb-keep (j .steps) k h l u (j .most) p);
+        passed = hypothesis-same h fields.hypothesisPassed i (omega arith) ∙ j .passed;
+      }
+
+  -- So are the links of one that is made after them.
+  pub linked-keep : (k h m : ℕ) (l : List (Hypothesis Symbol)) (L : Links) → k ≤ q → HypothesesAt c k w h l → Linked c w h m l L
+      → Linked c w′ h m l L
+  linked-keep k h m l L u p j =
+      record {
+        steps = j .steps;
+        most = j .most;
+        there = j .there ∙ sym (climb-keep (j .steps) k h l u (j .most) p);
+        passed = j .passed;
+      }
+
   -- Hypotheses below record q are kept when record q is written.
   pub hypotheses-keep : (k h : ℕ) (l : List (Hypothesis Symbol)) → k ≤ q → HypothesesAt c k w h l → HypothesesAt c k w′ h l
   unfolding HypothesesAt
@@ -59,6 +105,7 @@ module _ (c : Setting) (q : ℕ) (w w′ : List ℕ) (kept : Kept q w w′) wher
         subst (λ (z : ℕ). HypothesesAt c r w′ z l) (sym (same r 23 (omega arith) (omega arith)))
             (hypotheses-keep r (field w r fields.hypothesisNext) l (omega arith) (p .3)),
         same r 24 (omega arith) (omega arith) ∙ p .4,
+        let e = p .1 in jump-keep k h (a ∷ l) (omega arith) u p (p .5),
       )
 
   -- A program below record q is kept when record q is written.
@@ -123,7 +170,7 @@ module _ (c : Setting) (w : List ℕ) where
   hypotheses-up : (k k′ h : ℕ) (l : List (Hypothesis Symbol)) → k ≤ k′ → HypothesesAt c k w h l → HypothesesAt c k′ w h l
   unfolding HypothesesAt
   hypotheses-up k k′ h [] u p = p
-  hypotheses-up k k′ h (a ∷ l) u p = (p .0, p .1, hypothesis-up k k′ (p .0) a u (p .2), p .3, p .4)
+  hypotheses-up k k′ h (a ∷ l) u p = (p .0, p .1, hypothesis-up k k′ (p .0) a u (p .2), p .3, p .4, p .5)
 
   -- A program below k is below every larger number.
   pub program-up : (k k′ h : ℕ) (P : Program Symbol) → k ≤ k′ → ProgramAt c k w h P → ProgramAt c k′ w h P

@@ -4,10 +4,10 @@ use native.Mathlib.Omega.{arith}
 use native.Mathlib.Numerals.{add-one}
 use mathlib.Core.Path.{_≡_, refl, sym, ap, _∙_, subst}
 use mathlib.Core.Bool.{Bool, true, false, cond}
-use mathlib.Core.List.{List, [], _∷_, _++_, map, append-nil}
+use mathlib.Core.List.{List, [], _∷_, _++_, map, append-nil, append-assoc}
 use mathlib.Core.Option.{none, Option·map}
 use lib.Dec.{eqb, ltb}
-use lib.ListN.{length, getElem?}
+use lib.ListN.{length, take, drop, getElem?, length-append, length-drop}
 use borrow.Author.Tests.{ltb-true, ltb-false, ne-eqb}
 use Rattle.terms.specs.Lists.{All}
 use Rattle.formulas.specs.Formulas.{Clause, freeC}
@@ -26,9 +26,11 @@ use Rattle.scanning.specs.Fields as fields
 use Rattle.scanning.proofs.InstanceSpelling.{Frame}
 use Rattle.line_checking.specs.declared.Place.{Place}
 use Rattle.line_checking.specs.declared.Place.the-variants.{At, Nowhere}
-use Rattle.line_checking.specs.Members.{clauseFrom, hypothesisFrom, saturate, oldestFrom, placeFrom}
+use Rattle.line_checking.specs.HypothesisChains.{saturate, hypothesisField, nextOf, startOf, jumpOf, passedOf, stepBefore}
+use Rattle.line_checking.specs.Members.{clauseFrom, hypothesisFrom, oldestFrom, placeFrom}
 use Rattle.line_checking.proofs.Representation.{Setting, folds, declared, sheetOf, sheetClauses, joinedAll, Filled, HypothesesAt}
-use Rattle.line_checking.proofs.Representation.{ProgramAt}
+use Rattle.line_checking.proofs.Representation.{climb, JumpAt, ProgramAt}
+use Rattle.line_checking.proofs.HypothesisChains.{hypothesis-field, climb-at}
 use Rattle.line_checking.proofs.Preservation.{hypotheses-short}
 use Rattle.line_checking.proofs.Starts.{many, before-is}
 use Rattle.memory.specs.Records.{field}
@@ -140,21 +142,41 @@ module _ (c : Setting) (filled : Filled c) (q : ℕ) (w : List ℕ) (some-line :
   unfolding sheetOf decodeSheet
   sheet-from k e = clause-from (c .clauses) 0 k e (omega arith) (filled .good .clausesFormed) (filled .good .clausesClosed)
 
+  -- A step of the walk in the default order (request W-207), from the hypothesis in record r.
+  oldest-step : (n h r k : ℕ) → h ≡ suc r
+      → oldestFrom (suc n) (c .table) (c .clauses) w h k ≡ cond (ltb k (field w r fields.hypothesisStart))
+      (oldestFrom n (c .table) (c .clauses) w (stepBefore w h k) k)
+      (cond (ltb (k - field w r fields.hypothesisStart) (membersOf (c .table) (field w r fields.hypothesisNode)))
+      (At (field w r fields.hypothesisNode) (field w r fields.hypothesisFrame) (k - field w r fields.hypothesisStart)) Nowhere)
+  unfolding oldestFrom
+  oldest-step n h r k e =
+      let z : h - 1 ≡ r = omega arith in
+      rw (ne-eqb h 0 (λ y. omega arith), z)
+
+  -- With `O latest` the entries are those of the first hypotheses, then those of the others and of the sheet's clauses.
+  latest-parts : (s : ℕ) (l P : List (Hypothesis Symbol)) → s ≤ length l
+      → entriesOf (joinedAll latest l P) ≡ entriesOf (take s l) ++ entriesOf (joinedAll latest (drop s l) P)
+  unfolding joinedAll joined entriesOf
+  latest-parts zero l P u = refl
+  latest-parts (suc s) [] P u = absurd (omega arith)
+  latest-parts (suc s) (a ∷ l) P u =
+      let M = map (entry (a .environment)) (members (a .clause)) in
+      ap (M ++_) (latest-parts s l P (omega arith)) ∙ sym (append-assoc M (entriesOf (take s l)) (entriesOf (joinedAll latest (drop s l) P)))
+
   -- `hypothesisFrom` finds the entry in the hypotheses, the latest first, then the sheet's clauses.
-  hypothesis-from : (l : List (Hypothesis Symbol)) (n j h k : ℕ) (e : Environment Symbol) → j ≤ q → length l ≤ n → HypothesesAt c j w h l
+  hypothesis-from : (n : ℕ) (l : List (Hypothesis Symbol)) (j h k : ℕ) (e : Environment Symbol) → k < maxNumber → j ≤ q → length l ≤ n
+      → HypothesesAt c j w h l
       → PlaceIs c q w (joinedAll latest l (sheetClauses c e)) k (hypothesisFrom n (c .table) (c .clauses) w h k)
-  unfolding hypothesisFrom HypothesesAt joinedAll joined
-  hypothesis-from [] zero j h k e u o p = sheet-from k e
-  hypothesis-from [] (suc n) j h k e u o p = rw p (sheet-from k e)
-  hypothesis-from (a ∷ l) zero j h k e u o p = absurd (omega arith)
-  hypothesis-from (a ∷ l) (suc n) j h k e u o p =
-      let x = p .1 in
-      let b = p .2 .below in
+  unfolding hypothesisFrom HypothesesAt joinedAll joined saturate
+  hypothesis-from zero [] j h k e small u o p = sheet-from k e
+  hypothesis-from (suc n) [] j h k e small u o p = rw p (sheet-from k e)
+  hypothesis-from zero (a ∷ l) j h k e small u o p = absurd (omega arith)
+  hypothesis-from (suc n) (a ∷ l) j h k e small u o p =
       let z : suc (p .0) - 1 ≡ p .0 = omega arith in
-      rw (x, ne-eqb (suc (p .0)) 0 (λ y. omega arith), z)
+      rw (p .1, ne-eqb (suc (p .0)) 0 (λ y. omega arith), z)
       (go (ltb k (membersOf (c .table) (field w (p .0) fields.hypothesisNode))) refl
-      (hypothesis-from l n (p .0) (field w (p .0) fields.hypothesisNext)
-      (k - membersOf (c .table) (field w (p .0) fields.hypothesisNode)) e (omega arith) (omega arith) (p .3)))
+      (ltb k (field w (p .0) fields.hypothesisPassed)) refl
+      (λ l′ j′ h′ k′ s′ u′ o′ p′. hypothesis-from n l′ j′ h′ k′ e s′ u′ o′ p′))
     where
       r : ℕ
       r = p .0
@@ -162,39 +184,104 @@ module _ (c : Setting) (filled : Filled c) (q : ℕ) (w : List ℕ) (some-line :
       m : ℕ
       m = field w (p .0) fields.hypothesisNode
 
-      go : (b : Bool) → ltb k (membersOf (c .table) m) ≡ b
-          → PlaceIs c q w (joinedAll latest l (sheetClauses c e)) (k - membersOf (c .table) m)
-          (hypothesisFrom n (c .table) (c .clauses) w (field w r fields.hypothesisNext) (k - membersOf (c .table) m))
-          → PlaceIs c q w (a ∷ joinedAll latest l (sheetClauses c e)) k
+      v : ℕ
+      v = field w (p .0) fields.hypothesisPassed
+
+      S : List (Hypothesis Symbol)
+      S = sheetClauses c e
+
+      J : JumpAt w h (a ∷ l)
+      J = p .5
+
+      -- What the jump leads to.
+      on : (i : ℕ) × (i ≤ j) × HypothesesAt c i w (climb (J .steps) w h) (drop (J .steps) (a ∷ l))
+      on = climb-at c w (J .steps) j h (a ∷ l) (J .most) p
+
+      jumps : field w r fields.hypothesisJump ≡ climb (J .steps) w h
+      jumps = sym (hypothesis-field w r fields.hypothesisJump) ∙ ap (λ (y : ℕ). jumpOf w y) (sym (p .1)) ∙ J .there
+
+      passes : v ≡ saturate (length (entriesOf (take (J .steps) (a ∷ l))))
+      passes = sym (hypothesis-field w r fields.hypothesisPassed) ∙ ap (λ (y : ℕ). passedOf w y) (sym (p .1)) ∙ J .passed
+
+      Found : Type 0
+      Found =
+          (l′ : List (Hypothesis Symbol)) (j′ h′ k′ : ℕ) → k′ < maxNumber → j′ ≤ q → length l′ ≤ n → HypothesesAt c j′ w h′ l′
+          → PlaceIs c q w (joinedAll latest l′ S) k′ (hypothesisFrom n (c .table) (c .clauses) w h′ k′)
+
+      go : (b : Bool) → ltb k (membersOf (c .table) m) ≡ b → (d : Bool) → ltb k v ≡ d → Found
+          → PlaceIs c q w (a ∷ joinedAll latest l S) k
           (cond b (At m (field w r fields.hypothesisFrame) k)
-          (hypothesisFrom n (c .table) (c .clauses) w (field w r fields.hypothesisNext) (k - membersOf (c .table) m)))
-      go true y ih =
+          (cond d (hypothesisFrom n (c .table) (c .clauses) w (field w r fields.hypothesisNext) (k - membersOf (c .table) m))
+          (hypothesisFrom n (c .table) (c .clauses) w (field w r fields.hypothesisJump) (k - v))))
+      go true y d x ih =
           let s = p .2 in
-          let v = s .older in
-          in-first a (joinedAll latest l (sheetClauses c e)) m (field w r fields.hypothesisFrame) k (s .node) (s .is) (s .clause)
-          (s .formed) (omega arith) (s .frame) (ltb-true k (membersOf (c .table) m) y)
-      go false y ih =
+          let b = s .below in
+          let f = s .older in
+          in-first a (joinedAll latest l S) m (field w r fields.hypothesisFrame) k (s .node) (s .is) (s .clause) (s .formed) (omega arith)
+          (s .frame) (ltb-true k (membersOf (c .table) m) y)
+      go false y true x ih =
           let s = p .2 in
-          in-others a (joinedAll latest l (sheetClauses c e)) m k
+          let b = s .below in
+          in-others a (joinedAll latest l S) m k
           (hypothesisFrom n (c .table) (c .clauses) w (field w r fields.hypothesisNext) (k - membersOf (c .table) m)) (s .node) (s .is)
-          (s .clause)
-          (ltb-false k (membersOf (c .table) m) y) ih
+          (s .clause) (ltb-false k (membersOf (c .table) m) y)
+          (ih l r (field w r fields.hypothesisNext) (k - membersOf (c .table) m) (omega arith) (omega arith) (omega arith) (p .3))
+      go false y false x ih =
+          let far = ltb-false k v x in
+          let e₁ = passes in
+          let least = J .least (omega arith) in
+          let short = length-drop (J .steps) (a ∷ l) in
+          let below = on .1 in
+          let X = entriesOf (take (J .steps) (a ∷ l)) in
+          let exact : v ≡ length X = omega arith in
+          let Q = joinedAll latest (drop (J .steps) (a ∷ l)) S in
+          rw jumps (place-same (a ∷ joinedAll latest l S) Q k (k - v)
+          (hypothesisFrom n (c .table) (c .clauses) w (climb (J .steps) w h) (k - v))
+          (ap (λ (y : List (Entry Symbol)). getElem? y k) (latest-parts (J .steps) (a ∷ l) S (J .most))
+          ∙ at-right X (entriesOf Q) k (omega arith) ∙ ap (λ (y : ℕ). getElem? (entriesOf Q) (k - y)) (sym exact))
+          (ih (drop (J .steps) (a ∷ l)) (on .0) (climb (J .steps) w h) (k - v) (omega arith) (omega arith) (omega arith) (on .2)))
+
+  -- In the default order the members of older hypotheses come first: with later ones after them they stand at the same places.
+  older-first : (s : ℕ) (l P : List (Hypothesis Symbol)) (k : ℕ) → s ≤ length l → k < length (entriesOf (joinedAll oldest (drop s l) P))
+      → (getElem? (entriesOf (joinedAll oldest l P)) k ≡ getElem? (entriesOf (joinedAll oldest (drop s l) P)) k)
+      × (k < length (entriesOf (joinedAll oldest l P)))
+  unfolding joinedAll joined
+  older-first zero l P k u h = (refl, h)
+  older-first (suc s) [] P k u h = absurd (omega arith)
+  older-first (suc s) (a ∷ l) P k u h =
+      let i = older-first s l P k (omega arith) h in
+      let Q = joinedAll oldest l P in
+      let parts = entries-append Q (a ∷ []) in
+      let many = ap length parts ∙ length-append (entriesOf Q) (entriesOf (a ∷ [])) in
+      let b = i .1 in (
+        ap (λ (y : List (Entry Symbol)). getElem? y k) parts ∙ at-left (entriesOf Q) (entriesOf (a ∷ [])) k b ∙ i .0,
+        omega arith,
+      )
+
+  -- A place before the start of a hypothesis is among the members of those before it.
+  before-start : (l : List (Hypothesis Symbol)) (j h k : ℕ) (e : Environment Symbol) → HypothesesAt c j w h l → k < startOf w h
+      → k < length (entriesOf (joinedAll oldest l (sheetClauses c e)))
+  unfolding HypothesesAt hypothesisField saturate
+  before-start [] j h k e p b = let z = ap (λ (y : ℕ). startOf w y) p in absurd (omega arith)
+  before-start (a ∷ l) j h k e p b =
+      let s : startOf w h ≡ field w (p .0) fields.hypothesisStart =
+      ap (λ (y : ℕ). startOf w y) (p .1) ∙ hypothesis-field w (p .0) fields.hypothesisStart in
+      let d = p .4 in
+      let i = before-is c filled (a ∷ l) e in
+      let m = ap length (entries-append (a ∷ []) l) ∙ length-append (entriesOf (a ∷ [])) (entriesOf l) in
+      omega arith
 
   -- `oldestFrom` finds the entry in the sheet's clauses, then the hypotheses, oldest first (request W-207).
-  oldest-from : (l : List (Hypothesis Symbol)) (n j h k : ℕ) (e : Environment Symbol) → k < maxNumber → j ≤ q → length l ≤ n
+  oldest-from : (n : ℕ) (l : List (Hypothesis Symbol)) (j h k : ℕ) (e : Environment Symbol) → k < maxNumber → j ≤ q → length l ≤ n
       → HypothesesAt c j w h l
       → PlaceIs c q w (joinedAll oldest l (sheetClauses c e)) k (oldestFrom n (c .table) (c .clauses) w h k)
-  unfolding oldestFrom HypothesesAt joinedAll joined entriesOf saturate
-  oldest-from [] zero j h k e small u o p = sheet-from k e
-  oldest-from [] (suc n) j h k e small u o p = rw p (sheet-from k e)
-  oldest-from (a ∷ l) zero j h k e small u o p = absurd (omega arith)
-  oldest-from (a ∷ l) (suc n) j h k e small u o p =
-      let z : suc (p .0) - 1 ≡ p .0 = omega arith in
-      let b = p .2 .below in
-      rw (p .1, ne-eqb (suc (p .0)) 0 (λ y. omega arith), z)
-      (go (ltb k (field w (p .0) fields.hypothesisStart))
-      (ltb (k - field w (p .0) fields.hypothesisStart) (membersOf (c .table) (field w (p .0) fields.hypothesisNode))) refl refl
-      (oldest-from l n (p .0) (field w (p .0) fields.hypothesisNext) k e small (omega arith) (omega arith) (p .3)))
+  unfolding oldestFrom stepBefore HypothesesAt joinedAll joined entriesOf saturate
+  oldest-from zero [] j h k e small u o p = sheet-from k e
+  oldest-from (suc n) [] j h k e small u o p = rw p (sheet-from k e)
+  oldest-from zero (a ∷ l) j h k e small u o p = absurd (omega arith)
+  oldest-from (suc n) (a ∷ l) j h k e small u o p =
+      rw here (go (ltb k s) (ltb (k - s) (membersOf (c .table) m)) (ltb k (startOf w (jumpOf w h))) refl refl refl
+      (λ l′ j′ h′ u′ o′ p′. oldest-from n l′ j′ h′ k e small u′ o′ p′))
     where
       r : ℕ
       r = p .0
@@ -205,11 +292,33 @@ module _ (c : Setting) (filled : Filled c) (q : ℕ) (w : List ℕ) (some-line :
       s : ℕ
       s = field w (p .0) fields.hypothesisStart
 
+      S : List (Hypothesis Symbol)
+      S = sheetClauses c e
+
       P : List (Hypothesis Symbol)
-      P = joinedAll oldest l (sheetClauses c e)
+      P = joinedAll oldest l S
 
       M : List (Entry Symbol)
       M = map (entry (a .environment)) (members (a .clause))
+
+      J : JumpAt w h (a ∷ l)
+      J = p .5
+
+      -- What the jump leads to.
+      on : (i : ℕ) × (i ≤ j) × HypothesesAt c i w (climb (J .steps) w h) (drop (J .steps) (a ∷ l))
+      on = climb-at c w (J .steps) j h (a ∷ l) (J .most) p
+
+      next : nextOf w h ≡ field w r fields.hypothesisNext
+      next = ap (λ (y : ℕ). nextOf w y) (p .1) ∙ hypothesis-field w r fields.hypothesisNext
+
+      Step : Bool → ℕ
+      Step z = cond z (jumpOf w h) (nextOf w h)
+
+      -- The walk from the latest hypothesis.
+      here : oldestFrom (suc n) (c .table) (c .clauses) w h k ≡ cond (ltb k s)
+          (oldestFrom n (c .table) (c .clauses) w (Step (ltb k (startOf w (jumpOf w h)))) k)
+          (cond (ltb (k - s) (membersOf (c .table) m)) (At m (field w r fields.hypothesisFrame) (k - s)) Nowhere)
+      here = oldest-step n h r k (p .1)
 
       -- The members of the hypothesis are the last ones.
       last : getElem? (entriesOf (P ++ (a ∷ []))) k ≡ getElem? (entriesOf P ++ M) k
@@ -219,18 +328,34 @@ module _ (c : Setting) (filled : Filled c) (q : ℕ) (w : List ℕ) (some-line :
       start : s ≤ k → s ≡ length (entriesOf P)
       start y = let d = p .4 in let i = before-is c filled l e in omega arith
 
-      go : (x y : Bool) → ltb k s ≡ x → ltb (k - s) (membersOf (c .table) m) ≡ y
-          → PlaceIs c q w P k (oldestFrom n (c .table) (c .clauses) w (field w r fields.hypothesisNext) k)
+      Found : Type 0
+      Found =
+          (l′ : List (Hypothesis Symbol)) (j′ h′ : ℕ) → j′ ≤ q → length l′ ≤ n → HypothesesAt c j′ w h′ l′
+          → PlaceIs c q w (joinedAll oldest l′ S) k (oldestFrom n (c .table) (c .clauses) w h′ k)
+
+      go : (x y z : Bool) → ltb k s ≡ x → ltb (k - s) (membersOf (c .table) m) ≡ y → ltb k (startOf w (jumpOf w h)) ≡ z → Found
           → PlaceIs c q w (P ++ (a ∷ [])) k
-          (cond x (oldestFrom n (c .table) (c .clauses) w (field w r fields.hypothesisNext) k)
+          (cond x (oldestFrom n (c .table) (c .clauses) w (Step z) k)
           (cond y (At m (field w r fields.hypothesisFrame) (k - s)) Nowhere))
-      go true y t₁ t₂ ih =
+      go true y true t₁ t₂ t₃ ih =
+          let Q = joinedAll oldest (drop (J .steps) (a ∷ l)) S in
+          let b = subst (λ (y : ℕ). k < startOf w y) (J .there) (ltb-true k (startOf w (jumpOf w h)) t₃) in
+          let within = before-start (drop (J .steps) (a ∷ l)) (on .0) (climb (J .steps) w h) k e (on .2) b in
+          let least = J .least (omega arith) in
+          let short = length-drop (J .steps) (a ∷ l) in
+          let below = on .1 in
+          rw (J .there) (place-same (P ++ (a ∷ [])) Q k k (oldestFrom n (c .table) (c .clauses) w (climb (J .steps) w h) k)
+          (older-first (J .steps) (a ∷ l) S k (J .most) within .0)
+          (ih (drop (J .steps) (a ∷ l)) (on .0) (climb (J .steps) w h) (omega arith) (omega arith) (on .2)))
+      go true y false t₁ t₂ t₃ ih =
           let g = ltb-true k s t₁ in
           let d = p .4 in
           let i = before-is c filled l e in
-          place-same (P ++ (a ∷ [])) P k k (oldestFrom n (c .table) (c .clauses) w (field w r fields.hypothesisNext) k)
-          (last ∙ at-left (entriesOf P) M k (omega arith)) ih
-      go false true t₁ t₂ ih =
+          let b = p .2 .below in
+          rw next (place-same (P ++ (a ∷ [])) P k k (oldestFrom n (c .table) (c .clauses) w (field w r fields.hypothesisNext) k)
+          (last ∙ at-left (entriesOf P) M k (omega arith))
+          (ih l r (field w r fields.hypothesisNext) (omega arith) (omega arith) (p .3)))
+      go false true z t₁ t₂ t₃ ih =
           let g = start (ltb-false k s t₁) in
           let f = ltb-false k s t₁ in
           let v = p .2 .older in
@@ -248,7 +373,7 @@ module _ (c : Setting) (filled : Filled c) (q : ℕ) (w : List ℕ) (some-line :
                 ∙ at-map (entry (a .environment)) (members (a .clause)) (k - s)
                 ∙ ap (λ (z : Clause). Option·map (entry (a .environment)) (getElem? (members z) (k - s))) (p .2 .clause);
           }
-      go false false t₁ t₂ ih =
+      go false false z t₁ t₂ t₃ ih =
           let g = start (ltb-false k s t₁) in
           let f = ltb-false k s t₁ in
           let h = ltb-false (k - s) (membersOf (c .table) m) t₂ in
@@ -270,5 +395,5 @@ module _ (c : Setting) (filled : Filled c) (q : ℕ) (w : List ℕ) (some-line :
           → PlaceIs c q w
           (joinedAll (elim b as (λ z. Order) [ true ↦ oldest | false ↦ latest ]) (p .hypotheses) (sheetClauses c (p .environment))) k
           (cond b (oldestFrom h (c .table) (c .clauses) w h k) (hypothesisFrom h (c .table) (c .clauses) w h k))
-      go true = oldest-from (p .hypotheses) h q h k (p .environment) small (omega arith) short (p .at)
-      go false = hypothesis-from (p .hypotheses) h q h k (p .environment) (omega arith) short (p .at)
+      go true = oldest-from h (p .hypotheses) q h k (p .environment) small (omega arith) short (p .at)
+      go false = hypothesis-from h (p .hypotheses) q h k (p .environment) small (omega arith) short (p .at)

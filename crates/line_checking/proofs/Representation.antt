@@ -1,10 +1,10 @@
 -- How registers and records hold a stage of a text: by recursion on the sequents and hypotheses, each read from its record.
-use Prim.Native.Nat.{ℕ, suc, _+_, _<_}
+use Prim.Native.Nat.{ℕ, zero, suc, _+_, _<_, _≤_}
 use mathlib.Core.Path.{_≡_}
 use mathlib.Core.Bool.{_&&_}
 use mathlib.Core.List.{List, [], _∷_, map}
 use lib.Dec.{ltb}
-use lib.ListN.{length}
+use lib.ListN.{length, take}
 use Rattle.formulas.specs.Formulas.{variableNames, freeG, freeC, freeFrom}
 use Rattle.formulas.specs.Rules.{Order, rules, joined}
 use Rattle.sequents.specs.Symbols.{Symbol}
@@ -24,7 +24,8 @@ use Rattle.scanning.specs.Fields as fields
 use Rattle.scanning.proofs.InstanceSpelling.{Frame}
 use Rattle.line_checking.specs.declared.Registers.{Registers}
 use Rattle.line_checking.specs.Sequents.{sequentStage, doneStage, resultStage, bindingStage}
-use Rattle.line_checking.specs.Members.{sheetMembers, saturate}
+use Rattle.line_checking.specs.HypothesisChains.{saturate, nextOf, jumpOf, passedOf}
+use Rattle.line_checking.specs.Members.{sheetMembers}
 use Rattle.memory.specs.Records.{field}
 
 -- What is judged: the sheet's bytes, the table, and the text.
@@ -58,6 +59,19 @@ unfoldable pub joinedAll : {A : Type 0} → Order → List A → List A → List
 joinedAll o [] s = s
 joinedAll o (a ∷ l) s = joined o a (joinedAll o l s)
 
+-- Where s steps to the next hypothesis lead from h.
+unfoldable pub climb : ℕ → List ℕ → ℕ → ℕ
+climb zero w h = h
+climb (suc s) w h = climb s w (nextOf w h)
+
+-- The jump of h, at which the hypotheses l begin: it leads some steps along them, and passes their members.
+pub record JumpAt (w : List ℕ) (h : ℕ) (l : List (Hypothesis Symbol)) : Type 0 where
+  pub steps : ℕ
+  pub least : 0 < length l → 0 < steps
+  pub most : steps ≤ length l
+  pub there : jumpOf w h ≡ climb steps w h
+  pub passed : passedOf w h ≡ saturate (length (entriesOf (take steps l)))
+
 -- The table is one that the reader fills.
 pub record Filled (c : Setting) : Type 0 where
   pub wellMade : WellMade (c .table) (c .nodes) (c .clauses) (c .goal)
@@ -89,12 +103,12 @@ module _ (c : Setting) where
   abbrev pub membersBefore : List (Hypothesis Symbol) → ℕ
   membersBefore l = sheetMembers (c .clauses) (c .table) 0 + length (entriesOf l)
 
-  -- The hypotheses from the pointer h on, the later ones in records further down, each with its start.
+  -- The hypotheses from the pointer h on, the later ones in records further down, each with its start and its jump.
   unfoldable pub HypothesesAt : ℕ → List ℕ → ℕ → List (Hypothesis Symbol) → Type 0
   HypothesesAt k w h [] = h ≡ 0
   HypothesesAt k w h (a ∷ l) =
       (r : ℕ) × (h ≡ suc r) × HypothesisAt k w r a × HypothesesAt r w (field w r fields.hypothesisNext) l
-      × (field w r fields.hypothesisStart ≡ saturate (membersBefore l))
+      × (field w r fields.hypothesisStart ≡ saturate (membersBefore l)) × JumpAt w h (a ∷ l)
 
   -- A program: the sheet's clauses and the hypotheses, in the order in force (request W-207).
   pub record ProgramAt (k : ℕ) (w : List ℕ) (h : ℕ) (P : Program Symbol) : Type 0 where

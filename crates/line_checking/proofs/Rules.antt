@@ -4,7 +4,7 @@ use native.Mathlib.Omega.{arith}
 use native.Mathlib.Numerals.{add-one}
 use mathlib.Core.Path.{_≡_, refl, sym, ap, ap₂, _∙_, subst}
 use mathlib.Core.Bool.{Bool, true, false, not, _&&_, cond}
-use mathlib.Core.List.{List, [], _∷_, _++_, append-cancel-left}
+use mathlib.Core.List.{List, [], _∷_, _++_, map, append-cancel-left}
 use mathlib.Core.Option.{none, some}
 use lib.Dec.{eqb, leb}
 use lib.ListN.{length, drop, length-append}
@@ -13,16 +13,17 @@ use Rattle.terms.specs.Lists.{update}
 use Rattle.terms.proofs.Lists.{length-map}
 use Rattle.terms.specs.Terms.{leaf, app, count, levelBy}
 use Rattle.formulas.specs.Formulas.{Goal, truth, and, or, implies, exists, forall, Clause, freeG, freeC}
+use Rattle.formulas.specs.Members.{members}
 use Rattle.formulas.specs.Rules.{assume}
 use Rattle.formulas.proofs.Free.{or-left, or-right}
 use Rattle.sequents.specs.Symbols.{Symbol, made, leftover, symbolLevel, Ground, level}
 use Rattle.sequents.specs.Sequents.{Environment, hypothesis, Program, Sequent, sequent, Dtrue, Dand, Dleft, Dright, Dassume, Line, plain}
-use Rattle.sequents.specs.Sequents.{Dsome, Dall, Dclause}
+use Rattle.sequents.specs.Sequents.{Dsome, Dall, Dclause, entry, entriesOf}
 use Rattle.sheet_format.specs.Bytes.{ascii, lf, isLetter, isSmall, isCapital, folded}
 use Rattle.sheet_format.specs.Nodes.{Declaration}
 use Rattle.sheet_format.proofs.Formed.{FormedGoal}
 use Rattle.sheet_format.specs.Limits.{variableNames}
-use Rattle.node_table.specs.Layout.{kindOf, labelOf, childOf, forallKind, existsKind, impliesKind, orKind, andKind, trueKind}
+use Rattle.node_table.specs.Layout.{membersOf, kindOf, labelOf, childOf, forallKind, existsKind, impliesKind, orKind, andKind, trueKind}
 use Rattle.node_table.specs.Decoding.{goalAt, clauseAtNode}
 use Rattle.node_table.specs.WellMade.{IsGoal, GoalNode}
 use Rattle.node_table.proofs.Decoding.{Nodes, nodes-of, goal-true, goal-and, goal-or, goal-implies, goal-exists, goal-forall}
@@ -47,15 +48,18 @@ use Rattle.scanning.proofs.Records.{Room, Kept, kept-self, puts-kept, bind-kept
 use Rattle.scanning.proofs.Frames.{frame-kept, frame-bind}
 use Rattle.line_checking.specs.declared.Registers.{Registers}
 use Rattle.line_checking.specs.Sequents.{Made, made as left, broken, withSequent, putSequent, nextSequent, putHypothesis}
+use Rattle.line_checking.specs.declared.Links.{Links}
+use Rattle.line_checking.specs.HypothesisChains.{nextOf, jumpOf, passedOf, linksAfter, putLinks}
 use Rattle.line_checking.specs.Members.{startAfter}
 use Rattle.line_checking.specs.Bindings.{beginsWith, isLine}
 use Rattle.line_checking.specs.Rules.{withChild, trueLine, andLine, orLine, assumeLine, bindGoal, someWith, someTerm, someLine}
 use Rattle.line_checking.specs.Rules.{allWith, allConstant, allLine}
 use Rattle.line_checking.proofs.Lines.{isWord, wordByte, bytes-some, bytes-all}
 use Rattle.line_checking.proofs.Representation.{Setting, folds, declared, joinedAll, Filled, names-of, HypothesisAt, HypothesesAt}
-use Rattle.line_checking.proofs.Representation.{ProgramAt, SequentAt, SequentsAt, Holds}
-use Rattle.line_checking.proofs.Preservation.{program-on, hypotheses-keep, sequents-on}
-use Rattle.line_checking.proofs.Starts.{start-is}
+use Rattle.line_checking.proofs.Representation.{JumpAt, ProgramAt, SequentAt, SequentsAt, Holds}
+use Rattle.line_checking.proofs.HypothesisChains.{hypothesis-field, linked, jump-made}
+use Rattle.line_checking.proofs.Preservation.{program-on, hypotheses-keep, linked-keep, sequents-on}
+use Rattle.line_checking.proofs.Starts.{many, start-is}
 use Rattle.line_checking.proofs.Results.{Result, either-side}
 use Rattle.line_checking.proofs.FoldedLines.{LineAt, isExact, part-there, word-folded, word-missing, line-folded, line-missing}
 use Rattle.line_checking.proofs.Terms.{scanAt, TermCase, is-term, no-term, term-case}
@@ -290,8 +294,8 @@ module _ (c : Setting) (filled : Filled c) (q : ℕ) (w : List ℕ) (room : Room
 
   -- ">: the clause is assumed"
   pub assume-result : kindOf t n ≡ impliesKind → R (assumeLine t (c .clauses) (c .text) w r q i e)
-  unfolding assumeLine putHypothesis puts withSequent infer isPlain sameWord wordNumber WritableLine textFields lineFields spellWord join
-      ascii isWord wordByte isExact smallFrom isLetter isSmall isCapital Holds HypothesesAt joinedAll FormedGoal freeG
+  unfolding assumeLine putHypothesis putLinks puts withSequent infer isPlain sameWord wordNumber WritableLine textFields lineFields spellWord join
+      ascii isWord wordByte isExact smallFrom isLetter isSmall isCapital Holds HypothesesAt joinedAll FormedGoal freeG entriesOf
   assume-result k =
       either-side R (isLine (ascii "D\tassume") (c .text) i e) _ (broken w r)
       (λ b. right-line c q l g gs G goal r (left w′ regs) (plain Dassume) _
@@ -313,8 +317,13 @@ module _ (c : Setting) (filled : Filled c) (q : ℕ) (w : List ℕ) (room : Room
       goal : g .goal ≡ G
       goal = at .goal ∙ tree
 
+      links : Links
+      links = linksAfter w (r .hypotheses) (membersOf t (childOf t n 0))
+
       values : List ℕ
-      values = childOf t n 0 ∷ r .frame ∷ r .hypotheses ∷ startAfter t (c .clauses) w (r .hypotheses) ∷ []
+      values =
+          childOf t n 0 ∷ r .frame ∷ r .hypotheses ∷ startAfter t (c .clauses) w (r .hypotheses) ∷ links .depth ∷ links .jump
+          ∷ links .passed ∷ []
 
       w′ : List ℕ
       w′ = puts values w q fields.hypothesisNode
@@ -355,6 +364,24 @@ module _ (c : Setting) (filled : Filled c) (q : ℕ) (w : List ℕ) (room : Room
             frame = rw (a, b) (frame (freeC C) (λ v f. or-left (freeC C v) (freeG B v) f));
           }
 
+      -- Its jump leads along the hypotheses that were made before.
+      jump : JumpAt w′ (suc q) (hypothesis C (g .environment) ∷ at .program .hypotheses)
+      jump =
+          let p = at .program in
+          let m = node .implies k in
+          let u = at .node in
+          let a : jumpOf w′ (suc q) ≡ links .jump =
+          hypothesis-field w′ q fields.hypothesisJump ∙ puts-at values w q fields.hypothesisNode 5 (omega arith) (omega arith) (omega arith) in
+          let b : passedOf w′ (suc q) ≡ links .passed =
+          hypothesis-field w′ q fields.hypothesisPassed ∙ puts-at values w q fields.hypothesisNode 6 (omega arith) (omega arith) (omega arith) in
+          let z : nextOf w′ (suc q) ≡ r .hypotheses =
+          hypothesis-field w′ q fields.hypothesisNext ∙ puts-at values w q fields.hypothesisNode 2 (omega arith) (omega arith) (omega arith) in
+          let total = length-append (map (entry (g .environment)) (members C)) [] in
+          let single = many c filled (hypothesis C (g .environment)) (childOf t n 0) (omega (arith, m .0)) (m .1) refl in
+          jump-made c w′ q (r .hypotheses) (membersOf t (childOf t n 0)) (hypothesis C (g .environment)) (p .hypotheses) links
+          (linked-keep c q w w′ kept q (r .hypotheses) (membersOf t (childOf t n 0)) (p .hypotheses) links (omega arith) (p .at)
+          (linked c w q (r .hypotheses) (membersOf t (childOf t n 0)) (p .hypotheses) (p .at))) z a b (omega arith)
+
       program : ProgramAt c (suc q) w′ (q + 1) (assume (hypothesis C (g .environment)) (g .program))
       program =
           let p = at .program in
@@ -373,6 +400,7 @@ module _ (c : Setting) (filled : Filled c) (q : ℕ) (w : List ℕ) (room : Room
               subst (λ (h : ℕ). HypothesesAt c q w′ h (p .hypotheses)) (sym z)
                   (hypotheses-keep c q w w′ kept q (r .hypotheses) (p .hypotheses) (omega arith) (p .at)),
               s ∙ start-is c filled w (p .hypotheses) q (r .hypotheses) (p .at),
+              subst (λ (y : ℕ). JumpAt w′ y (hypothesis C (g .environment) ∷ p .hypotheses)) (sym (add-one q)) jump,
             );
           }
 

@@ -17,7 +17,8 @@ use Rattle.node_table.specs.Layout.{membersOf, clauseNode}
 use Rattle.node_table.specs.Decoding.{clauseAtNode, clausesFrom}
 use Rattle.node_table.specs.WellMade.{IsClause}
 use Rattle.scanning.specs.Fields as fields
-use Rattle.line_checking.specs.Members.{sheetMembers, saturate, startAfter}
+use Rattle.line_checking.specs.HypothesisChains.{saturate}
+use Rattle.line_checking.specs.Members.{sheetMembers, startAfter}
 use Rattle.line_checking.proofs.Representation.{Setting, sheetClauses, joinedAll, Filled, membersBefore, HypothesesAt}
 use Rattle.memory.specs.Records.{field}
 

@@ -7,7 +7,7 @@ use lib.Dec.{eqb, leb}
 use lib.ListN.{length}
 use Rattle.sheet_format.specs.Limits.{maxBudget}
 use Rattle.sheet_format.specs.Bytes.{ascii}
-use Rattle.node_table.specs.Layout.{labelOf, childOf}
+use Rattle.node_table.specs.Layout.{membersOf, labelOf, childOf}
 use Rattle.scanning.specs.declared.Number.{Number}
 use Rattle.scanning.specs.declared.Number.the-variants.{Value, Missing}
 use Rattle.scanning.specs.declared.Scan.{Scan}
@@ -22,6 +22,7 @@ use Rattle.line_checking.specs.declared.Registers.{Registers}
 use Rattle.line_checking.specs.declared.Place.{Place}
 use Rattle.line_checking.specs.declared.Place.the-variants.{At, Nowhere}
 use Rattle.line_checking.specs.Sequents.{Made, broken, putSequent, putHypothesis}
+use Rattle.line_checking.specs.HypothesisChains.{linksAfter, putLinks}
 use Rattle.line_checking.specs.Members.{startAfter, placeFrom}
 use Rattle.line_checking.specs.Bindings.{beginsWith, isLine, checkResultWith, checkUnits, checkResult, bindWith, bindTerm}
 use Rattle.line_checking.specs.Bindings.{bindsVariable, bindLine}
@@ -99,11 +100,12 @@ module _ (q : ℕ) (w : List ℕ) where
 
     -- A `D assume` line writes only record q.
     pub assume-kept : (clauses : ℕ) → Kept q w (assumeLine t clauses x w r q i e .memory)
-    unfolding assumeLine putHypothesis puts
+    unfolding assumeLine putHypothesis putLinks puts
     assume-kept clauses =
+        let links = linksAfter w (r .hypotheses) (membersOf t (childOf t (r .node) 0)) in
         side (isLine (ascii "D\tassume") x i e) _ _
-        (puts-kept (childOf t (r .node) 0 ∷ r .frame ∷ r .hypotheses ∷ startAfter t clauses w (r .hypotheses) ∷ []) w q
-        fields.hypothesisNode (omega arith))
+        (puts-kept (childOf t (r .node) 0 ∷ r .frame ∷ r .hypotheses ∷ startAfter t clauses w (r .hypotheses) ∷ links .depth ∷ links .jump
+        ∷ links .passed ∷ []) w q fields.hypothesisNode (omega arith))
         (none-written r)
 
     -- Binding the goal's variable writes only record q.

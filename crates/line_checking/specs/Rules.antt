@@ -5,12 +5,13 @@ use mathlib.Core.List.{List}
 use lib.Dec.{eqb, leb}
 use lib.ListN.{length}
 use Rattle.sheet_format.specs.Bytes.{ascii}
-use Rattle.node_table.specs.Layout.{labelOf, childOf}
+use Rattle.node_table.specs.Layout.{membersOf, labelOf, childOf}
 use Rattle.scanning.specs.declared.Scan.the-variants.{Term, Malformed}
 use Rattle.scanning.specs.Scanning.{scanSymbol, scanTerm}
 use Rattle.scanning.specs.Frames.{bindFrame}
 use Rattle.line_checking.specs.declared.Registers.{Registers}
 use Rattle.line_checking.specs.Sequents.{Made, made, broken, withSequent, putSequent, nextSequent, putHypothesis}
+use Rattle.line_checking.specs.HypothesisChains.{linksAfter, putLinks}
 use Rattle.line_checking.specs.Members.{startAfter}
 use Rattle.line_checking.specs.Bindings.{beginsWith, isLine}
 
@@ -36,11 +37,12 @@ orLine t x w r i e =
     cond (isLine (ascii "D\tleft") x i e) (made w (withChild t r 0))
     (cond (isLine (ascii "D\tright") x i e) (made w (withChild t r 1)) (broken w r))
 
--- The clause is the latest hypothesis, which starts after the others (request W-207).
+-- The clause is the latest hypothesis, which starts after the others (request W-207) and is linked to them.
 unfoldable pub assumeLine : List ℕ → ℕ → List ℕ → List ℕ → Registers → ℕ → ℕ → ℕ → Made
 assumeLine t clauses x w r q i e =
     cond (isLine (ascii "D\tassume") x i e)
-    (made (putHypothesis w q (childOf t (r .node) 0) (r .frame) (r .hypotheses) (startAfter t clauses w (r .hypotheses)))
+    (made (putLinks (putHypothesis w q (childOf t (r .node) 0) (r .frame) (r .hypotheses) (startAfter t clauses w (r .hypotheses))) q
+    (linksAfter w (r .hypotheses) (membersOf t (childOf t (r .node) 0))))
     (withSequent r (childOf t (r .node) 1) (r .frame) (q + 1) (r .level) (r .rest)))
     (broken w r)
 

@@ -18,6 +18,14 @@ pub struct Registers {
     pub leftover: u32,
 }
 
+// The links of a hypothesis (specs/HypothesisChains.antt): how many hypotheses there are from it on, a jump to an older one, and how many
+// members the jump passes.
+pub struct Links {
+    pub depth: u32,
+    pub jump: u32,
+    pub passed: u32,
+}
+
 // A clause of a program and the number of one of its members.
 pub enum Place {
     At(u32, u32, u32),

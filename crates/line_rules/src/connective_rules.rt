@@ -2,6 +2,8 @@
 // line_checking, and its contract says so.
 use super::result_lines::is_line;
 use checker_state::Line;
+use checker_state::hypothesis_chains::links_after;
+use checker_state::hypothesis_chains::put_links;
 use checker_state::open_sequents::next_sequent;
 use checker_state::open_sequents::put_hypothesis;
 use checker_state::open_sequents::put_sequent;
@@ -10,6 +12,7 @@ use checker_state::registers::with_sequent;
 use checker_state::starts::start_after;
 use line_checking::Registers;
 use node_table::child;
+use node_table::members;
 ghost use mathlib.Core.Path.{_≡_};
 ghost use mathlib.Core.List.{List};
 ghost use Prim.Native.Nat.{ℕ, _+_, _<_};
@@ -69,7 +72,7 @@ pub fn or_line(t: &[u32], text: &[u8], r: Registers, line: Line) -> Registers
     broken(r)
 }
 
-// >: the clause is the latest hypothesis, which starts after the others (request W-207).
+// >: the clause is the latest hypothesis, which starts after the others (request W-207) and is linked to them.
 pub fn assume_line(
     t: &[u32],
     clauses: u32,
@@ -87,7 +90,9 @@ pub fn assume_line(
         let clause = child(t, r.node, 0);
         let goal = child(t, r.node, 1);
         let start = start_after(t, clauses, w, r.hypotheses);
+        let links = links_after(w, r.hypotheses, members(t, clause));
         put_hypothesis(w, q, clause, r.frame, r.hypotheses, start);
+        put_links(w, q, links);
         return with_sequent(r, goal, r.frame, q + 1, r.level, r.rest);
     }
     broken(r)

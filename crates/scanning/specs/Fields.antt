@@ -34,3 +34,13 @@ hypothesisNext = 23
 
 abbrev pub hypothesisStart : ℕ
 hypothesisStart = 24
+
+-- The links of a hypothesis: how many hypotheses there are from it on, a jump to an older one, and how many members the jump passes.
+abbrev pub hypothesisDepth : ℕ
+hypothesisDepth = 25
+
+abbrev pub hypothesisJump : ℕ
+hypothesisJump = 26
+
+abbrev pub hypothesisPassed : ℕ
+hypothesisPassed = 27

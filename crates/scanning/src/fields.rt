@@ -20,3 +20,10 @@ pub const HYPOTHESIS_NEXT: u32 = 23;
 
 // Request W-207: how many members stand before its own in the default order.
 pub const HYPOTHESIS_START: u32 = 24;
+
+// Its links: how many hypotheses there are from it on, a jump to an older one, and how many members the jump passes.
+pub const HYPOTHESIS_DEPTH: u32 = 25;
+
+pub const HYPOTHESIS_JUMP: u32 = 26;
+
+pub const HYPOTHESIS_PASSED: u32 = 27;

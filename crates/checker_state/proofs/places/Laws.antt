@@ -2,13 +2,14 @@
 use Prim.Native.Nat.{ℕ, zero, suc, _+_, _-_, _<_, _≤_}
 use native.Mathlib.Omega.{arith}
 use native.Mathlib.Numerals.{sub-one}
-use mathlib.Core.Path.{_≡_, sym, _∙_}
+use mathlib.Core.Path.{_≡_, sym, ap, _∙_}
 use mathlib.Core.List.{List}
 use borrow.Author.Tests.{lt-ltb, le-ltb, eq-eqb, ne-eqb}
 use Rattle.node_table.specs.Layout.{membersOf, clauseNode, orderNumber}
 use Rattle.scanning.specs.Fields as fields
 use Rattle.line_checking.specs.declared.Place.{Place}
 use Rattle.line_checking.specs.declared.Place.the-variants.{At, Nowhere}
+use Rattle.line_checking.specs.HypothesisChains.{stepBefore}
 use Rattle.line_checking.specs.Members.{clauseFrom, hypothesisFrom, oldestFrom, placeFrom}
 use Rattle.memory.specs.Records.{field}
 
@@ -58,11 +59,24 @@ module _ (t : List ℕ) (clauses : ℕ) (w : List ℕ) (k : ℕ) where
   hypothesis-here zero h l m f b z el em c ef = absurd (omega arith)
   hypothesis-here (suc n) h l m f b z el em c ef = simp (hypothesisFrom, ne-eqb _ _ z, ← el, ← em, lt-ltb _ _ c, ← ef)
 
-  pub hypothesis-on : (n h l m g : ℕ) → 0 < n → (h ≡ 0 → ⊥) → l ≡ field w (h - 1) fields.hypothesisNode → m ≡ membersOf t l → m ≤ k
-      → g ≡ field w (h - 1) fields.hypothesisNext → hypothesisFrom n t clauses w h k ≡ hypothesisFrom (n - 1) t clauses w g (k - m)
-  unfolding hypothesisFrom
-  hypothesis-on zero h l m g b z el em c eg = absurd (omega arith)
-  hypothesis-on (suc n) h l m g b z el em c eg = rw (sub-one (suc n)) (simp (hypothesisFrom, ne-eqb _ _ z, ← el, ← em, le-ltb _ _ c, ← eg))
+  -- Past the members of h, to the next one or along the jump.
+  module _ (n h l m v : ℕ) (b : 0 < n) (z : h ≡ 0 → ⊥) (el : l ≡ field w (h - 1) fields.hypothesisNode) (em : m ≡ membersOf t l) (c : m ≤ k)
+      (ev : v ≡ field w (h - 1) fields.hypothesisPassed) where
+    pub hypothesis-next : (g : ℕ) → k < v → g ≡ field w (h - 1) fields.hypothesisNext
+        → hypothesisFrom n t clauses w h k ≡ hypothesisFrom (n - 1) t clauses w g (k - m)
+    unfolding hypothesisFrom
+    hypothesis-next g d eg =
+        let e : n ≡ suc (n - 1) = omega arith in
+        ap (λ (y : ℕ). hypothesisFrom y t clauses w h k) e
+        ∙ simp (hypothesisFrom, ne-eqb _ _ z, ← el, ← em, le-ltb _ _ c, ← ev, lt-ltb _ _ d, ← eg)
+
+    pub hypothesis-jump : (g : ℕ) → v ≤ k → g ≡ field w (h - 1) fields.hypothesisJump
+        → hypothesisFrom n t clauses w h k ≡ hypothesisFrom (n - 1) t clauses w g (k - v)
+    unfolding hypothesisFrom
+    hypothesis-jump g d eg =
+        let e : n ≡ suc (n - 1) = omega arith in
+        ap (λ (y : ℕ). hypothesisFrom y t clauses w h k) e
+        ∙ simp (hypothesisFrom, ne-eqb _ _ z, ← el, ← em, le-ltb _ _ c, ← ev, le-ltb _ _ d, ← eg)
 
 -- the default order
 
@@ -92,7 +106,7 @@ module _ (t : List ℕ) (clauses : ℕ) (w : List ℕ) (k : ℕ) where
   oldest-past (suc n) h s l m b z es c el em d = simp (oldestFrom, ne-eqb _ _ z, ← es, le-ltb _ _ c, ← el, ← em, le-ltb _ _ d)
 
   pub oldest-on : (n h s g : ℕ) → 0 < n → (h ≡ 0 → ⊥) → s ≡ field w (h - 1) fields.hypothesisStart → k < s
-      → g ≡ field w (h - 1) fields.hypothesisNext → oldestFrom n t clauses w h k ≡ oldestFrom (n - 1) t clauses w g k
+      → g ≡ stepBefore w h k → oldestFrom n t clauses w h k ≡ oldestFrom (n - 1) t clauses w g k
   unfolding oldestFrom
   oldest-on zero h s g b z es c eg = absurd (omega arith)
   oldest-on (suc n) h s g b z es c eg = rw (sub-one (suc n)) (simp (oldestFrom, ne-eqb _ _ z, ← es, lt-ltb _ _ c, ← eg))

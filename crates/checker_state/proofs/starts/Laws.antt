@@ -6,7 +6,8 @@ use mathlib.Core.List.{List}
 use borrow.Author.Tests.{eq-eqb, ne-eqb}
 use Rattle.node_table.specs.Layout.{membersOf, clauseNode}
 use Rattle.scanning.specs.Fields as fields
-use Rattle.line_checking.specs.Members.{sheetMembers, saturate, startAfter}
+use Rattle.line_checking.specs.HypothesisChains.{saturate}
+use Rattle.line_checking.specs.Members.{sheetMembers, startAfter}
 use Rattle.memory.specs.Records.{field}
 
 -- members of the sheet's clauses

@@ -4,9 +4,11 @@ use mathlib.Core.Path.{_≡_}
 use mathlib.Core.Bool.{Bool, true, false}
 use mathlib.Core.List.{List}
 use Rattle.sheet_format.specs.Bytes.{ascii}
-use Rattle.node_table.specs.Layout.{childOf}
+use Rattle.node_table.specs.Layout.{membersOf, childOf}
 use Rattle.line_checking.specs.declared.Registers.{Registers}
 use Rattle.line_checking.specs.Sequents.{Made, made, broken, withSequent, putSequent, nextSequent, putHypothesis}
+use Rattle.line_checking.specs.declared.Links.{Links}
+use Rattle.line_checking.specs.HypothesisChains.{linksAfter, putLinks}
 use Rattle.line_checking.specs.Members.{startAfter}
 use Rattle.line_checking.specs.Bindings.{isLine}
 use Rattle.line_checking.specs.Rules.{withChild, trueLine, andLine, orLine, assumeLine}
@@ -54,11 +56,12 @@ module _ (t x w : List ℕ) (r : Registers) (i e : ℕ) (z : Bool) (ez : z ≡ i
 
 module _ (t : List ℕ) (clauses : ℕ) (x w : List ℕ) (r : Registers) (q i e : ℕ) (z : Bool)
     (ez : z ≡ isLine (ascii "D\tassume") x i e) where
-  pub assume-right : (a b d : ℕ) (w′ : List ℕ) (s : Registers) → z ≡ true → a ≡ childOf t (r .node) 0 → b ≡ childOf t (r .node) 1
-      → d ≡ startAfter t clauses w (r .hypotheses) → w′ ≡ putHypothesis w q a (r .frame) (r .hypotheses) d
+  pub assume-right : (a b d m : ℕ) (L : Links) (v w′ : List ℕ) (s : Registers) → z ≡ true → a ≡ childOf t (r .node) 0
+      → b ≡ childOf t (r .node) 1 → d ≡ startAfter t clauses w (r .hypotheses) → m ≡ membersOf t a → L ≡ linksAfter w (r .hypotheses) m
+      → v ≡ putHypothesis w q a (r .frame) (r .hypotheses) d → w′ ≡ putLinks v q L
       → s ≡ withSequent r b (r .frame) (q + 1) (r .level) (r .rest) → made w′ s ≡ assumeLine t clauses x w r q i e
   unfolding assumeLine
-  assume-right a b d w′ s h ea eb ed ew es = rw (es, ew, ea, eb, ed, ← ez, h)
+  assume-right a b d m L v w′ s h ea eb ed em eL ev ew es = rw (es, ew, ev, eL, em, ea, eb, ed, ← ez, h)
 
   pub assume-wrong : (m : Made) → z ≡ false → m ≡ broken w r → m ≡ assumeLine t clauses x w r q i e
   unfolding assumeLine

@@ -1,6 +1,6 @@
 use mathlib.Core.Path.{_≡_, sym, _∙_}
 use Rattle.line_checking.specs.Members.{hypothesisFrom}
-use Rattle.checker_state.proofs.places.Laws.{hypothesis-end, hypothesis-none, hypothesis-here, hypothesis-on}
+use Rattle.checker_state.proofs.places.Laws.{hypothesis-end, hypothesis-none, hypothesis-here, hypothesis-next, hypothesis-jump}
 use borrow.Author.Needs.{needs}
 use Rattle.checker_state.proofs.places.hypothesis_from.Statement.{statement}
 use Rattle.checker_state.proofs.places.hypothesis_from.Tie as tie
@@ -27,11 +27,23 @@ returns-2 c =
 
 loop-again : tie.Need-loop-again Inv-loop μ-loop
 loop-again c =
-    let at-if1 = c .before .before .before .before in
+    let at-if2 = c .before .before .before in
+    let at-if1 = at-if2 .before .before .before in
     let at-loop-test = at-if1 .before in
     let at-loop = at-loop-test .before in
-    (at-loop .loop .inv) ∙ hypothesis-on _ _ _ _ _ _ _ _ _ (at-loop-test .loop-test .taken) (at-if1 .if1 .left)
-    (c .before .before .before .field .ensures) (c .before .before .members .ensures .0) (c .before .if2 .left) (c .field3 .ensures)
+    (at-loop .loop .inv) ∙ hypothesis-next _ _ _ _ _ _ _ _ _ (at-loop-test .loop-test .taken) (at-if1 .if1 .left)
+    (at-if2 .before .before .field .ensures) (at-if2 .before .members .ensures .0) (at-if2 .if2 .left) (c .before .before .field3 .ensures)
+    _ (c .before .if3 .taken) (c .field4 .ensures)
+
+loop-again-2 : tie.Need-loop-again-2 Inv-loop μ-loop
+loop-again-2 c =
+    let at-if2 = c .before .before .before in
+    let at-if1 = at-if2 .before .before .before in
+    let at-loop-test = at-if1 .before in
+    let at-loop = at-loop-test .before in
+    (at-loop .loop .inv) ∙ hypothesis-jump _ _ _ _ _ _ _ _ _ (at-loop-test .loop-test .taken) (at-if1 .if1 .left)
+    (at-if2 .before .before .field .ensures) (at-if2 .before .members .ensures .0) (at-if2 .if2 .left) (c .before .before .field3 .ensures)
+    _ (c .before .if3 .left) (c .field5 .ensures)
 
 returns-3 : tie.Need-returns-3 Inv-loop μ-loop
 returns-3 c = sym ((c .before .before .loop .inv) ∙ hypothesis-end _ _ _ _ _ _ _ (c .before .loop-test .left) (c .clause-from2 .ensures))
@@ -40,5 +52,5 @@ pub hypothesis-from-spec : {M : Type 1} → statement M
 hypothesis-from-spec =
     tie.close
     (tie.spec Inv-loop μ-loop (λ c. search needs) (λ c κs. search needs) returns (λ c. search needs) (λ c κs. search needs)
-    (λ c κs. search needs) (λ c κs. search needs) returns-2 (λ c κs. search needs) (λ c. search needs) (λ c. search needs)
-    loop-again (λ c κs. search needs) returns-3)
+    (λ c κs. search needs) (λ c κs. search needs) returns-2 (λ c. search needs) (λ c κs. search needs) (λ c κs. search needs)
+    (λ c. search needs) loop-again (λ c κs. search needs) (λ c. search needs) loop-again-2 (λ c κs. search needs) returns-3)

@@ -39,7 +39,7 @@ loop-again c =
     let at-if1 = c .before .before .before in
     let at-loop-test = at-if1 .before in
     (at-loop-test .before .loop .inv) ∙ oldest-on _ _ _ _ _ _ _ _ (at-loop-test .loop-test .taken) (at-if1 .if1 .left)
-    (c .before .before .field .ensures) (c .before .if2 .left) (c .field4 .ensures)
+    (c .before .before .field .ensures) (c .before .if2 .left) (c .step-before .ensures)
 
 returns-4 : tie.Need-returns-4 Inv-loop μ-loop
 returns-4 c = sym ((c .before .before .loop .inv) ∙ oldest-end _ _ _ _ _ _ _ (c .before .loop-test .left) (c .clause-from2 .ensures))

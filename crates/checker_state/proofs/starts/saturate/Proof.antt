@@ -1,4 +1,4 @@
-use Rattle.line_checking.specs.Members.{saturate}
+use Rattle.line_checking.specs.HypothesisChains.{saturate}
 use borrow.Author.Needs.{needs}
 use Rattle.checker_state.proofs.starts.saturate.Statement.{statement}
 use Rattle.checker_state.proofs.starts.saturate.Tie as tie
