@@ -27,12 +27,12 @@ extern "C" {
 #define RULES_WORK_NUMBERS 64     /* [5] work numbers for each unit of budget, or for each LF of a text */
 
 /* Stack, in bytes, that must be left where the functions are called. That of rules_check does not depend on its input.
- * In rules_run the printer of terms calls itself for each bracket that it opens, as long as all that are open can still
- * be closed within the answer: so the stack grows with the answer buffer, up to RULES_TEXT_BYTES. 4,096 bytes of answer
- * take 320 KB of stack, 65,535 take 4.1 MB. */
+ * rules_run writes a text into bytes of its own first. Its printer of terms calls itself for each bracket that it opens,
+ * as long as all that are open can still be closed within the answer: so the stack grows with the answer buffer, up to
+ * RULES_TEXT_BYTES. 4,096 bytes of answer take 352 KB of stack, 65,535 take 4.1 MB. */
 #define RULES_CHECK_STACK 65536
 #define RULES_RUN_STACK(answer_len) \
-    (65536 + 64 * ((size_t)(answer_len) < RULES_TEXT_BYTES ? (size_t)(answer_len) : (size_t)RULES_TEXT_BYTES))
+    (98304 + 64 * ((size_t)(answer_len) < RULES_TEXT_BYTES ? (size_t)(answer_len) : (size_t)RULES_TEXT_BYTES))
 
 /* What rules_run returns. */
 enum rules_outcome {

@@ -34,7 +34,7 @@ pub const fn run_stack(answer_bytes: usize) -> usize {
     } else {
         TEXT_BYTES
     };
-    65_536 + 64 * written
+    98_304 + 64 * written
 }
 
 /// A numbered refusal. Lines count from 1; line 0 says that no line is at fault.
