@@ -14,7 +14,7 @@ use Rattle.machine.specs.Records.{made}
 use Rattle.printing.specs.declared.Cursor.{Cursor}
 use Rattle.printing.specs.Numbering.{Printer, printer}
 use Rattle.printing.specs.WriteLines.{resultTo, bindingsTo, linesTo}
-use Rattle.printing.specs.PathLinks.{Linked, linked, linkPath, clearConstants}
+use Rattle.printing.specs.PathLinks.{Linked, linked, linkPath}
 use Rattle.printing.proofs.Passes.{limit-room}
 use Rattle.printing.specs.Writer.{textLimit, startCursor, proofPass, prepare, firstLink, ownBytes, answered, writeProof}
 
@@ -27,10 +27,10 @@ module _ (sheet t : List ℕ) (turns limit : ℕ) where
     unfolding proofPass
     pass-written b g g₁ g₂ s eb e₁ e₂ es = rw (es, e₂, e₁, eb)
 
-pub links-prepared : (w w₁ w₂ : List ℕ) (r : Registers) (e : ℕ) → linked w₁ e ≡ linkPath (r .acts) w (r .path) (r .line) 0
-    → w₂ ≡ clearConstants (r .acts) w₁ → linked w₂ e ≡ linked (prepare (made w r)) (firstLink (made w r))
+pub links-prepared : (w w₁ : List ℕ) (r : Registers) (e : ℕ) → linked w₁ e ≡ linkPath (r .acts) w (r .path) (r .line) 0
+    → linked w₁ e ≡ linked (prepare (made w r)) (firstLink (made w r))
 unfolding prepare firstLink
-links-prepared w w₁ w₂ r e e₁ e₂ = rw e₂ (simp (prepare, firstLink, ← e₁))
+links-prepared w w₁ r e e₁ = simp (prepare, firstLink, ← e₁)
 
 -- A turn of the loop that copies.
 pub copy-more : (from to₀ to : List ℕ) (i : ℕ) → i < length from → i < length to₀ → to ≡ take i from ++ drop i to₀

@@ -16,7 +16,6 @@ use printing::Cursor;
 use short_texts::MAX_BYTES;
 use short_texts::text_limit;
 use term_printer::Bounds;
-use term_printer::path_links::clear_constants;
 use term_printer::path_links::link_path;
 ghost use mathlib.Core.Path.{_≡_};
 ghost use mathlib.Core.List.{List, _++_};
@@ -54,14 +53,11 @@ pub fn proof_pass(
     lines_to(sheet, t, bounds, w, out, q, proved.path)
 }
 
-// Links the path in the order taken, and clears the numbers of constants; the result is the link to the first line.
+// Links the path in the order taken; the result is the link to the first line.
 pub fn prepare(w: &mut [u32], r: Registers) -> u32
     ensures { λ e. ⌜ linked (now (w .exit)) e ≡ linked (prepare (made (now (w .entry)) r)) (firstLink (made (now (w .entry)) r)) ⌝ }
 {
-    let acts = r.acts;
-    let e = link_path(acts, w, r.path, r.line, 0);
-    clear_constants(acts, w);
-    e
+    link_path(r.acts, w, r.path, r.line, 0)
 }
 
 // The first n bytes of one buffer become those of another.

@@ -27,12 +27,12 @@ use Rattle.node_table.specs.Layout.{kindOf, childCount, labelOf, childOf, infoO
 use Rattle.node_table.specs.Layout.{nameStart, nameWord, nameLength, isFunctionBit, arityOf, clauseNode, orderNumber}
 use Rattle.printing.specs.Output.{emit, writeBytes, copyBytes, writeDigits, writeNumber, writeSymbol}
 use Rattle.printing.specs.Numbering.{withPosition, withVariables, withConstants, wrote, numberVariable, numberConstant, writeVariable}
-use Rattle.printing.specs.Numbering.{writeConstant}
+use Rattle.printing.specs.Numbering.{clearConstants, constantMark, clearAtFirst, writeConstant}
 use Rattle.printing.specs.WriteTerms.{emitTo, writeName, writeFunctor, separator, argumentsBy, bracketedBy, applicationBy, wordBy, writeTerm}
 use Rattle.printing.specs.WriteTerms.{termTo}
 use Rattle.printing.specs.WriteLines.{bytesTo, numberTo, resultTo, plainBytes, termLine, bindingsTo, prefixTo, clauseTo, lineTo}
 use Rattle.printing.specs.WriteLines.{linesTo}
-use Rattle.printing.specs.PathLinks.{linkWord, linkPath, clearConstants, clearVariables}
+use Rattle.printing.specs.PathLinks.{linkWord, linkPath, clearVariables}
 use Rattle.printing.specs.Writer.{textLimit, proofPass, prepare, firstLink, ownBytes, writeProof, shortPass, writeShort, writeNo}
 use Rattle.printing.specs.Writer.{writeSpent}
 use Rattle.sheet_format.specs.Bytes.{ascii}
@@ -56,7 +56,8 @@ unfolding field putField cellOf levelOf putCell putLevel putEntry putGoal putAss
     fromClause firstMember afterAssumption emit writeBytes copyBytes writeDigits writeNumber writeSymbol withPosition withVariables
     withConstants wrote numberVariable numberConstant writeVariable writeConstant emitTo writeName writeFunctor separator argumentsBy
     bracketedBy applicationBy wordBy writeTerm termTo bytesTo numberTo resultTo plainBytes termLine bindingsTo prefixTo clauseTo lineTo
-    linesTo linkWord linkPath clearConstants clearVariables textLimit proofPass prepare firstLink ownBytes writeProof shortPass
+    linesTo linkWord linkPath clearConstants constantMark clearAtFirst clearVariables textLimit proofPass prepare firstLink ownBytes
+    writeProof shortPass
     writeShort writeNo writeSpent ascii
 computeAnswer sheet t clauses goal budget w out = writeProof sheet t goal (runMachine budget t clauses goal w) budget out
 

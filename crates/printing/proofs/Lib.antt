@@ -4,6 +4,7 @@ pub mod PrinterStates
 pub mod Tokens
 pub mod Bindings
 pub mod LeftAlone
+pub mod Clearing
 pub mod Steps
 pub mod Reaching
 pub mod Words

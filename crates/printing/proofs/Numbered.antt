@@ -5,7 +5,7 @@ use native.Mathlib.Omega.{arith}
 use mathlib.Core.Path.{_≡_, refl, sym, ap, ap₂, _∙_, subst}
 use mathlib.Core.Bool.{Bool, true, false, cond, true≢false}
 use mathlib.Core.List.{List, [], _∷_, _++_, append-nil, append-assoc}
-use lib.Dec.{ltb}
+use lib.Dec.{eqb, ltb}
 use lib.ListN.{length, set}
 use borrow.Author.Tests.{ne-eqb, ltb-true, ltb-false}
 use Rattle.terms.specs.Lists.{All}
@@ -25,13 +25,14 @@ use Rattle.answer_texts.proofs.FirstShowings.{sameSymbol-refl}
 use Rattle.printing.specs.declared.Cursor.{Cursor}
 use Rattle.printing.specs.Output.{Written, written, emit, writeBytes, writeSymbol}
 use Rattle.printing.specs.Numbering.{withPosition, withVariables, withConstants, Printer, printer, wrote, numberVariable}
-use Rattle.printing.specs.Numbering.{numberConstant, writeVariable, writeConstant, constantNumberField}
+use Rattle.printing.specs.Numbering.{clearAtFirst, constantMark, numberConstant, writeVariable, writeConstant, constantNumberField}
 use Rattle.printing.specs.WriteTerms.{emitTo}
 use Rattle.printing.specs.WriteLines.{bytesTo}
 use Rattle.machine.proofs.Records.{There, cell-same, cell-other, field-cell, level-cell, cell-put}
 use Rattle.printing.proofs.Bytes.{emit-within, bytes-append, bytes-grow, bytes-over, symbol-bytes}
 use Rattle.printing.proofs.Tokens.{Token, byte, sign, showSymbol, step, steps, steps-over, signs, spelled}
-use Rattle.printing.proofs.LeftAlone.{there-from, Alike, alike-trans, alike-put, alike-number}
+use Rattle.printing.proofs.LeftAlone.{there-from, Alike, alike-trans, alike-fewer, alike-put, alike-number}
+use Rattle.printing.proofs.Clearing.{first-alike, first-cells, first-mark, mark-after, mark-shown}
 use Rattle.printing.proofs.Steps.{Right}
 use Rattle.printing.proofs.FirstShowings.{has-more, has-middle, index-next, Book, book-same, book-again, book-new}
 use Rattle.memory.proofs.Records.{field-same, field-other, record-other}
@@ -72,35 +73,41 @@ variable-new limit g x e t l =
     (level-cell (g .memory) x (4 * suc (g .cursor .variables)) x)
     ∙ symbol-bytes (g .buffer) limit (g .cursor .at) (code "_") (g .cursor .variables) (levelOf (g .memory) x)))
 
--- A constant likewise.
-constant-old : (limit : ℕ) (g : Printer) (c n : ℕ) → field (g .memory) c constantNumberField ≡ suc n
-    → writeConstant limit g c ≡ bytesTo limit g (spellSymbol (made n (field (g .memory) c fields.constantLevel)))
+-- A constant likewise, by its mark.
+constant-old : (turns limit : ℕ) (g : Printer) (c n : ℕ) → constantMark (g .memory) (g .cursor .constants) c ≡ suc n
+    → writeConstant turns limit g c ≡ bytesTo limit g (spellSymbol (made n (field (g .memory) c fields.constantLevel)))
 unfolding writeConstant numberConstant bytesTo spellSymbol
-constant-old limit g c n e =
-    rw (ne-eqb (field (g .memory) c constantNumberField) 0 (λ q. omega arith))
+constant-old turns limit g c n e =
+    let f = mark-shown (g .memory) (g .cursor .constants) c n e in
+    rw (ne-eqb (constantMark (g .memory) (g .cursor .constants) c) 0 (λ q. omega arith))
     (ap (wrote g) (ap (λ (m : ℕ). writeSymbol (g .buffer) limit (g .cursor .at) (code "!") m (field (g .memory) c fields.constantLevel))
     (let z : field (g .memory) c constantNumberField - 1 ≡ n = omega arith in z)
     ∙ symbol-bytes (g .buffer) limit (g .cursor .at) (code "!") n (field (g .memory) c fields.constantLevel)))
 
+-- The memory in which one constant more has its number.
+abbrev marked : ℕ → Printer → ℕ → List ℕ
+marked turns g c =
+    putField (clearAtFirst turns (g .memory) (g .cursor .constants)) c constantNumberField (suc (g .cursor .constants))
+
 -- A constant without a number gets the next one, and is written with it.
-constant-new : (limit : ℕ) (g : Printer) (c : ℕ) → field (g .memory) c constantNumberField ≡ 0
+constant-new : (turns limit : ℕ) (g : Printer) (c : ℕ) → constantMark (g .memory) (g .cursor .constants) c ≡ 0
     → numbersPerUnit * c + 63 < length (g .memory) → g .cursor .constants ≤ 1000000
-    → writeConstant limit g c
-    ≡ bytesTo limit (printer (putField (g .memory) c constantNumberField (suc (g .cursor .constants))) (g .buffer)
-    (withConstants (g .cursor) (suc (g .cursor .constants))))
+    → writeConstant turns limit g c
+    ≡ bytesTo limit (printer (marked turns g c) (g .buffer) (withConstants (g .cursor) (suc (g .cursor .constants))))
     (spellSymbol (made (g .cursor .constants) (field (g .memory) c fields.constantLevel)))
 unfolding writeConstant numberConstant bytesTo spellSymbol withConstants
-constant-new limit g c e t l =
-    rw (e, increment-small (g .cursor .constants) (omega arith))
-    (ap (wrote (printer (putField (g .memory) c constantNumberField (suc (g .cursor .constants))) (g .buffer)
-    (withConstants (g .cursor) (suc (g .cursor .constants)))))
+constant-new turns limit g c e t l =
+    let m = g .cursor .constants in
+    let v = clearAtFirst turns (g .memory) m in
+    let a = first-alike turns (g .memory) m in
+    rw (e, increment-small m (omega arith))
+    (ap (wrote (printer (marked turns g c) (g .buffer) (withConstants (g .cursor) (suc m))))
     (ap₂ (writeSymbol (g .buffer) limit (g .cursor .at) (code "!"))
-    (let f = field-same (g .memory) c constantNumberField (suc (g .cursor .constants)) t in
-    let z : field (putField (g .memory) c constantNumberField (suc (g .cursor .constants))) c
-    constantNumberField - 1 ≡ g .cursor .constants = omega arith in z)
-    (field-other (g .memory) c constantNumberField c fields.constantLevel (suc (g .cursor .constants)) (omega arith) (omega arith)
-    (λ q. omega arith))
-    ∙ symbol-bytes (g .buffer) limit (g .cursor .at) (code "!") (g .cursor .constants) (field (g .memory) c fields.constantLevel)))
+    (let f = field-same v c constantNumberField (suc m) (let y = a .long in omega arith) in
+    let z : field (marked turns g c) c constantNumberField - 1 ≡ m = omega arith in z)
+    (field-other v c constantNumberField c fields.constantLevel (suc m) (omega arith) (omega arith) (λ q. omega arith)
+    ∙ a .fields c 22 (omega arith) (omega arith))
+    ∙ symbol-bytes (g .buffer) limit (g .cursor .at) (code "!") m (field (g .memory) c fields.constantLevel)))
 
 -- One variable more leaves the made constants as they were.
 made-variable : (x k : ℕ) (h : List Symbol) → madeOnly (h ++ (leftover x k ∷ [])) ≡ madeOnly h
@@ -198,10 +205,10 @@ unfoldable pub cellNumber : List ℕ → Symbol → ℕ
 cellNumber v (made c k) = 0
 cellNumber v (leftover x k) = cellOf v x
 
--- The number of a made constant stands in field 63 of its record.
-unfoldable pub fieldNumber : List ℕ → Symbol → ℕ
-fieldNumber v (made c k) = field v c constantNumberField
-fieldNumber v (leftover x k) = 0
+-- The number of a made constant stands in field 63 of its record, once one of the n constants shown has been numbered.
+unfoldable pub fieldNumber : List ℕ → ℕ → Symbol → ℕ
+fieldNumber v n (made c k) = constantMark v n c
+fieldNumber v n (leftover x k) = 0
 
 module _ (w : List ℕ) (next acts : ℕ) where
   -- `Variable` holds of a leftover variable as the memory has it.
@@ -219,7 +226,7 @@ module _ (w : List ℕ) (next acts : ℕ) where
     pub record Numbered (h : List Symbol) (v : List ℕ) (p : Cursor) : Type 0 where
       pub alike : Alike 62 w v
       pub variables : Book Variable (λ n. 4 * suc n) (numberBy r) (leftoverOnly h) (cellNumber v) (p .variables)
-      pub constants : Book Constant suc (numberBy r) (madeOnly h) (fieldNumber v) (p .constants)
+      pub constants : Book Constant suc (numberBy r) (madeOnly h) (fieldNumber v (p .constants)) (p .constants)
       pub fewVariables : p .variables ≤ base + p .at
       pub fewConstants : p .constants ≤ base + p .at
 
@@ -273,7 +280,7 @@ module _ (w : List ℕ) (next acts : ℕ) where
       write-variable : (x k : ℕ) (h : List Symbol) (g : Printer) → Right w next acts (leftover x k)
           → (seen (leftover x k) h ≡ false → numberBy r (leftover x k) ≡ countOf (leftover x k) h)
           → g .cursor .at ≤ limit → Numbered h (g .memory) (g .cursor) → Shown limit (leftover x k) h g (writeVariable limit g x)
-      unfolding seen countOf numberBy rename Right cellNumber fieldNumber Variable Constant withPosition withVariables tagOf
+      unfolding seen countOf numberBy rename Right cellNumber fieldNumber constantMark Variable Constant withPosition withVariables tagOf
       write-variable x k h g right due l n = go (has (leftover x k) (leftoverOnly h)) refl
         where
           y : Symbol
@@ -296,8 +303,10 @@ module _ (w : List ℕ) (next acts : ℕ) where
               (λ q. true≢false (sym (sameSymbol-refl (leftover x k))
               ∙ ap (sameSymbol (leftover x k)) (ap₂ leftover (sym q) (right .2 ∙ ap (levelOf w) (sym q) ∙ sym (m .2))) ∙ d))
 
-          field-kept : (z : Symbol) (a : ℕ) → fieldNumber (putCell (g .memory) x a) z ≡ fieldNumber (g .memory) z
-          field-kept (made c j) a = field-cell (g .memory) x a c 63 (omega arith) (omega arith)
+          field-kept : (z : Symbol) (a : ℕ)
+              → fieldNumber (putCell (g .memory) x a) (g .cursor .constants) z ≡ fieldNumber (g .memory) (g .cursor .constants) z
+          field-kept (made c j) a =
+              ap (cond (eqb (g .cursor .constants) 0) 0) (field-cell (g .memory) x a c 63 (omega arith) (omega arith))
           field-kept (leftover x′ j) a = refl
 
           go : (b : Bool) → has (leftover x k) (leftoverOnly h) ≡ b → Shown limit (leftover x k) h g (writeVariable limit g x)
@@ -316,7 +325,7 @@ module _ (w : List ℕ) (next acts : ℕ) where
                     (book-again Variable (λ n. 4 * suc n) (numberBy r) (leftoverOnly h) (cellNumber (g .memory))
                     (g .cursor .variables) y e (n .variables));
                 constants =
-                    subst (λ (l : List Symbol). Book Constant suc (numberBy r) l (fieldNumber (g .memory)) (g .cursor .constants))
+                    subst (λ (l : List Symbol). Book Constant suc (numberBy r) l (fieldNumber (g .memory) (g .cursor .constants)) (g .cursor .constants))
                     (sym (made-variable x k h)) (n .constants);
                 fewVariables = omega arith;
                 fewConstants = omega arith;
@@ -340,9 +349,10 @@ module _ (w : List ℕ) (next acts : ℕ) where
                     (cell-same (g .memory) x (4 * suc m) there ∙ ap (λ (n : ℕ). 4 * suc n) d) (λ z o u. other z (4 * suc m) o u)
                     (n .variables));
                 constants =
-                    subst (λ (l : List Symbol). Book Constant suc (numberBy r) l (fieldNumber v) (g .cursor .constants))
+                    subst (λ (l : List Symbol). Book Constant suc (numberBy r) l (fieldNumber v (g .cursor .constants)) (g .cursor .constants))
                     (sym (made-variable x k h))
-                    (book-same Constant suc (numberBy r) (madeOnly h) (fieldNumber (g .memory)) (fieldNumber v) (g .cursor .constants)
+                    (book-same Constant suc (numberBy r) (madeOnly h) (fieldNumber (g .memory) (g .cursor .constants))
+                    (fieldNumber v (g .cursor .constants)) (g .cursor .constants)
                     (λ z o. field-kept z (4 * suc m)) (n .constants));
                 fewVariables = omega arith;
                 fewConstants = omega arith;
@@ -351,8 +361,8 @@ module _ (w : List ℕ) (next acts : ℕ) where
       -- A constant is shown.
       write-constant : (c k : ℕ) (h : List Symbol) (g : Printer) → Right w next acts (made c k)
           → (seen (made c k) h ≡ false → numberBy r (made c k) ≡ countOf (made c k) h)
-          → g .cursor .at ≤ limit → Numbered h (g .memory) (g .cursor) → Shown limit (made c k) h g (writeConstant limit g c)
-      unfolding seen countOf numberBy rename Right cellNumber fieldNumber Variable Constant withPosition withConstants
+          → g .cursor .at ≤ limit → Numbered h (g .memory) (g .cursor) → Shown limit (made c k) h g (writeConstant acts limit g c)
+      unfolding seen countOf numberBy rename Right cellNumber fieldNumber constantMark Variable Constant withPosition withConstants
       write-constant c k h g right due l n = go (has (made c k) (madeOnly h)) refl
         where
           y : Symbol
@@ -361,28 +371,40 @@ module _ (w : List ℕ) (next acts : ℕ) where
           level : field (g .memory) c fields.constantLevel ≡ k
           level = n .alike .fields c 22 (omega arith) (omega arith) ∙ sym (right .1)
 
-          mark : field (g .memory) c constantNumberField ≡ cond (has (made c k) (madeOnly h)) (suc (r .ofMade c k)) 0
+          mark : constantMark (g .memory) (g .cursor .constants) c ≡ cond (has (made c k) (madeOnly h)) (suc (r .ofMade c k)) 0
           mark = n .constants .marks (made c k) right
 
           there : numbersPerUnit * c + 63 < length (g .memory)
           there = let a = n .alike .long in let b = right .0 in omega arith
 
-          other : (z : Symbol) (a : ℕ) → Constant z → sameSymbol (made c k) z ≡ false
-              → fieldNumber (putField (g .memory) c constantNumberField a) z ≡ fieldNumber (g .memory) z
-          other (leftover x j) a m d = refl
-          other (made c′ j) a m d =
-              record-other (g .memory) c constantNumberField c′ constantNumberField a (omega arith) (omega arith)
+          count : ℕ
+          count = g .cursor .constants
+
+          ready : List ℕ
+          ready = clearAtFirst acts (g .memory) count
+
+          kept : Alike 63 (g .memory) ready
+          kept = first-alike acts (g .memory) count
+
+          other : (z : Symbol) → Constant z → sameSymbol (made c k) z ≡ false
+              → fieldNumber (marked acts g c) (suc count) z ≡ fieldNumber (g .memory) count z
+          other (leftover x j) m d = refl
+          other (made c′ j) m d =
+              mark-after (marked acts g c) count c′
+              ∙ record-other ready c constantNumberField c′ constantNumberField (suc count) (omega arith) (omega arith)
               (λ q. true≢false (sym (sameSymbol-refl (made c k))
               ∙ ap (sameSymbol (made c k)) (ap₂ made (sym q) (right .1 ∙ ap (λ (d : ℕ). field w d fields.constantLevel) (sym q)
               ∙ sym (m .1))) ∙ d))
+              ∙ first-mark acts (g .memory) count c′ (let a = n .alike .long in omega arith) (m .0)
 
-          cell-kept : (z : Symbol) (a : ℕ) → cellNumber (putField (g .memory) c constantNumberField a) z ≡ cellNumber (g .memory) z
-          cell-kept (made c′ j) a = refl
-          cell-kept (leftover x j) a = cell-put (g .memory) x c constantNumberField a (omega arith) (omega arith)
+          cell-kept : (z : Symbol) → cellNumber (marked acts g c) z ≡ cellNumber (g .memory) z
+          cell-kept (made c′ j) = refl
+          cell-kept (leftover x j) =
+              cell-put ready x c constantNumberField (suc count) (omega arith) (omega arith) ∙ first-cells acts (g .memory) count x
 
-          go : (b : Bool) → has (made c k) (madeOnly h) ≡ b → Shown limit (made c k) h g (writeConstant limit g c)
+          go : (b : Bool) → has (made c k) (madeOnly h) ≡ b → Shown limit (made c k) h g (writeConstant acts limit g c)
           go true e =
-              let f : field (g .memory) c constantNumberField ≡ suc (r .ofMade c k) = mark
+              let f : constantMark (g .memory) (g .cursor .constants) c ≡ suc (r .ofMade c k) = mark
               ∙ ap (λ (b : Bool). cond b (suc (r .ofMade c k)) 0) e in
               let i = n .fewVariables in
               let j = n .fewConstants in
@@ -394,42 +416,44 @@ module _ (w : List ℕ) (next acts : ℕ) where
                     subst (λ (l : List Symbol). Book Variable (λ n. 4 * suc n) (numberBy r) l (cellNumber (g .memory))
                     (g .cursor .variables)) (sym (leftover-constant c k h)) (n .variables);
                 constants =
-                    subst (λ (l : List Symbol). Book Constant suc (numberBy r) l (fieldNumber (g .memory)) (g .cursor .constants))
+                    subst (λ (l : List Symbol). Book Constant suc (numberBy r) l (fieldNumber (g .memory) (g .cursor .constants)) (g .cursor .constants))
                     (sym (made-constant c k h))
-                    (book-again Constant suc (numberBy r) (madeOnly h) (fieldNumber (g .memory)) (g .cursor .constants) y e (n .constants));
+                    (book-again Constant suc (numberBy r) (madeOnly h) (fieldNumber (g .memory) (g .cursor .constants)) (g .cursor .constants)
+                    y e (n .constants));
                 fewVariables = omega arith;
                 fewConstants = omega arith;
-              }) (constant-old limit g c (r .ofMade c k) f)
+              }) (constant-old acts limit g c (r .ofMade c k) f)
           go false e =
-              let f : field (g .memory) c constantNumberField ≡ 0 = mark ∙ ap (λ (b : Bool). cond b (suc (r .ofMade c k)) 0) e in
+              let f : constantMark (g .memory) (g .cursor .constants) c ≡ 0 = mark ∙ ap (λ (b : Bool). cond b (suc (r .ofMade c k)) 0) e in
               let i = n .fewVariables in
               let j = n .fewConstants in
-              let m = g .cursor .constants in
+              let m = count in
               let d : m ≡ r .ofMade c k = n .constants .counts ∙ sym (due e) in
-              let v = putField (g .memory) c constantNumberField (suc m) in
+              let v = marked acts g c in
               shown-by y (made m (field (g .memory) c fields.constantLevel)) h g _ v (withConstants (g .cursor) (suc m)) refl
               (ap₂ made d level) l
               (λ a q. record {
                 alike =
                     alike-trans 62 w (g .memory) v (n .alike)
-                    (alike-put 62 (g .memory) c 63 (suc m) (omega arith) (omega arith) (omega arith));
+                    (alike-trans 62 (g .memory) ready v (alike-fewer 63 62 (g .memory) ready (omega arith) kept)
+                    (alike-put 62 ready c 63 (suc m) (omega arith) (omega arith) (omega arith)));
                 variables =
                     subst (λ (l : List Symbol). Book Variable (λ n. 4 * suc n) (numberBy r) l (cellNumber v) (g .cursor .variables))
                     (sym (leftover-constant c k h))
                     (book-same Variable (λ n. 4 * suc n) (numberBy r) (leftoverOnly h) (cellNumber (g .memory)) (cellNumber v)
-                    (g .cursor .variables) (λ z o. cell-kept z (suc m)) (n .variables));
+                    (g .cursor .variables) (λ z o. cell-kept z) (n .variables));
                 constants =
-                    subst (λ (l : List Symbol). Book Constant suc (numberBy r) l (fieldNumber v) (suc m)) (sym (made-constant c k h))
-                    (book-new Constant suc (numberBy r) (madeOnly h) (fieldNumber (g .memory)) (fieldNumber v) m y e
-                    (field-same (g .memory) c constantNumberField (suc m) there ∙ ap suc d) (λ z o u. other z (suc m) o u) (n .constants));
+                    subst (λ (l : List Symbol). Book Constant suc (numberBy r) l (fieldNumber v (suc m)) (suc m)) (sym (made-constant c k h))
+                    (book-new Constant suc (numberBy r) (madeOnly h) (fieldNumber (g .memory) m) (fieldNumber v (suc m)) m y e
+                    (mark-after v m c ∙ field-same ready c constantNumberField (suc m) (let a = kept .long in omega arith) ∙ ap suc d) other (n .constants));
                 fewVariables = omega arith;
                 fewConstants = omega arith;
-              }) (constant-new limit g c f there (omega arith))
+              }) (constant-new acts limit g c f there (omega arith))
 
       -- A symbol is shown.
       write-numbered : (y : Symbol) (h : List Symbol) (g : Printer) → Right w next acts y
           → (seen y h ≡ false → numberBy r y ≡ countOf y h) → g .cursor .at ≤ limit
-          → Numbered h (g .memory) (g .cursor) → Shown limit y h g (showSymbol limit g y)
+          → Numbered h (g .memory) (g .cursor) → Shown limit y h g (showSymbol acts limit g y)
       unfolding showSymbol
       write-numbered (made c k) h g right due l n = write-constant c k h g right due l n
       write-numbered (leftover x k) h g right due l n = write-variable x k h g right due l n
@@ -444,7 +468,7 @@ module _ (w : List ℕ) (next acts : ℕ) where
       -- From token to token.
       pub steps-numbered : (ks : List Token) (h : List Symbol) (g : Printer) → All (Right w next acts) (signs ks) → Due r h (signs ks)
           → (g .cursor .at ≤ limit → Numbered h (g .memory) (g .cursor))
-          → Wrote limit ks h g (steps limit ks g)
+          → Wrote limit ks h g (steps acts limit ks g)
       unfolding steps signs spelled writeBytes Due step emitTo wrote withPosition
       steps-numbered [] h g right due n =
           record {
@@ -463,23 +487,23 @@ module _ (w : List ℕ) (next acts : ℕ) where
         where
           go : (c : Bool) → ltb limit (g .cursor .at) ≡ c
               → ((f : Printer) → (f .cursor .at ≤ limit → Numbered (h ++ (y ∷ [])) (f .memory) (f .cursor))
-              → Wrote limit ks (h ++ (y ∷ [])) f (steps limit ks f))
-              → Wrote limit (sign y ∷ ks) h g (steps limit ks (cond c g (showSymbol limit g y)))
+              → Wrote limit ks (h ++ (y ∷ [])) f (steps acts limit ks f))
+              → Wrote limit (sign y ∷ ks) h g (steps acts limit ks (cond c g (showSymbol acts limit g y)))
           go true e f =
               let over = ltb-true limit (g .cursor .at) e in
-              subst (Wrote limit (sign y ∷ ks) h g) (sym (steps-over limit ks g over)) (record {
+              subst (Wrote limit (sign y ∷ ks) h g) (sym (steps-over acts limit ks g over)) (record {
                 bytes = sym (bytes-over (spelled r (sign y ∷ ks)) (g .buffer) limit (g .cursor .at) over);
                 numbered = λ l. absurd (omega arith);
               })
           go false e f =
               let l = ltb-false limit (g .cursor .at) e in
-              let g′ = showSymbol limit g y in
+              let g′ = showSymbol acts limit g y in
               let s = write-numbered room few limit low small y h g (right .0) (due .0) l (n l) in
               let i = f g′ (λ k. s .numbered) in
               record {
                 bytes = i .bytes ∙ ap (λ (x : Written). writeBytes (spelled r ks) (x .buffer) limit (x .at)) (s .bytes)
                     ∙ sym (bytes-append (spellSymbol (rename r y)) (spelled r ks) (g .buffer) limit (g .cursor .at));
                 numbered =
-                    λ k. subst (λ (l : List Symbol). Numbered l (steps limit ks g′ .memory) (steps limit ks g′ .cursor))
+                    λ k. subst (λ (l : List Symbol). Numbered l (steps acts limit ks g′ .memory) (steps acts limit ks g′ .cursor))
                     (append-assoc h (y ∷ []) (signs ks)) (i .numbered k);
               }

@@ -30,7 +30,7 @@ use Rattle.machine.specs.Records.{Made, provedMode}
 use Rattle.machine.specs.Simulation.{StandsAt}
 use Rattle.printing.specs.declared.Cursor.{Cursor}
 use Rattle.printing.specs.Output.{Written, written, emit, writeBytes}
-use Rattle.printing.specs.Numbering.{Printer, printer}
+use Rattle.printing.specs.Numbering.{constantMark, Printer, printer}
 use Rattle.sheet_format.specs.Limits.{maxTextBytes}
 use Rattle.printing.specs.WriteLines.{resultTo, bindingsTo}
 use Rattle.printing.specs.Writer.{textLimit, noRoom, startCursor, proofPass, prepare, firstLink, Answered, answered, ownBytes}
@@ -176,7 +176,7 @@ module _ (sheet t : List ℕ) (symbols nodes clauses goal : ℕ) (table : WellMa
   abbrev order : List PathLine
   order = reverse (pathLines acts w (m .registers .path) (m .registers .line))
 
-  -- The prepared memory has the links and no numbers.
+  -- The prepared memory has the links.
   ready : Prepared w (s .next) acts (prepare m) (firstLink m) order
   ready = prepared m (s .next) (o .room) (o .pointer) (o .path)
 
@@ -244,7 +244,7 @@ module _ (sheet t : List ℕ) (symbols nodes clauses goal : ℕ) (table : WellMa
 
   -- The first pass begins with no number.
   first-numbered : Numbered w (s .next) acts renaming 0 [] (prepare m) startCursor
-  unfolding madeOnly leftoverOnly firsts has cellNumber fieldNumber Variable Constant Right
+  unfolding madeOnly leftoverOnly firsts has cellNumber fieldNumber constantMark Variable Constant Right
   first-numbered = record {
     alike = ready .alike;
     variables = record { marks = λ z r. variable z r; counts = refl };
@@ -257,8 +257,8 @@ module _ (sheet t : List ℕ) (symbols nodes clauses goal : ℕ) (table : WellMa
       variable (made c k) r = refl
       variable (leftover x k) r = ready .cells x ∙ r .1
 
-      constant : (z : Symbol) → Constant w (s .next) acts z → fieldNumber (prepare m) z ≡ 0
-      constant (made c k) r = ready .cleared c (r .0)
+      constant : (z : Symbol) → Constant w (s .next) acts z → fieldNumber (prepare m) 0 z ≡ 0
+      constant (made c k) r = refl
       constant (leftover x k) r = refl
 
   -- The pass.
@@ -267,7 +267,7 @@ module _ (sheet t : List ℕ) (symbols nodes clauses goal : ℕ) (table : WellMa
 
   -- The tokens of the text.
   abbrev spelling : List ℕ → Printer
-  spelling out = steps (textLimit out) (tokens ds lines) (printer (prepare m) ownBytes startCursor)
+  spelling out = steps acts (textLimit out) (tokens ds lines) (printer (prepare m) ownBytes startCursor)
 
   -- The pass goes through the tokens.
   writing-reached : (out : List ℕ) → Reached sheet t symbols nodes w acts s basis (textLimit out) (limit-low out) (tokens ds lines)
@@ -290,13 +290,13 @@ module _ (sheet t : List ℕ) (symbols nodes clauses goal : ℕ) (table : WellMa
   writing-long : (out : List ℕ) → textLimit out < writing out .cursor .at → textLimit out < length text
   writing-long out h =
       counted-long out text ownBytes (spelling out .cursor .at) (spelling-end out)
-      (reaches-past w (textLimit out) (tokens ds lines) (printer (prepare m) ownBytes startCursor) (writing out)
+      (reaches-past w acts (textLimit out) (tokens ds lines) (printer (prepare m) ownBytes startCursor) (writing out)
       (writing-reached out .reaches) h)
 
   -- One that ends within the limit has gone through the whole text.
   writing-whole : (out : List ℕ) → writing out .cursor .at ≤ textLimit out → writing out ≡ spelling out
   writing-whole out h =
-      reaches-within w (textLimit out) (tokens ds lines) (printer (prepare m) ownBytes startCursor) (writing out)
+      reaches-within w acts (textLimit out) (tokens ds lines) (printer (prepare m) ownBytes startCursor) (writing out)
       (writing-reached out .reaches) h
 
   -- A text that ends within the limit fits.

@@ -7,7 +7,7 @@ use mathlib.Core.List.{List, [], _∷_, _++_, map, reverse, reverseAux}
 use mathlib.Core.Logic.{_⊎_, inl, inr}
 use lib.Dec.{eqb}
 use lib.ListN.{length}
-use borrow.Author.Tests.{eqb-true, eqb-false, eq-eqb, ne-eqb}
+use borrow.Author.Tests.{eq-eqb, ne-eqb}
 use Rattle.terms.specs.Lists.{All}
 use Rattle.terms.proofs.Lists.{all-weaken}
 use Rattle.sequents.specs.Sequents.{Line, putLine}
@@ -20,18 +20,18 @@ use Rattle.answer_texts.specs.TextLines.{TextLine, derivationLine}
 use Rattle.machine.specs.Fields as fields
 use Rattle.machine.specs.Records.{cellOf, Made}
 use Rattle.machine.specs.Reading.{lineAt, pathFrom}
-use Rattle.printing.specs.Numbering.{Printer, constantNumberField}
+use Rattle.printing.specs.Numbering.{Printer}
 use Rattle.printing.specs.WriteLines.{lineTo, linesTo}
-use Rattle.printing.specs.PathLinks.{linkWord, Linked, linked, linkPath, clearConstants, nextLineField}
+use Rattle.printing.specs.PathLinks.{linkWord, Linked, linked, linkPath, nextLineField}
 use Rattle.printing.specs.Writer.{prepare, firstLink}
 use Rattle.printing.specs.Written.{LineMade, PathMade}
 use Rattle.machine.proofs.Records.{cell-put}
 use Rattle.printing.proofs.Tokens.{lineTokens, textTokens, tokens}
-use Rattle.printing.proofs.LeftAlone.{Alike, alike-refl, alike-trans, alike-fewer, alike-put}
+use Rattle.printing.proofs.LeftAlone.{Alike, alike-refl, alike-trans, alike-put}
 use Rattle.printing.proofs.Words.{link-pointer, link-line}
 use Rattle.printing.proofs.TermSteps.{Basis}
 use Rattle.printing.proofs.LineSteps.{Reached, reach-alike, reach-kept, reach-none, reach-then, reach-line-at}
-use Rattle.memory.proofs.Records.{length-put, field-same, record-other}
+use Rattle.memory.proofs.Records.{field-same, record-other}
 use Rattle.memory.specs.Records.{field, putField}
 
 -- A line of the path: the pointer to its record, and which line it is.
@@ -105,20 +105,6 @@ module _ (w : List ℕ) (next acts : ℕ) where
       (e ≡ linkWord (x .pointer) (x .line)) × (1 ≤ x .pointer) × (x .pointer ≤ acts) × LineMade w next (x .pointer - 1) (x .line)
       × Chain v (field v (x .pointer - 1) nextLineField) l
 
-  -- A chain depends on the links only.
-  pub chain-same : (v v′ : List ℕ) → ((u : ℕ) → field v′ u nextLineField ≡ field v u nextLineField) → (e : ℕ) (l : List PathLine)
-      → Chain v e l → Chain v′ e l
-  unfolding Chain
-  chain-same v v′ f e [] c = c
-  chain-same v v′ f e (x ∷ l) c = (
-    c .0,
-    c .1,
-    c .2,
-    c .3,
-    subst (λ (d : ℕ). Chain v′ d l) (sym (f (x .pointer - 1)))
-        (chain-same v v′ f (field v (x .pointer - 1) nextLineField) l (c .4)),
-  )
-
   -- Writing the link of an earlier record leaves a chain.
   chain-put : (v : List ℕ) (p a : ℕ) → 1 ≤ p → (e : ℕ) (l : List PathLine) → All (λ x. p < x .pointer) l → Chain v e l
       → Chain (putField v (p - 1) nextLineField a) e l
@@ -183,37 +169,6 @@ module _ (w : List ℕ) (next acts : ℕ) where
           )
           (record { chain = r .chain; alike = alike-trans 62 v _ _ g (r .alike) })
 
-  -- The numbers of constants are cleared: the links stay.
-  clear-alike : (n : ℕ) (v : List ℕ) → Alike 63 v (clearConstants n v)
-  unfolding clearConstants
-  clear-alike zero v = alike-refl 63 v
-  clear-alike (suc n) v =
-      alike-trans 63 v (putField v n constantNumberField 0) _ (alike-put 63 v n 63 0 (omega arith) (omega arith) (omega arith))
-      (clear-alike n (putField v n constantNumberField 0))
-
-  -- They are 0 then.
-  clear-beyond : (n : ℕ) (v : List ℕ) (c : ℕ) → n ≤ c → field (clearConstants n v) c constantNumberField ≡ field v c constantNumberField
-  unfolding clearConstants
-  clear-beyond zero v c h = refl
-  clear-beyond (suc n) v c h =
-      clear-beyond n (putField v n constantNumberField 0) c (omega arith)
-      ∙ record-other v n constantNumberField c constantNumberField 0 (omega arith) (omega arith) (λ q. omega arith)
-
-  -- The numbers of all constants below n are 0 after clearing.
-  clear-zero : (n : ℕ) (v : List ℕ) (c : ℕ) → numbersPerUnit * n ≤ length v → c < n → field (clearConstants n v) c constantNumberField ≡ 0
-  unfolding clearConstants
-  clear-zero zero v c r h = absurd (omega arith)
-  clear-zero (suc n) v c r h = go (eqb c n) refl (clear-zero n (putField v n constantNumberField 0) c)
-    where
-      go : (b : Bool) → eqb c n ≡ b → (numbersPerUnit * n ≤ length (putField v n constantNumberField 0) → c < n
-          → field (clearConstants n (putField v n constantNumberField 0)) c constantNumberField ≡ 0)
-          → field (clearConstants n (putField v n constantNumberField 0)) c constantNumberField ≡ 0
-      go true e f =
-          let q = eqb-true c n e in clear-beyond n (putField v n constantNumberField 0) c (omega arith)
-          ∙ ap (λ (d : ℕ). field (putField v n constantNumberField 0) d constantNumberField) q
-          ∙ field-same v n constantNumberField 0 (omega arith)
-      go false e f = let q = eqb-false c n e in f (let l = length-put v n constantNumberField 0 in omega arith) (omega arith)
-
 -- No cell is written.
 link-cells : (n : ℕ) (v : List ℕ) (p k e x : ℕ) → cellOf (linkPath n v p k e .memory) x ≡ cellOf v x
 unfolding linkPath
@@ -230,19 +185,11 @@ link-cells (suc n) v p k e x =
     go true h = refl
     go false h = h ∙ cell-put v x (p - 1) nextLineField e (omega arith) (omega arith)
 
--- Clearing the numbers of constants writes no cell.
-clear-cells : (n : ℕ) (v : List ℕ) (x : ℕ) → cellOf (clearConstants n v) x ≡ cellOf v x
-unfolding clearConstants
-clear-cells zero v x = refl
-clear-cells (suc n) v x =
-    clear-cells n (putField v n constantNumberField 0) x ∙ cell-put v x n constantNumberField 0 (omega arith) (omega arith)
-
 -- What the writer finds when its passes begin.
 pub record Prepared (w : List ℕ) (next acts : ℕ) (v : List ℕ) (e : ℕ) (l : List PathLine) : Type 0 where
   pub alike : Alike 62 w v
   pub cells : (x : ℕ) → cellOf v x ≡ cellOf w x
   pub chain : Chain w next acts v e l
-  pub cleared : (c : ℕ) → c < acts → field v c constantNumberField ≡ 0
 
 -- The preparation makes it so.
 pub prepared : (m : Made) (next : ℕ) → numbersPerUnit * m .registers .acts ≤ length (m .memory) → m .registers .path ≤ m .registers .acts
@@ -253,16 +200,11 @@ unfolding prepare firstLink Chain
 prepared m next room h path =
     let acts = m .registers .acts in
     let w = m .memory in
-    let r = linkPath acts w (m .registers .path) (m .registers .line) 0 in
     let j = link-chain w next acts acts w (m .registers .path) (m .registers .line) 0 [] room (alike-refl 62 w) path h tt refl in
-    let c = clear-alike w next acts acts (r .memory) in
     record {
-      alike = alike-trans 62 w (r .memory) _ (j .alike) (alike-fewer 63 62 (r .memory) _ (omega arith) c);
-      cells = λ x. clear-cells acts (r .memory) x ∙ link-cells acts w (m .registers .path) (m .registers .line) 0 x;
-      chain =
-          chain-same w next acts (r .memory) (clearConstants acts (r .memory)) (λ u. c .fields u 62 (omega arith) (omega arith))
-          (r .first) (reverse (pathLines acts w (m .registers .path) (m .registers .line))) (j .chain);
-      cleared = λ d l. clear-zero w next acts acts (r .memory) d (let y = j .alike .long in omega arith) l;
+      alike = j .alike;
+      cells = λ x. link-cells acts w (m .registers .path) (m .registers .line) 0 x;
+      chain = j .chain;
     }
 
 -- The writer writes one line and then the lines after it.

@@ -18,12 +18,13 @@ use Rattle.machine.specs.Words.{truncate, increment, tagOf}
 use Rattle.printing.specs.declared.Cursor.{Cursor}
 use Rattle.printing.specs.Output.{writeSymbol}
 use Rattle.printing.specs.Numbering.{withPosition, withVariables, withConstants, Printer, wrote, numberedMemory, numberVariable}
-use Rattle.printing.specs.Numbering.{numberConstant, writeVariable, writeConstant, constantNumberField}
+use Rattle.printing.specs.Numbering.{clearAtFirst, constantMark, numberConstant, writeVariable, writeConstant, constantNumberField}
 use Rattle.printing.specs.WriteTerms.{emitTo}
 use Rattle.printing.proofs.Bytes.{symbol-bytes, bytes-grow}
 use Rattle.printing.proofs.PrinterStates.{emitted, printer-grow}
 use Rattle.printing.proofs.Tokens.{Token, byte, sign, showSymbol, step, steps, signs}
 use Rattle.printing.proofs.LeftAlone.{there-from, Alike, alike-refl, alike-trans, alike-fewer, alike-put, alike-number}
+use Rattle.printing.proofs.Clearing.{first-alike}
 use Rattle.memory.specs.Records.{field, putField}
 
 -- A symbol leaves the position where it is until its bytes are written.
@@ -38,12 +39,12 @@ number-at w p x = go (eqb (cellOf w x) 0)
     go false = refl
 
 -- Numbering a constant leaves the position where it is.
-pub number-constant-at : (w : List ℕ) (p : Cursor) (c : ℕ) → numberConstant w p c .cursor .at ≡ p .at
+pub number-constant-at : (turns : ℕ) (w : List ℕ) (p : Cursor) (c : ℕ) → numberConstant turns w p c .cursor .at ≡ p .at
 unfolding numberConstant withConstants
-number-constant-at w p c = go (eqb (field w c constantNumberField) 0)
+number-constant-at turns w p c = go (eqb (constantMark w (p .constants) c) 0)
   where
     go : (b : Bool)
-        → cond b (numberedMemory (putField w c constantNumberField (increment (p .constants)))
+        → cond b (numberedMemory (putField (clearAtFirst turns w (p .constants)) c constantNumberField (increment (p .constants)))
         (withConstants p (increment (p .constants)))) (numberedMemory w p) .cursor .at ≡ p .at
     go true = refl
     go false = refl
@@ -54,26 +55,26 @@ symbol-grow out limit at a c n k l e =
     rw (symbol-bytes out limit a c n k) (let r = bytes-grow (c ∷ (decimal n ++ (code "@" ∷ decimal k))) out limit a l in omega arith)
 
 -- The position never falls when a symbol is shown.
-pub write-grow : (limit : ℕ) (g : Printer) (s : Symbol) → limit ≤ 65535 → g .cursor .at ≤ showSymbol limit g s .cursor .at
+pub write-grow : (turns limit : ℕ) (g : Printer) (s : Symbol) → limit ≤ 65535 → g .cursor .at ≤ showSymbol turns limit g s .cursor .at
 unfolding showSymbol writeVariable writeConstant wrote withPosition
-write-grow limit g (leftover x k) l = symbol-grow (g .buffer) limit (g .cursor .at) _ _ _ _ l (number-at (g .memory) (g .cursor) x)
-write-grow limit g (made c k) l = symbol-grow (g .buffer) limit (g .cursor .at) _ _ _ _ l (number-constant-at (g .memory) (g .cursor) c)
+write-grow turns limit g (leftover x k) l = symbol-grow (g .buffer) limit (g .cursor .at) _ _ _ _ l (number-at (g .memory) (g .cursor) x)
+write-grow turns limit g (made c k) l = symbol-grow (g .buffer) limit (g .cursor .at) _ _ _ _ l (number-constant-at turns (g .memory) (g .cursor) c)
 
 -- The position never falls at a token.
-pub step-grow : (limit : ℕ) (g : Printer) (k : Token) → limit ≤ 65535 → g .cursor .at ≤ step limit g k .cursor .at
+pub step-grow : (turns limit : ℕ) (g : Printer) (k : Token) → limit ≤ 65535 → g .cursor .at ≤ step turns limit g k .cursor .at
 unfolding step
-step-grow limit g (byte b) l = rw (emitted limit g b) (printer-grow limit g (b ∷ []) l)
-step-grow limit g (sign s) l = go (ltb limit (g .cursor .at))
+step-grow turns limit g (byte b) l = rw (emitted limit g b) (printer-grow limit g (b ∷ []) l)
+step-grow turns limit g (sign s) l = go (ltb limit (g .cursor .at))
   where
-    go : (b : Bool) → g .cursor .at ≤ cond b g (showSymbol limit g s) .cursor .at
+    go : (b : Bool) → g .cursor .at ≤ cond b g (showSymbol turns limit g s) .cursor .at
     go true = omega arith
-    go false = write-grow limit g s l
+    go false = write-grow turns limit g s l
 
 -- The position never falls at any number of tokens.
-pub steps-grow : (limit : ℕ) (ks : List Token) (g : Printer) → limit ≤ 65535 → g .cursor .at ≤ steps limit ks g .cursor .at
+pub steps-grow : (turns limit : ℕ) (ks : List Token) (g : Printer) → limit ≤ 65535 → g .cursor .at ≤ steps turns limit ks g .cursor .at
 unfolding steps
-steps-grow limit [] g l = omega arith
-steps-grow limit (k ∷ ks) g l = let a = step-grow limit g k l in let b = steps-grow limit ks (step limit g k) l in omega arith
+steps-grow turns limit [] g l = omega arith
+steps-grow turns limit (k ∷ ks) g l = let a = step-grow turns limit g k l in let b = steps-grow turns limit ks (step turns limit g k) l in omega arith
 
 -- A number's word has tag 0.
 number-tag : (n : ℕ) → tagOf (truncate (4 * n)) ≡ 0
@@ -89,7 +90,7 @@ module _ (w : List ℕ) (next acts : ℕ) where
   module _ (room : numbersPerUnit * acts ≤ length w) (few : next ≤ 9 * acts) where
     -- A symbol leaves the memory alike.
     write-alike : (limit : ℕ) (g : Printer) (s : Symbol) → Right s → Alike 62 w (g .memory)
-        → Alike 63 (g .memory) (showSymbol limit g s .memory)
+        → Alike 63 (g .memory) (showSymbol acts limit g s .memory)
     unfolding Right showSymbol writeVariable writeConstant wrote numberVariable numberConstant tagOf
     write-alike limit g (leftover x k) r a = go (eqb (cellOf (g .memory) x) 0) refl
       where
@@ -102,34 +103,39 @@ module _ (w : List ℕ) (next acts : ℕ) where
             (there-from acts x (g .memory) (let l = a .long in omega arith) (let h = r .0 in omega arith))
             (ap tagOf (eqb-true (cellOf (g .memory) x) 0 e)) (number-tag (increment (g .cursor .variables)))
         go false e = alike-refl 63 (g .memory)
-    write-alike limit g (made c k) r a = go (eqb (field (g .memory) c constantNumberField) 0)
+    write-alike limit g (made c k) r a = go (eqb (constantMark (g .memory) (g .cursor .constants) c) 0)
       where
+        v : List ℕ
+        v = clearAtFirst acts (g .memory) (g .cursor .constants)
+
         go : (b : Bool)
             → Alike 63 (g .memory)
-            (cond b (numberedMemory (putField (g .memory) c constantNumberField (increment (g .cursor .constants)))
+            (cond b (numberedMemory (putField v c constantNumberField (increment (g .cursor .constants)))
             (withConstants (g .cursor) (increment (g .cursor .constants)))) (numberedMemory (g .memory) (g .cursor)) .memory)
-        go true = alike-put 63 (g .memory) c 63 (increment (g .cursor .constants)) (omega arith) (omega arith) (omega arith)
+        go true =
+            alike-trans 63 (g .memory) v _ (first-alike acts (g .memory) (g .cursor .constants))
+            (alike-put 63 v c 63 (increment (g .cursor .constants)) (omega arith) (omega arith) (omega arith))
         go false = alike-refl 63 (g .memory)
 
     -- A token leaves the memory alike.
     pub step-alike : (limit : ℕ) (g : Printer) (k : Token) → All Right (signs (k ∷ [])) → Alike 62 w (g .memory)
-        → Alike 63 (g .memory) (step limit g k .memory)
+        → Alike 63 (g .memory) (step acts limit g k .memory)
     unfolding step signs emitTo wrote
     step-alike limit g (byte b) r a = alike-refl 63 (g .memory)
     step-alike limit g (sign s) r a = go (ltb limit (g .cursor .at))
       where
-        go : (b : Bool) → Alike 63 (g .memory) (cond b g (showSymbol limit g s) .memory)
+        go : (b : Bool) → Alike 63 (g .memory) (cond b g (showSymbol acts limit g s) .memory)
         go true = alike-refl 63 (g .memory)
         go false = write-alike limit g s (r .0) a
 
     -- Any number of tokens leaves the memory alike.
     pub steps-alike : (limit : ℕ) (ks : List Token) (g : Printer) → All Right (signs ks) → Alike 62 w (g .memory)
-        → Alike 63 (g .memory) (steps limit ks g .memory)
+        → Alike 63 (g .memory) (steps acts limit ks g .memory)
     unfolding steps signs step emitTo wrote
     steps-alike limit [] g r a = alike-refl 63 (g .memory)
-    steps-alike limit (byte b ∷ ks) g r a = steps-alike limit ks (step limit g (byte b)) r a
+    steps-alike limit (byte b ∷ ks) g r a = steps-alike limit ks (step acts limit g (byte b)) r a
     steps-alike limit (sign s ∷ ks) g r a =
         let b = step-alike limit g (sign s) (r .0, tt) a in
-        alike-trans 63 (g .memory) (step limit g (sign s) .memory) _ b
-        (steps-alike limit ks (step limit g (sign s)) (r .1)
+        alike-trans 63 (g .memory) (step acts limit g (sign s) .memory) _ b
+        (steps-alike limit ks (step acts limit g (sign s)) (r .1)
         (alike-trans 62 w (g .memory) _ a (alike-fewer 63 62 (g .memory) _ (omega arith) b)))

@@ -1,6 +1,7 @@
 -- Numbering by first showing, in memory. The number of a leftover variable, plus 1, stands in its own binding as a word of tag 0;
--- that of a made constant, plus 1, in a field of the record of the act that made it. 0 is: not shown yet.
-use Prim.Native.Nat.{ℕ, _-_, _*_, _/_}
+-- that of a made constant, plus 1, in a field of the record of the act that made it. 0 is: not shown yet. What the search left in
+-- these fields is cleared when the first constant is shown; most texts show none.
+use Prim.Native.Nat.{ℕ, zero, suc, _-_, _*_, _/_}
 use Prim.Native.Char.{code}
 use mathlib.Core.Bool.{cond}
 use mathlib.Core.List.{List}
@@ -57,11 +58,25 @@ numberVariable w p x =
     cond (eqb (cellOf w x) 0) (numberedMemory (putCell w x (truncate (tagCount * increment (p .variables))))
     (withVariables p (increment (p .variables)))) (numberedMemory w p)
 
+-- Field 63 of the first n records: no constant has shown.
+unfoldable pub clearConstants : ℕ → List ℕ → List ℕ
+clearConstants zero w = w
+clearConstants (suc n) w = clearConstants n (putField w n constantNumberField 0)
+
+-- The number of constant c, plus 1, where n constants have shown. Before the first the fields mean nothing.
+unfoldable pub constantMark : List ℕ → ℕ → ℕ → ℕ
+constantMark w n c = cond (eqb n 0) 0 (field w c constantNumberField)
+
+-- The fields are made ready for one constant more, where n have shown: before the first those of all acts are cleared.
+unfoldable pub clearAtFirst : ℕ → List ℕ → ℕ → List ℕ
+clearAtFirst turns w n = cond (eqb n 0) (clearConstants turns w) w
+
 -- A constant gets the next number, if it has none yet.
-unfoldable pub numberConstant : List ℕ → Cursor → ℕ → NumberedMemory
-numberConstant w p c =
-    cond (eqb (field w c constantNumberField) 0)
-    (numberedMemory (putField w c constantNumberField (increment (p .constants))) (withConstants p (increment (p .constants))))
+unfoldable pub numberConstant : ℕ → List ℕ → Cursor → ℕ → NumberedMemory
+numberConstant turns w p c =
+    cond (eqb (constantMark w (p .constants) c) 0)
+    (numberedMemory (putField (clearAtFirst turns w (p .constants)) c constantNumberField (increment (p .constants)))
+    (withConstants p (increment (p .constants))))
     (numberedMemory w p)
 
 -- A symbol is shown: its number, and its final level.
@@ -72,9 +87,9 @@ writeVariable limit g x =
     (writeSymbol (g .buffer) limit (m .cursor .at) (code "_") (cellOf (m .memory) x / tagCount - 1) (levelOf (m .memory) x))
 
 -- A constant is shown: its number, and its level.
-unfoldable pub writeConstant : ℕ → Printer → ℕ → Printer
-writeConstant limit g c =
-    let m = numberConstant (g .memory) (g .cursor) c in
+unfoldable pub writeConstant : ℕ → ℕ → Printer → ℕ → Printer
+writeConstant turns limit g c =
+    let m = numberConstant turns (g .memory) (g .cursor) c in
     wrote (printer (m .memory) (g .buffer) (m .cursor))
     (writeSymbol (g .buffer) limit (m .cursor .at) (code "!") (field (m .memory) c constantNumberField - 1)
     (field (m .memory) c fields.constantLevel))

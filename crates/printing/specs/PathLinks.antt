@@ -1,6 +1,5 @@
--- Before the passes: the path, which is linked latest line first, gets links in the order taken, and the numbers of constants are
--- cleared. After them: the numbers of variables are cleared, so that the search may go on. All in fields that the search leaves
--- free and in bindings that it left at 0.
+-- Before the passes: the path, which is linked latest line first, gets links in the order taken. After them: the numbers of
+-- variables are cleared, so that the search may go on. All in fields that the search leaves free and in bindings that it left at 0.
 use Prim.Native.Nat.{ℕ, zero, suc, _+_, _-_, _*_}
 use mathlib.Core.Bool.{true, false, cond}
 use mathlib.Core.List.{List}
@@ -8,7 +7,6 @@ use lib.Dec.{eqb}
 use Rattle.machine.specs.Fields as fields
 use Rattle.machine.specs.Records.{cellOf, putCell}
 use Rattle.machine.specs.Words.{truncate, tagOf}
-use Rattle.printing.specs.Numbering.{constantNumberField}
 use Rattle.memory.specs.Records.{field, putField}
 
 -- Field of a record that the search leaves free: the link to the line after that of the record.
@@ -42,11 +40,6 @@ linkPath (suc n) w p k e =
           linkPath n (putField w (p - 1) nextLineField e) (field w (p - 1) fields.pathBefore) (field w (p - 1) fields.pathLine)
           (linkWord p k)
     ]
-
--- Field 63 of the first n records: no constant has shown.
-unfoldable pub clearConstants : ℕ → List ℕ → List ℕ
-clearConstants zero w = w
-clearConstants (suc n) w = clearConstants n (putField w n constantNumberField 0)
 
 -- The first n variables: none has shown.
 unfoldable pub clearVariables : ℕ → List ℕ → List ℕ

@@ -52,25 +52,25 @@ applicationBy write sheet t limit g n f =
     elim (eqb (childCount t n) 0) [ true ↦ s | false ↦ bracketedBy write t limit (childCount t n) n f s ]
 
 -- The word a, looked through.
-unfoldable pub wordBy : (ℕ → Printer → ℕ → Printer) → List ℕ → List ℕ → ℕ → Printer → ℕ → Printer
-wordBy write sheet t limit g a = elim (eqb (tagOf a) variableTag) [
+unfoldable pub wordBy : (ℕ → Printer → ℕ → Printer) → List ℕ → List ℕ → ℕ → ℕ → Printer → ℕ → Printer
+wordBy write sheet t turns limit g a = elim (eqb (tagOf a) variableTag) [
   | true ↦ writeVariable limit g (nameOf a)
   | false ↦
       elim (eqb (tagOf a) constantTag) [
-        | true ↦ writeConstant limit g (nameOf a)
+        | true ↦ writeConstant turns limit g (nameOf a)
         | false ↦
             applicationBy write sheet t limit g (nodeOf a) (frameOf a)
       ]
 ]
 
--- The term of word a: at most `turns` bindings are looked through at a time.
+-- The term of word a: at most `turns` bindings are looked through at a time, and there are as many records of acts.
 unfoldable pub writeTerm : ℕ → List ℕ → List ℕ → ℕ → ℕ → Printer → ℕ → Printer
 writeTerm zero sheet t turns limit g a = g
 writeTerm (suc rank) sheet t turns limit g a =
     elim (ltb limit (g .cursor .at)) [
       | true ↦ g
       | false ↦
-          wordBy (writeTerm rank sheet t turns) sheet t limit g (deref turns (g .memory) a)
+          wordBy (writeTerm rank sheet t turns) sheet t turns limit g (deref turns (g .memory) a)
     ]
 
 -- A rank that suffices.

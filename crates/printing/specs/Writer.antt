@@ -13,7 +13,7 @@ use Rattle.printing.specs.declared.Cursor.{Cursor}
 use Rattle.printing.specs.Output.{Written, written, emit, writeBytes, writeNumber}
 use Rattle.printing.specs.Numbering.{Printer, printer}
 use Rattle.printing.specs.WriteLines.{resultTo, bindingsTo, linesTo}
-use Rattle.printing.specs.PathLinks.{linkPath, clearConstants}
+use Rattle.printing.specs.PathLinks.{linkPath}
 
 -- "The answer text is over 65,535 bytes or longer than the answer buffer": the most that fits.
 unfoldable pub textLimit : List ℕ → ℕ
@@ -33,10 +33,9 @@ proofPass sheet t turns limit goal units e g =
     linesTo sheet t turns limit turns
     (bindingsTo sheet t turns limit variableNames (maskOf t goal) 0 (resultTo limit g (ascii "R\tproved\t") units)) e
 
--- Forward links, and no numbers.
+-- Forward links.
 unfoldable pub prepare : Made → List ℕ
-prepare m =
-    clearConstants (m .registers .acts) (linkPath (m .registers .acts) (m .memory) (m .registers .path) (m .registers .line) 0 .memory)
+prepare m = linkPath (m .registers .acts) (m .memory) (m .registers .path) (m .registers .line) 0 .memory
 
 -- The link to the first line.
 unfoldable pub firstLink : Made → ℕ

@@ -51,12 +51,12 @@ module _ (limit : ℕ) (small : limit ≤ 65535) where
             (symbol-risen (g .buffer) (m .cursor .at) (code "_") (cellOf (m .memory) x / 4 - 1) (levelOf (m .memory) x));
       }
 
-  constant-risen : (g : Printer) (c : ℕ) → Risen g (writeConstant limit g c)
+  constant-risen : (turns : ℕ) (g : Printer) (c : ℕ) → Risen g (writeConstant turns limit g c)
   unfolding writeConstant wrote withPosition
-  constant-risen g c =
-      let m = numberConstant (g .memory) (g .cursor) c in
+  constant-risen turns g c =
+      let m = numberConstant turns (g .memory) (g .cursor) c in
       record {
-        position = from _ _ _ (number-constant-at (g .memory) (g .cursor) c)
+        position = from _ _ _ (number-constant-at turns (g .memory) (g .cursor) c)
             (symbol-risen (g .buffer) (m .cursor .at) (code "!") (field (m .memory) c constantNumberField - 1)
             (field (m .memory) c fields.constantLevel));
       }
@@ -105,11 +105,11 @@ module _ (sheet t : List ℕ) (limit : ℕ) (small : limit ≤ 65535) (write : �
       let named = functor-risen limit small sheet t g (labelOf t n) in
       risen-either g s _ (eqb (childCount t n) 0) named (risen-trans g s _ named (bracketed-risen (childCount t n) n f s))
 
-  word-risen : (g : Printer) (a : ℕ) → Risen g (wordBy write sheet t limit g a)
+  word-risen : (turns : ℕ) (g : Printer) (a : ℕ) → Risen g (wordBy write sheet t turns limit g a)
   unfolding wordBy
-  word-risen g a =
+  word-risen turns g a =
       risen-either g _ _ (eqb (tagOf a) variableTag) (variable-risen limit small g (nameOf a))
-      (risen-either g _ _ (eqb (tagOf a) constantTag) (constant-risen limit small g (nameOf a))
+      (risen-either g _ _ (eqb (tagOf a) constantTag) (constant-risen limit small turns g (nameOf a))
       (application-risen g (nodeOf a) (frameOf a)))
 
 term-risen : (rank : ℕ) (sheet t : List ℕ) (turns : ℕ) → Rising (writeTerm rank sheet t turns)
@@ -117,7 +117,7 @@ unfolding writeTerm
 term-risen zero sheet t turns limit small g a = risen-same g
 term-risen (suc rank) sheet t turns limit small g a =
     risen-either g g _ (ltb limit (g .cursor .at)) (risen-same g)
-    (word-risen sheet t limit small (writeTerm rank sheet t turns) (term-risen rank sheet t turns) g (deref turns (g .memory) a))
+    (word-risen sheet t limit small (writeTerm rank sheet t turns) (term-risen rank sheet t turns) turns g (deref turns (g .memory) a))
 
 -- The same of what the code's calls gave.
 after : (g s u : Printer) → Risen g s → u ≡ s → g .cursor .at ≤ u .cursor .at

@@ -1,4 +1,4 @@
-// Links between the lines of the path, and the lent work buffer cleared of numbers before a pass.
+// Links between the lines of the path, and the lent work buffer cleared of the numbers of variables.
 // Each function is a definition of the crate printing, and its contract says so.
 use machine::fields;
 use machine_memory::cells::cell_of;
@@ -15,7 +15,7 @@ ghost use Prim.Native.Nat.{_+_, _<_};
 ghost use lib.Dec.{eqb};
 ghost use Rattle.machine.specs.Records.{cellOf, putCell};
 ghost use Rattle.machine.specs.Words.{tagOf};
-ghost use Rattle.printing.specs.PathLinks.{linkWord, linked, linkPath, clearConstants, clearVariables};
+ghost use Rattle.printing.specs.PathLinks.{linkWord, linked, linkPath, clearVariables};
 
 const LINE_CODES: usize = printing::LINE_CODES as usize;
 
@@ -48,17 +48,6 @@ pub fn link_path(n: u32, w: &mut [u32], p: u32, k: u32, e: u32) -> u32
         left -= 1;
     }
     link
-}
-
-// The first n records: no constant has shown.
-pub fn clear_constants(n: u32, w: &mut [u32])
-    ensures { λ _. ⌜ now (w .exit) ≡ clearConstants n (now (w .entry)) ⌝ }
-{
-    let mut left = n;
-    while 0 < left {
-        left -= 1;
-        put_field(w, left, printing::fields::CONSTANT_NUMBER, 0);
-    }
 }
 
 // Variable x has not shown.

@@ -24,10 +24,18 @@ pub fn write_variable(limit: u32, w: &mut [u32], out: &mut [u8], p: Cursor, x: u
     with_position(m, to)
 }
 
-pub fn write_constant(limit: u32, w: &mut [u32], out: &mut [u8], p: Cursor, c: u32) -> Cursor
-    ensures { λ q. ⌜ printer (now (w .exit)) (now (out .exit)) q ≡ writeConstant limit (printer (now (w .entry)) (now (out .entry)) p) c ⌝ }
+pub fn write_constant(
+    turns: u32,
+    limit: u32,
+    w: &mut [u32],
+    out: &mut [u8],
+    p: Cursor,
+    c: u32,
+) -> Cursor
+    ensures { λ q. ⌜ printer (now (w .exit)) (now (out .exit)) q ≡ writeConstant turns limit
+        (printer (now (w .entry)) (now (out .entry)) p) c ⌝ }
 {
-    let m = number_constant(w, p, c);
+    let m = number_constant(turns, w, p, c);
     let number = record_of(field(w, c, printing::fields::CONSTANT_NUMBER));
     let to = write_symbol(
         out,

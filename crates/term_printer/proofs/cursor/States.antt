@@ -15,12 +15,12 @@ use Rattle.term_printer.specs.declared.Bounds.{Bounds}
 
 -- A call took the cursor, and its cursor was put back.
 module _ (s s′ : List ℕ) (q : Cursor) (e : s′ ≡ stateOf q (boundsIn s)) where
-  pub cursor-put : (f : ℕ → Printer → Printer) (w w′ out out′ : List ℕ) (p : Cursor) → p ≡ cursorIn s
-      → printer w′ out′ q ≡ f (getD s 4 0) (printer w out p)
-      → printer w′ out′ (cursorIn s′) ≡ f (boundsIn s .limit) (printer w out (cursorIn s))
+  pub cursor-put : (f : ℕ → ℕ → Printer → Printer) (w w′ out out′ : List ℕ) (p : Cursor) → p ≡ cursorIn s
+      → printer w′ out′ q ≡ f (getD s 3 0) (getD s 4 0) (printer w out p)
+      → printer w′ out′ (cursorIn s′) ≡ f (boundsIn s .turns) (boundsIn s .limit) (printer w out (cursorIn s))
   unfolding cursorIn boundsIn stateOf
   cursor-put f w w′ out out′ p ep ef =
-      ap (λ (l : List ℕ). printer w′ out′ (cursorIn l)) e ∙ ef ∙ ap (λ (x : Cursor). f (getD s 4 0) (printer w out x)) ep
+      ap (λ (l : List ℕ). printer w′ out′ (cursorIn l)) e ∙ ef ∙ ap (λ (x : Cursor). f (getD s 3 0) (getD s 4 0) (printer w out x)) ep
 
   pub bounds-kept : boundsIn s′ ≡ boundsIn s
   unfolding boundsIn stateOf

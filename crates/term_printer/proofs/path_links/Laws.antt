@@ -10,8 +10,7 @@ use lib.Dec.{eqb}
 use Rattle.machine.specs.Fields as fields
 use Rattle.machine.specs.Records.{cellOf, putCell}
 use Rattle.machine.specs.Words.{truncate, tagOf}
-use Rattle.printing.specs.PathLinks.{linkWord, linked, linkPath, clearConstants, clearVariables, nextLineField}
-use Rattle.printing.specs.Numbering.{constantNumberField}
+use Rattle.printing.specs.PathLinks.{linkWord, linked, linkPath, clearVariables, nextLineField}
 use Rattle.memory.specs.Records.{field, putField}
 
 -- Links.
@@ -38,17 +37,6 @@ module _ (w : List ℕ) (p k e : ℕ) where
   link-on (suc n) u b l a w′ h z eu eb el ew ea = rw (sub-one (suc n), ea, ew, el, eb, eu) (simp (linkPath, ne-eqb _ _ z))
 
 -- No numbers.
-pub constants-end : (n : ℕ) (w : List ℕ) → n ≤ 0 → clearConstants n w ≡ w
-unfolding clearConstants
-constants-end zero w h = refl
-constants-end (suc n) w h = absurd (omega arith)
-
-pub constants-on : (n : ℕ) (w w′ : List ℕ) → 0 < n → w′ ≡ putField w (n - 1) constantNumberField 0
-    → clearConstants n w ≡ clearConstants (n - 1) w′
-unfolding clearConstants
-constants-on zero w w′ h e = absurd (omega arith)
-constants-on (suc n) w w′ h e = rw (e, sub-one (suc n))
-
 pub cell-kept : (w : List ℕ) (x b a : ℕ) → b ≡ cellOf w x → a ≡ tagOf b → (a ≡ 0 → ⊥)
     → w ≡ cond (eqb (tagOf (cellOf w x)) 0) (putCell w x 0) w
 cell-kept w x b a eb ea e = simp (← eb, ← ea, ne-eqb _ _ e)

@@ -17,8 +17,8 @@ module _ (w w′ out out′ : List ℕ) (limit x : ℕ) (p m q : Cursor) (k leve
   unfolding writeVariable wrote
   variable-written b em eb ek el es eq = rw eq (simp (writeVariable, wrote, ← em, ← eb, ← ek, ← el, ← es))
 
-  pub constant-written : (b : ℕ) → numberedMemory w′ m ≡ numberConstant w p x → b ≡ field w′ x constantNumberField → k ≡ b - 1
+  pub constant-written : (turns b : ℕ) → numberedMemory w′ m ≡ numberConstant turns w p x → b ≡ field w′ x constantNumberField → k ≡ b - 1
       → level ≡ field w′ x fields.constantLevel → written out′ to ≡ writeSymbol out limit (m .at) 33 k level → q ≡ withPosition m to
-      → printer w′ out′ q ≡ writeConstant limit (printer w out p) x
+      → printer w′ out′ q ≡ writeConstant turns limit (printer w out p) x
   unfolding writeConstant wrote
-  constant-written b em eb ek el es eq = rw eq (simp (writeConstant, wrote, ← em, ← eb, ← ek, ← el, ← es))
+  constant-written turns b em eb ek el es eq = rw eq (simp (writeConstant, wrote, ← em, ← eb, ← ek, ← el, ← es))

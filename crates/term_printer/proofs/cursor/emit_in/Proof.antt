@@ -9,7 +9,7 @@ returns c =
     let at-emit-to = c .before .before .before .before in
     let at-cursor-in = at-emit-to .before in
     let at-entry = at-cursor-in .before .before .before .before .before in (
-      λ m. cursor-put _ _ _ (c .put-cursor .ensures) (λ l g. emitTo l g (at-entry .args .b)) _ _ _ _ _ (at-cursor-in .cursor-in .ensures)
+      λ m. cursor-put _ _ _ (c .put-cursor .ensures) (λ n l g. emitTo l g (at-entry .args .b)) _ _ _ _ _ (at-cursor-in .cursor-in .ensures)
           (at-emit-to .emit-to .ensures m),
       bounds-kept _ _ _ (c .put-cursor .ensures),
     )

@@ -10,7 +10,7 @@ returns c =
     let at-cursor-in = at-write-functor .before in
     let at-entry = at-cursor-in .before .before .before .before .before .before .before in (
       λ m. cursor-put _ _ _ (c .put-cursor .ensures)
-          (λ l g. writeFunctor (at-entry .args .sheet .now) (at-entry .args .t .now) l g (at-entry .args .l)) _ _ _ _ _
+          (λ n l g. writeFunctor (at-entry .args .sheet .now) (at-entry .args .t .now) l g (at-entry .args .l)) _ _ _ _ _
           (at-cursor-in .cursor-in .ensures) (at-write-functor .write-functor .ensures m),
       bounds-kept _ _ _ (c .put-cursor .ensures),
     )

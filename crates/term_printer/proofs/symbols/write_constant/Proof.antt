@@ -9,7 +9,7 @@ returns c =
     let at-record-of = at-field2 .before .before .before in
     let at-field = at-record-of .before in
     let at-number-constant = at-field .before .before .before .before in
-    constant-written _ _ _ _ _ _ _ _ _ _ _ _ _ (at-number-constant .number-constant .ensures) (at-field .field .ensures)
+    constant-written _ _ _ _ _ _ _ _ _ _ _ _ _ _ (at-number-constant .number-constant .ensures) (at-field .field .ensures)
     (at-record-of .record-of .ensures) (at-field2 .field2 .ensures) (c .before .before .before .write-symbol .ensures)
     (c .with-position .ensures)
 

@@ -1,10 +1,10 @@
-use Rattle.term_printer.proofs.path_links.Laws.{constants-end, constants-on}
-use Rattle.printing.specs.PathLinks.{clearConstants}
+use Rattle.term_printer.proofs.numbering.Laws.{constants-end, constants-on}
+use Rattle.printing.specs.Numbering.{clearConstants}
 use borrow.Author.Needs.{needs}
 use lib.ListN.{length}
 use mathlib.Core.Path.{_∙_, _≡_, sym}
-use Rattle.term_printer.proofs.path_links.clear_constants.Statement.{statement}
-use Rattle.term_printer.proofs.path_links.clear_constants.Tie as tie
+use Rattle.term_printer.proofs.numbering.clear_constants.Statement.{statement}
+use Rattle.term_printer.proofs.numbering.clear_constants.Tie as tie
 
 abbrev Inv-loop : tie.InvT-loop
 Inv-loop n w₀ left₀ w left = (length w ≡ length w₀) × (clearConstants n w₀ ≡ clearConstants left w)
