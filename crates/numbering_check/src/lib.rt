@@ -16,7 +16,7 @@ use scanning::SymbolCounts;
 ghost use mathlib.Core.Path.{_≡_};
 ghost use mathlib.Core.Bool.{true};
 ghost use Prim.Native.Nat.{_+_, _-_, _≤_};
-ghost use lib.ListN.{getD};
+ghost use lib.ListN.{length, getD};
 ghost use Rattle.scanning.specs.Numbering.{
   isSymbol,
   numberAt,
@@ -114,11 +114,12 @@ fn check_symbol(text: &[u8], levels: &mut [u16], i: usize, m: u32, l: u32) -> Sy
 
 // The first position from i on, before e, where a symbol may begin; e if there is none.
 fn find_sigil(text: &[u8], i: usize, e: usize) -> usize
+    requires { ⌜ e ≤ length (now text) ⌝ }
     ensures { λ r. ⌜ r ≡ findSigil (e - i) (now (text .entry)) i ⌝ }
 {
     let mut at = i;
     while at < e {
-        let b = byte(text, at);
+        let b = text[at];
         if b == b'!' {
             return at;
         }
@@ -139,7 +140,7 @@ pub fn check_numbering(
     m: u32,
     l: u32,
 ) -> SymbolCounts
-    requires { ⌜ CacheValid (now text) (now levels) i m l ⌝ }
+    requires { ⌜ (e ≤ length (now text)) × CacheValid (now text) (now levels) i m l ⌝ }
     ensures { λ r. ⌜ (r ≡ checkNumbering (e - i) (now (text .entry)) i m l)
         × ValidAfter (now (text .entry)) (now (levels .exit)) e r ⌝ }
 {

@@ -60,7 +60,7 @@ pub fn stage_line(
 // The symbols in the line are numbered by first showing. The levels of first showings before the line are kept, and then those in it
 // too.
 pub fn count_line(text: &[u8], levels: &mut [u16], r: Registers, line: Line) -> Registers
-    requires { ⌜ CacheValid (now text) (now levels) (line .at) (r .made) (r .leftover) ⌝ }
+    requires { ⌜ (line .end ≤ length (now text)) × CacheValid (now text) (now levels) (line .at) (r .made) (r .leftover) ⌝ }
     ensures { λ s. ⌜ ((w : List ℕ) → made w s ≡ countLine (now (text .entry)) (made w r) (line .at) (line .end))
         × ValidUnlessBroken (now (text .entry)) (now (levels .exit)) (line .end) s ⌝ }
 {
@@ -72,7 +72,7 @@ pub fn count_line(text: &[u8], levels: &mut [u16], r: Registers, line: Line) -> 
 
 // Unless the line has broken already.
 pub fn order_line(text: &[u8], levels: &mut [u16], r: Registers, line: Line) -> Registers
-    requires { ⌜ CacheValid (now text) (now levels) (line .at) (r .made) (r .leftover) ⌝ }
+    requires { ⌜ (line .end ≤ length (now text)) × CacheValid (now text) (now levels) (line .at) (r .made) (r .leftover) ⌝ }
     ensures { λ s. ⌜ ((w : List ℕ) → made w s ≡ orderLine (now (text .entry)) (made w r) (line .at) (line .end))
         × ValidUnlessBroken (now (text .entry)) (now (levels .exit)) (line .end) s ⌝ }
 {

@@ -21,7 +21,7 @@ abbrev μ-loop : tie.MeasureT-loop
 loop-holds : tie.Need-loop-holds Inv-loop μ-loop
 loop-holds c =
     let start = c .before .before .before in
-    let h = sigil-passed (start .args .text .now) (start .args .levels .now) _ _ _ _ _ (c .find-sigil .ensures) (start .pre) in
+    let h = sigil-passed (start .args .text .now) (start .args .levels .now) _ _ _ _ _ (c .find-sigil .ensures) (start .pre .1) in
     (search needs, h .0, h .1)
 
 check-symbol-requires : tie.Need-check-symbol-requires Inv-loop μ-loop

@@ -46,8 +46,10 @@ slice-aggregate-order-line c =
 order-line-requires : tie.Need-order-line-requires Inv-loop μ-loop
 order-line-requires c κs =
     let at-stage-line = c .before .before .before in
-    let at-loop = at-stage-line .before .before .before in
-    staged-valid _ _ _ _ _ _ _ _ _ _ _ _ _ _ (at-stage-line .stage-line .ensures) (at-loop .loop .inv .6)
+    let at-loop-test = at-stage-line .before .before in (
+      omega (arith, at-loop-test .loop-test .taken),
+      staged-valid _ _ _ _ _ _ _ _ _ _ _ _ _ _ (at-stage-line .stage-line .ensures) (at-loop-test .before .loop .inv .6),
+    )
 
 returns : tie.Need-returns Inv-loop μ-loop
 returns c =
