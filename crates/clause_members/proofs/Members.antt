@@ -240,7 +240,8 @@ module _ (t : List ℕ) (nodes : ℕ) (table : Nodes t nodes) (Q : Clause → Ty
 
             bound : All (λ u. freeC (clauseAtNode t c) u ≡ false) (r .names)
             bound =
-                all-weaken (λ u. freeC (clauseAtNode t x) u ≡ false) (λ u. freeC (clauseAtNode t c) u ≡ false) bound-by (r .names) (r .bound)
+                all-weaken (λ u. freeC (clauseAtNode t x) u ≡ false) (λ u. freeC (clauseAtNode t c) u ≡ false) bound-by (r .names)
+                (r .bound)
 
             small : All (λ u. u < 8) (r .names)
             small = subst (All (λ u. u < 8)) (r .digits .is) (names-below (chainAt t x .count) (chainAt t x .names))
@@ -341,7 +342,8 @@ module _ (t : List ℕ) (nodes : ℕ) (table : Nodes t nodes) (Q : Clause → Ty
         free : All (λ v. freeC (clauseAtNode t y) v ≡ true) names
         free =
             all-append (λ v. freeC (clauseAtNode t y) v ≡ true) (keep p vs) (c .names)
-            (all-weaken (λ v. freeC (clauseAtNode t x) v ≡ true) (λ v. freeC (clauseAtNode t y) v ≡ true) (c .under .free) (keep p vs) kept-free)
+            (all-weaken (λ v. freeC (clauseAtNode t x) v ≡ true) (λ v. freeC (clauseAtNode t y) v ≡ true) (c .under .free) (keep p vs)
+            kept-free)
             (c .free)
 
         same : getElem? (members (clauseAtNode t n)) k ≡ Option·map (quantifyAll (namesOf (s .count) (s .names)))

@@ -9,8 +9,8 @@ use Rattle.node_table.specs.Chains.{belowOf, chainNames, chainCount, nameBefore
 use Rattle.clause_members.specs.declared.Found.{Found}
 use Rattle.clause_members.specs.declared.Side.{Side}
 
--- The leaf, the digits of the prefix's names, and how many there are. On the way down: the node that the walk has come to, and the names that
--- the U nodes above it bind.
+-- The leaf, the digits of the prefix's names, and how many there are. On the way down: the node that the walk has come to, and the names
+-- that the U nodes above it bind.
 abbrev pub found : ℕ → ℕ → ℕ → Found
 found leaf names count = record { leaf = leaf; names = names; count = count }
 
@@ -44,8 +44,8 @@ unfoldable pub reverseFree : ℕ → ℕ → ℕ → Found → Found
 reverseFree zero vs mask m = m
 reverseFree (suc n) vs mask m = reverseFree n (vs / variableNames) mask (pushFree mask (vs % variableNames) m)
 
--- The walk passes the U nodes from its node on. Of the names above them those that stand free there stay, in their order: any other is bound
--- again by a U below, or binds nothing.
+-- The walk passes the U nodes from its node on. Of the names above them those that stand free there stay, in their order: any other is
+-- bound again by a U below, or binds nothing.
 unfoldable pub passChain : List ℕ → Found → Found
 passChain t m =
     let r = reverseFree (m .count) (m .names) (maskOf t (m .leaf)) (found (m .leaf) 0 0) in

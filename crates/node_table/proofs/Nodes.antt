@@ -13,8 +13,8 @@ use Rattle.formulas.specs.Members.{members}
 use Rattle.sheet_format.specs.Limits.{maxSymbols}
 use Rattle.node_table.specs.Layout.{kindOf, labelOf, childOf, maskOf, bitOf, membersOf, arityOf, atomKind}
 use Rattle.node_table.specs.Decoding.{termAt, goalAt, clauseAtNode}
-use Rattle.node_table.specs.WellMade.{IsTerm, IsGoal, IsClause, labelArity, Arguments, Declared, Labelled, Named, TermNode, GoalNode, ChainNode}
-use Rattle.node_table.specs.WellMade.{ClauseNode}
+use Rattle.node_table.specs.WellMade.{IsTerm, IsGoal, IsClause, labelArity, Arguments, Declared, Labelled, Named, TermNode, GoalNode}
+use Rattle.node_table.specs.WellMade.{ChainNode, ClauseNode}
 use Rattle.node_table.proofs.Same.{Same, same-kind, same-count, same-label, same-child, same-mask, same-goal, same-members}
 use Rattle.node_table.proofs.Same.{same-size, same-arity, same-below, same-names, same-chain, same-names-over, same-count-over}
 use Rattle.node_table.proofs.Decoding.{Nodes, termAt-same, goalAt-same, clauseAt-same}

@@ -1,6 +1,6 @@
--- U nodes in a row. A U node keeps what the row from it on comes to, in the fields of the children that it has not: the first node below that
--- is no U node, and the names that the row binds there, outermost first, as digits to base 8, lowest first. A U binds nothing if its name
--- does not stand free below it, so that no name stands twice.
+-- U nodes in a row. A U node keeps what the row from it on comes to, in the fields of the children that it has not: the first node below
+-- that is no U node, and the names that the row binds there, outermost first, as digits to base 8, lowest first. A U binds nothing if its
+-- name does not stand free below it, so that no name stands twice.
 use Prim.Native.Nat.{ℕ, _+_, _*_, _%_}
 use mathlib.Core.Bool.{Bool, cond}
 use mathlib.Core.List.{List}

@@ -38,8 +38,8 @@ nameWordField = 1
 abbrev pub arityField : ℕ
 arityField = 2
 
--- Fields of a node: kind + 16 * number of children, the label (the symbol, the variable, or 256 + n for the number n), the children, what it
--- is (below). A U node has one child; what it keeps in the fields of the others is in specs/Chains.antt.
+-- Fields of a node: kind + 16 * number of children, the label (the symbol, the variable, or 256 + n for the number n), the children, what
+-- it is (below). A U node has one child; what it keeps in the fields of the others is in specs/Chains.antt.
 abbrev pub headField : ℕ
 headField = 0
 

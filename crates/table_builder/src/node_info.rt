@@ -34,8 +34,8 @@ pub enum Taken {
     Last(u32),
 }
 
-// The seven numbers of a node: kind + 16 * number of children, label (symbol, number or variable), children, what it is. Of a U node, in the
-// place of the second to fourth child: what the U nodes from it on come to.
+// The seven numbers of a node: kind + 16 * number of children, label (symbol, number or variable), children, what it is. Of a U node,
+// in the place of the second to fourth child: what the U nodes from it on come to.
 pub struct NodeRecord {
     pub head: u32,
     pub label: u32,

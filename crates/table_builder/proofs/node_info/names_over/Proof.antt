@@ -6,8 +6,8 @@ use Rattle.table_builder.proofs.node_info.names_over.Tie as tie
 returns : tie.Need-returns
 unfolding namesOver
 returns c =
-    let at-if1 = c .before in
-    simp (namesOver, ← c .name-before .ensures, ← at-if1 .before .is-free .ensures, at-if1 .if1 .taken, ← at-if1 .before .before .chain-names .ensures)
+    let at-free = c .before .before in
+    simp (namesOver, ← c .name-before .ensures, ← at-free .is-free .ensures, c .before .if1 .taken, ← at-free .before .chain-names .ensures)
 
 returns-2 : tie.Need-returns-2
 unfolding namesOver
