@@ -60,7 +60,10 @@ fn map_colouring() -> Vec<u8> {
     let pairs: Vec<usize> = borders
         .map(|(one, other)| b.apply(differ, &[regions[one], regions[other]]))
         .collect();
-    let all = pairs.into_iter().reduce(|goal, pair| b.and(goal, pair)).expect("some borders");
+    let all = pairs
+        .into_iter()
+        .reduce(|goal, pair| b.and(goal, pair))
+        .expect("some borders");
     let goal = (0..8).rev().fold(all, |goal, variable| b.some(variable, goal));
     b.goal(goal)
 }

@@ -32,7 +32,9 @@ pub fn elpi(sheet: &[u8], times: u32) -> String {
 pub fn prolog(sheet: &[u8], times: u32) -> Option<String> {
     let sheet = &sheet::read(sheet).expect("a sheet");
     let mut prolog = Prolog { sheet, bound: 0 };
-    let mut program = String::from(":- set_prolog_flag(occurs_check, true).\n:- style_check(-singleton).\n:- style_check(-discontiguous).\n");
+    let mut program = String::from(
+        ":- set_prolog_flag(occurs_check, true).\n:- style_check(-singleton).\n:- style_check(-discontiguous).\n",
+    );
     for member in sheet.program.iter() {
         let names = member.prefix.iter().map(|&v| (v, format!("X{v}"))).collect::<Vec<_>>();
         let head = prolog.goal(&member.head, &names)?;
@@ -106,7 +108,11 @@ impl Lambda<'_> {
     /// A clause that is supposed: its members, each with its prefix.
     fn clause(&self, node: &Node) -> String {
         let members = self.sheet.members[node.number].iter().map(|member| {
-            let prefix: String = member.prefix.iter().map(|variable| format!("pi X{variable}\\ ")).collect();
+            let prefix: String = member
+                .prefix
+                .iter()
+                .map(|variable| format!("pi X{variable}\\ "))
+                .collect();
             format!("({prefix}{})", self.member(member))
         });
         format!("({})", members.collect::<Vec<_>>().join(", "))

@@ -80,7 +80,11 @@ fn ratio(ours: f64, theirs: Option<f64>, ratios: &mut Vec<f64>) -> String {
 fn mean(ratios: &[f64]) -> String {
     match ratios {
         [] => "-".to_string(),
-        _ => format!("{:.2} ({} sheets)", (ratios.iter().map(|ratio| ratio.ln()).sum::<f64>() / ratios.len() as f64).exp(), ratios.len()),
+        _ => format!(
+            "{:.2} ({} sheets)",
+            (ratios.iter().map(|ratio| ratio.ln()).sum::<f64>() / ratios.len() as f64).exp(),
+            ratios.len()
+        ),
     }
 }
 
@@ -104,7 +108,11 @@ impl Process {
         let paths = std::env::var_os("PATH")?;
         std::env::split_paths(&paths).find(|path| Path::new(path).join(command).is_file())?;
         let file = std::env::temp_dir().join(format!("rules-bench-{}.{ending}", std::process::id()));
-        Some(Process { command, arguments, file })
+        Some(Process {
+            command,
+            arguments,
+            file,
+        })
     }
 
     /// Seconds for one solution: the time of many less the time of none, both the least of some rounds. The outcome is compared with
@@ -131,7 +139,11 @@ impl Process {
             let output = output.expect("a process");
             let printed = [output.stdout, output.stderr].concat();
             let printed = String::from_utf8_lossy(&printed);
-            assert!(printed.lines().any(|line| line == outcome), "{} says {printed}", self.command);
+            assert!(
+                printed.lines().any(|line| line == outcome),
+                "{} says {printed}",
+                self.command
+            );
         }
         let _ = fs::remove_file(&self.file);
         least
