@@ -39,6 +39,7 @@ pub fn worst() -> Vec<Named> {
         ),
         ("128 clauses of 950 quantifiers, one name", idle_quantifiers(1)),
         ("128 clauses of 950 quantifiers, eight names", idle_quantifiers(8)),
+        ("members and quantifiers in turn, 62 deep", members_in_turn(62)),
         ("a text of terms at the ends of chains", linked_chain(11)),
     ]
 }
@@ -96,6 +97,26 @@ fn idle_quantifiers(names: u8) -> Vec<u8> {
     for _ in 0..127 {
         b.clause(clause);
     }
+    let goal = b.apply(q, &[]);
+    let rule = b.implies(goal, goal);
+    b.clause(rule);
+    b.goal(goal)
+}
+
+/// p(4, 5, 6, 7) if p(0, 1, 2, 3), and every v of that and so on, so many times, v being each of eight names in turn: the walk to the last
+/// member passes all of them. With q if q, the goal.
+fn members_in_turn(depth: u8) -> Vec<u8> {
+    let mut b = Builder::new(true);
+    let (p, q) = (b.predicate("p", 4), b.predicate("q", 0));
+    let variables: Vec<usize> = (0..8).map(|variable| b.variable(variable)).collect();
+    let (body, head) = (b.apply(p, &variables[..4]), b.apply(p, &variables[4..]));
+    let rule = b.implies(body, head);
+    let mut clause = rule;
+    for level in 0..depth {
+        let inner = b.every(level % 8, clause);
+        clause = b.and(rule, inner);
+    }
+    add_clause(&mut b, &[0, 1, 2, 3, 4, 5, 6, 7], clause);
     let goal = b.apply(q, &[]);
     let rule = b.implies(goal, goal);
     b.clause(rule);
