@@ -12,7 +12,7 @@ use Rattle.sequents.specs.Sequents.{Hypothesis, entriesOf}
 use Rattle.sequents.proofs.Sequents.{entries-append}
 use Rattle.scanning.specs.Fields as fields
 use Rattle.line_checking.specs.declared.Links.{Links}
-use Rattle.line_checking.specs.HypothesisChains.{saturate, hypothesisField, nextOf, jumpOf, passedOf, depthOf, evenJumps, linksAfter}
+use Rattle.line_checking.specs.HypothesisChains.{saturate, hypothesisField, nextOf, jumpOf, passedOf, evenJumps, farLinks, nearLinks, linksAfter}
 use Rattle.line_checking.proofs.Representation.{Setting, climb, JumpAt, HypothesesAt}
 use Rattle.memory.specs.Records.{field}
 
@@ -62,7 +62,7 @@ module _ (c : Setting) (w : List ℕ) where
     pub passed : L .passed ≡ saturate (m + length (entriesOf (take steps l)))
 
   pub linked : (k h m : ℕ) (l : List (Hypothesis Symbol)) → HypothesesAt c k w h l → Linked h m l (linksAfter w h m)
-  unfolding linksAfter climb saturate entriesOf
+  unfolding linksAfter farLinks nearLinks climb saturate entriesOf
   linked k h m l p = go (evenJumps w h)
     where
       a : JumpAt w h l
@@ -82,13 +82,7 @@ module _ (c : Setting) (w : List ℕ) where
           ∙ ap length (entries-append (take (a .steps) l) (take (b .steps) (drop (a .steps) l)))
           ∙ length-append (entriesOf (take (a .steps) l)) (entriesOf (take (b .steps) (drop (a .steps) l)))
 
-      go : (z : Bool)
-          → Linked h m l (cond z
-          (record {
-            depth = saturate (depthOf w h + 1);
-            jump = jumpOf w (jumpOf w h);
-            passed = saturate (m + passedOf w h + passedOf w (jumpOf w h));
-          }) (record { depth = saturate (depthOf w h + 1); jump = h; passed = saturate m }))
+      go : (z : Bool) → Linked h m l (cond z (farLinks w h m) (nearLinks w h m))
       go true =
           let first = a .most in
           let second = b .most in

@@ -43,15 +43,22 @@ passedOf w h = hypothesisField w h fields.hypothesisPassed
 unfoldable pub evenJumps : List ℕ → ℕ → Bool
 evenJumps w h = eqb (depthOf w h + depthOf w (jumpOf w (jumpOf w h))) (2 * depthOf w (jumpOf w h))
 
--- The links of a hypothesis with m members that is made after h: it jumps as far as those two jumps together, or else to h.
-unfoldable pub linksAfter : List ℕ → ℕ → ℕ → Links
-linksAfter w h m =
-    cond (evenJumps w h)
-    (record {
+-- The links of a hypothesis with m members that is made after h and jumps as far as those two jumps together.
+unfoldable pub farLinks : List ℕ → ℕ → ℕ → Links
+farLinks w h m =
+    record {
       depth = saturate (depthOf w h + 1);
       jump = jumpOf w (jumpOf w h);
       passed = saturate (m + passedOf w h + passedOf w (jumpOf w h));
-    }) (record { depth = saturate (depthOf w h + 1); jump = h; passed = saturate m })
+    }
+
+-- The links of one that jumps to h.
+unfoldable pub nearLinks : List ℕ → ℕ → ℕ → Links
+nearLinks w h m = record { depth = saturate (depthOf w h + 1); jump = h; passed = saturate m }
+
+-- The links of a hypothesis with m members that is made after h.
+unfoldable pub linksAfter : List ℕ → ℕ → ℕ → Links
+linksAfter w h m = cond (evenJumps w h) (farLinks w h m) (nearLinks w h m)
 
 -- Writes the links of the hypothesis in record q.
 unfoldable pub putLinks : List ℕ → ℕ → Links → List ℕ

@@ -7,7 +7,7 @@ use lib.Dec.{eqb}
 use borrow.Author.Tests.{lt-ltb, le-ltb, eq-eqb, ne-eqb}
 use Rattle.line_checking.specs.declared.Links.{Links}
 use Rattle.line_checking.specs.HypothesisChains.{saturate, hypothesisField, nextOf, startOf, depthOf, jumpOf, passedOf, evenJumps}
-use Rattle.line_checking.specs.HypothesisChains.{linksAfter, stepBefore}
+use Rattle.line_checking.specs.HypothesisChains.{farLinks, nearLinks, linksAfter, stepBefore}
 use Rattle.memory.specs.Records.{field}
 
 pub field-none : (w : List ℕ) (h f : ℕ) → h ≡ 0 → 0 ≡ hypothesisField w h f
@@ -36,9 +36,9 @@ module _ (w : List ℕ) (h j : ℕ) (ej : j ≡ jumpOf w h) where
 module _ (w : List ℕ) (h m d x c : ℕ) (z : Bool) (ed : d ≡ depthOf w h) (ex : x ≡ d) (ec : c ≡ saturate (x + 1)) (ez : z ≡ evenJumps w h) where
   pub links-far : (j p u q v a n o : ℕ) → z ≡ true → j ≡ jumpOf w h → p ≡ passedOf w h → u ≡ p → q ≡ passedOf w j → v ≡ q → a ≡ jumpOf w j
       → n ≡ m → o ≡ saturate (n + u + v) → _≡_ {A = Links} (record { depth = c; jump = a; passed = o }) (linksAfter w h m)
-  unfolding linksAfter
+  unfolding linksAfter farLinks
   links-far j p u q v a n o t ej ep eu eq ev ea en eo = rw (← ez, t, ← ej, ← ep, ← eq, ← ea, ← ed, ec, eo, ex, eu, ev, en)
 
   pub links-near : (n o : ℕ) → z ≡ false → n ≡ m → o ≡ saturate n → _≡_ {A = Links} (record { depth = c; jump = h; passed = o }) (linksAfter w h m)
-  unfolding linksAfter
+  unfolding linksAfter nearLinks
   links-near n o t en eo = rw (← ez, t, ← ed, ec, eo, ex, en)
