@@ -13,7 +13,7 @@ use Rattle.scanning.specs.Numbering.{outsideName, isSymbol, numberAt, levelAt, 
 use Rattle.scanning.specs.Numbering.{checkNumbering}
 use Rattle.numbering_check.specs.LevelCache.{madeEntry, leftoverEntry, cacheLevel, cacheShowing, Cached, CacheValid, ValidAfter}
 use Rattle.numbering_check.specs.Sigils.{findSigil}
-use Rattle.numbering_check.proofs.LevelCache.{made-valid, leftover-valid, none-valid, earlier-valid}
+use Rattle.numbering_check.proofs.LevelCache.{made-valid, leftover-valid, none-valid}
 
 -- the level at the first showing
 

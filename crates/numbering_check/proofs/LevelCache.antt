@@ -7,10 +7,9 @@ use mathlib.Core.List.{List}
 use lib.Dec.{eqb, ltb}
 use lib.ListN.{length, getD, set, length-set, List·getD-eq-default}
 use lib.Seq.{set-out, getD-set-same, getD-set-other}
-use borrow.Author.Tests.{eqb-true, eqb-false, ltb-true, ltb-false, lt-ltb, le-ltb, eq-eqb, ne-eqb}
+use borrow.Author.Tests.{eqb-true, eqb-false, ltb-true, ltb-false, lt-ltb, eq-eqb}
 use Rattle.scanning.specs.Numbering.{isSymbol, numberAt, levelAt, isShowing, levelFrom, firstLevel, inOrder, countAfter}
 use Rattle.numbering_check.specs.LevelCache.{madeEntry, leftoverEntry, cacheLevel, cacheShowing, Cached, ShownBelow, CacheValid}
-use Rattle.numbering_check.specs.Sigils.{findSigil}
 
 -- showings
 
