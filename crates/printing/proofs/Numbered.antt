@@ -325,7 +325,8 @@ module _ (w : List ℕ) (next acts : ℕ) where
                     (book-again Variable (λ n. 4 * suc n) (numberBy r) (leftoverOnly h) (cellNumber (g .memory))
                     (g .cursor .variables) y e (n .variables));
                 constants =
-                    subst (λ (l : List Symbol). Book Constant suc (numberBy r) l (fieldNumber (g .memory) (g .cursor .constants)) (g .cursor .constants))
+                    subst (λ (l : List Symbol). Book Constant suc (numberBy r) l (fieldNumber (g .memory) (g .cursor .constants))
+                    (g .cursor .constants))
                     (sym (made-variable x k h)) (n .constants);
                 fewVariables = omega arith;
                 fewConstants = omega arith;
@@ -349,7 +350,8 @@ module _ (w : List ℕ) (next acts : ℕ) where
                     (cell-same (g .memory) x (4 * suc m) there ∙ ap (λ (n : ℕ). 4 * suc n) d) (λ z o u. other z (4 * suc m) o u)
                     (n .variables));
                 constants =
-                    subst (λ (l : List Symbol). Book Constant suc (numberBy r) l (fieldNumber v (g .cursor .constants)) (g .cursor .constants))
+                    subst (λ (l : List Symbol). Book Constant suc (numberBy r) l (fieldNumber v (g .cursor .constants))
+                    (g .cursor .constants))
                     (sym (made-variable x k h))
                     (book-same Constant suc (numberBy r) (madeOnly h) (fieldNumber (g .memory) (g .cursor .constants))
                     (fieldNumber v (g .cursor .constants)) (g .cursor .constants)
@@ -416,10 +418,11 @@ module _ (w : List ℕ) (next acts : ℕ) where
                     subst (λ (l : List Symbol). Book Variable (λ n. 4 * suc n) (numberBy r) l (cellNumber (g .memory))
                     (g .cursor .variables)) (sym (leftover-constant c k h)) (n .variables);
                 constants =
-                    subst (λ (l : List Symbol). Book Constant suc (numberBy r) l (fieldNumber (g .memory) (g .cursor .constants)) (g .cursor .constants))
+                    subst (λ (l : List Symbol). Book Constant suc (numberBy r) l (fieldNumber (g .memory) (g .cursor .constants))
+                    (g .cursor .constants))
                     (sym (made-constant c k h))
-                    (book-again Constant suc (numberBy r) (madeOnly h) (fieldNumber (g .memory) (g .cursor .constants)) (g .cursor .constants)
-                    y e (n .constants));
+                    (book-again Constant suc (numberBy r) (madeOnly h) (fieldNumber (g .memory) (g .cursor .constants))
+                    (g .cursor .constants) y e (n .constants));
                 fewVariables = omega arith;
                 fewConstants = omega arith;
               }) (constant-old acts limit g c (r .ofMade c k) f)
@@ -443,9 +446,11 @@ module _ (w : List ℕ) (next acts : ℕ) where
                     (book-same Variable (λ n. 4 * suc n) (numberBy r) (leftoverOnly h) (cellNumber (g .memory)) (cellNumber v)
                     (g .cursor .variables) (λ z o. cell-kept z) (n .variables));
                 constants =
-                    subst (λ (l : List Symbol). Book Constant suc (numberBy r) l (fieldNumber v (suc m)) (suc m)) (sym (made-constant c k h))
+                    subst (λ (l : List Symbol). Book Constant suc (numberBy r) l (fieldNumber v (suc m)) (suc m))
+                    (sym (made-constant c k h))
                     (book-new Constant suc (numberBy r) (madeOnly h) (fieldNumber (g .memory) m) (fieldNumber v (suc m)) m y e
-                    (mark-after v m c ∙ field-same ready c constantNumberField (suc m) (let a = kept .long in omega arith) ∙ ap suc d) other (n .constants));
+                    (mark-after v m c ∙ field-same ready c constantNumberField (suc m) (let a = kept .long in omega arith) ∙ ap suc d)
+                    other (n .constants));
                 fewVariables = omega arith;
                 fewConstants = omega arith;
               }) (constant-new acts limit g c f there (omega arith))

@@ -58,7 +58,8 @@ symbol-grow out limit at a c n k l e =
 pub write-grow : (turns limit : ℕ) (g : Printer) (s : Symbol) → limit ≤ 65535 → g .cursor .at ≤ showSymbol turns limit g s .cursor .at
 unfolding showSymbol writeVariable writeConstant wrote withPosition
 write-grow turns limit g (leftover x k) l = symbol-grow (g .buffer) limit (g .cursor .at) _ _ _ _ l (number-at (g .memory) (g .cursor) x)
-write-grow turns limit g (made c k) l = symbol-grow (g .buffer) limit (g .cursor .at) _ _ _ _ l (number-constant-at turns (g .memory) (g .cursor) c)
+write-grow turns limit g (made c k) l =
+    symbol-grow (g .buffer) limit (g .cursor .at) _ _ _ _ l (number-constant-at turns (g .memory) (g .cursor) c)
 
 -- The position never falls at a token.
 pub step-grow : (turns limit : ℕ) (g : Printer) (k : Token) → limit ≤ 65535 → g .cursor .at ≤ step turns limit g k .cursor .at
@@ -74,7 +75,10 @@ step-grow turns limit g (sign s) l = go (ltb limit (g .cursor .at))
 pub steps-grow : (turns limit : ℕ) (ks : List Token) (g : Printer) → limit ≤ 65535 → g .cursor .at ≤ steps turns limit ks g .cursor .at
 unfolding steps
 steps-grow turns limit [] g l = omega arith
-steps-grow turns limit (k ∷ ks) g l = let a = step-grow turns limit g k l in let b = steps-grow turns limit ks (step turns limit g k) l in omega arith
+steps-grow turns limit (k ∷ ks) g l =
+    let a = step-grow turns limit g k l in
+    let b = steps-grow turns limit ks (step turns limit g k) l in
+    omega arith
 
 -- A number's word has tag 0.
 number-tag : (n : ℕ) → tagOf (truncate (4 * n)) ≡ 0

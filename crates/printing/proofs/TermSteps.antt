@@ -172,8 +172,8 @@ module _ (sheet t : List ℕ) (symbols nodes : ℕ) (w : List ℕ) (acts : ℕ) 
         let written = ih limit low f y (p .0) a (emit-rank limit rank g d low r) in
         reaches-then w acts limit (byte d ∷ []) (termTokens (child j) declarations) g f _ low (exactly limit (byte d ∷ []) g f tt refl)
         (subst (λ (v : ℕ). Reaches w acts limit (termTokens (child j) declarations) f (writeTerm rank sheet t acts limit f v)) (sym e)
-        (subst (λ (u : Term Leaf). Reaches w acts limit (termTokens (value s u) declarations) f (writeTerm rank sheet t acts limit f y)) (p .1)
-        written))
+        (subst (λ (u : Term Leaf). Reaches w acts limit (termTokens (value s u) declarations) f (writeTerm rank sheet t acts limit f y))
+        (p .1) written))
 
     -- The arguments after the first.
     more-steps : (limit : ℕ) → limit ≤ 65535 → (n j : ℕ) → 1 ≤ j → j + n ≡ childCount t (nodeOf x) → (g : Printer)
@@ -294,7 +294,8 @@ module _ (sheet t : List ℕ) (symbols nodes : ℕ) (w : List ℕ) (acts : ℕ) 
 
       go : (c : Bool) → ltb limit (g .cursor .at) ≡ c → Writes rank
           → Reaches w acts limit ks g
-          (elim c as (λ c. Printer) [ true ↦ g | false ↦ wordBy (writeTerm rank sheet t acts) sheet t acts limit g (deref acts (g .memory) a) ])
+          (elim c as (λ c. Printer)
+          [ true ↦ g | false ↦ wordBy (writeTerm rank sheet t acts) sheet t acts limit g (deref acts (g .memory) a) ])
       go true e ih = exactly limit ks g g (word-right a h) (sym (steps-over acts limit ks g (ltb-true limit (g .cursor .at) e)))
       go false e ih =
           subst (λ (v : ℕ). Reaches w acts limit ks g (wordBy (writeTerm rank sheet t acts) sheet t acts limit g v))

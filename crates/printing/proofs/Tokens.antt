@@ -43,7 +43,8 @@ steps turns limit [] g = g
 steps turns limit (k ∷ ks) g = steps turns limit ks (step turns limit g k)
 
 -- One list, then another.
-pub steps-append : (turns limit : ℕ) (x y : List Token) (g : Printer) → steps turns limit (x ++ y) g ≡ steps turns limit y (steps turns limit x g)
+pub steps-append : (turns limit : ℕ) (x y : List Token) (g : Printer)
+    → steps turns limit (x ++ y) g ≡ steps turns limit y (steps turns limit x g)
 unfolding steps
 steps-append turns limit [] y g = refl
 steps-append turns limit (k ∷ x) y g = steps-append turns limit x y (step turns limit g k)

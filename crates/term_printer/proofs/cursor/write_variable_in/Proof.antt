@@ -9,8 +9,8 @@ returns c =
     let at-write-variable = c .before .before .before .before .before .before in
     let at-cursor-in = at-write-variable .before in
     let at-entry = at-cursor-in .before .before .before .before .before .before .before in (
-      cursor-put _ _ _ (c .put-cursor .ensures) (λ n l g. writeVariable l g (at-entry .args .x)) _ _ _ _ _ (at-cursor-in .cursor-in .ensures)
-          (at-write-variable .write-variable .ensures),
+      cursor-put _ _ _ (c .put-cursor .ensures) (λ n l g. writeVariable l g (at-entry .args .x)) _ _ _ _ _
+          (at-cursor-in .cursor-in .ensures) (at-write-variable .write-variable .ensures),
       bounds-kept _ _ _ (c .put-cursor .ensures),
     )
 
