@@ -12,7 +12,8 @@ use Rattle.node_table.specs.Chains.{belowOf}
 use Rattle.clause_members.specs.declared.Found.{Found}
 use Rattle.clause_members.specs.declared.Side.{Side}
 use Rattle.clause_members.specs.Members.{found, side, withLeaf, sideOf, chainAt, pushName, pushFree, reverseFree, passChain}
-use Rattle.clause_members.specs.Members.{findMember, headOf}
+use Rattle.clause_members.specs.Members.{findMember, member, headOf}
+use Rattle.sheet_format.specs.Limits.{maxNodes}
 
 -- The sides of an & node.
 
@@ -158,3 +159,12 @@ module _ (t : List ℕ) (n s : ℕ) (es : s ≡ kindOf t n) where
   pub head-fact : (s ≡ impliesKind → ⊥) → n ≡ headOf t n
   unfolding headOf
   head-fact e = simp (headOf, ← es, ne-eqb _ _ e)
+
+-- A clause that is a row of U nodes over a leaf has one member. An & node is its own end of such a row.
+pub member-only : (t : List ℕ) (n k s : ℕ) (m : Found) → m ≡ chainAt t n → s ≡ kindOf t (m .leaf) → (s ≡ andKind → ⊥) → m ≡ member t n k
+unfolding member chainAt belowOf
+member-only t n k s m em es z =
+    let below : m .leaf ≡ belowOf t n = ap (λ (x : Found). x .leaf) em in
+    let itself : kindOf t n ≡ andKind → belowOf t n ≡ n = λ e. rw e in
+    let other : kindOf t n ≡ andKind → ⊥ = λ e. z (es ∙ ap (kindOf t) (below ∙ itself e) ∙ e) in
+    sym (find-done t maxNodes k (found n 0 0) (kindOf t n) (omega arith) refl m other (passed-first t (found n 0 0) m em refl) s es z)

@@ -153,10 +153,15 @@ fn find_member(fuel: u32, t: &[u32], n: u32, k: u32) -> Found
     m
 }
 
-// Member k of the clause at node n. Children have smaller numbers than their node, so no walk is longer than the table.
+// Member k of the clause at node n. Children have smaller numbers than their node, so no walk is longer than the table. Most clauses
+// have one member, which is found without the walk.
 pub fn member(t: &[u32], n: u32, k: u32) -> Found
     ensures { λ r. ⌜ r ≡ member (now (t .entry)) n k ⌝ }
 {
+    let only = chain_at(t, n);
+    if kind(t, only.leaf) != kinds::AND {
+        return only;
+    }
     find_member(limits::MAX_NODES, t, n, k)
 }
 

@@ -7,10 +7,13 @@ use super::trail::undo;
 use machine::Registers;
 use machine::fields;
 use machine::modes;
+use memory::RECORD_NUMBERS;
 use memory::field;
+use memory::widen;
 ghost use mathlib.Core.Path.{_≡_};
 ghost use mathlib.Core.List.{List};
-ghost use Prim.Native.Nat.{ℕ};
+ghost use Prim.Native.Nat.{ℕ, _+_, _*_, _<_};
+ghost use lib.ListN.{length};
 ghost use Rattle.machine.specs.Records.{made};
 ghost use Rattle.machine.specs.ChoicePoints.{resumeGoal, resumeMember, resumeBranch, resume, backtrack, failed};
 ghost use Rattle.machine_memory.specs.Settling.{settled};
@@ -59,9 +62,42 @@ pub fn resume_branch(w: &[u32], r: Registers, q: u32) -> Registers
     }
 }
 
+// The same for a record that lies within the buffer, from `at` on: its fields are read without a test of bounds for each.
+fn resume_within(w: &[u32], r: Registers, at: usize) -> Registers
+    requires { ⌜ at + 63 < length (now w) ⌝ }
+    ensures { λ s. ⌜ ((q : ℕ) → at ≡ 64 * q → s ≡ resume (now (w .entry)) r q) ⌝ }
+{
+    let place = w[at + fields::CHOICE_PLACE as usize];
+    let s = Registers {
+        next: w[at + fields::VARIABLES as usize],
+        trail: w[at + fields::CHOICE_TRAIL as usize],
+        choice: w[at + fields::CHOICE_BEFORE as usize],
+        goals: w[at + fields::CHOICE_GOALS as usize],
+        path: w[at + fields::CHOICE_PATH as usize],
+        line: w[at + fields::CHOICE_LINE as usize],
+        node: w[at + fields::CHOICE_NODE as usize],
+        frame: w[at + fields::CHOICE_FRAME as usize],
+        program: w[at + fields::CHOICE_PROGRAM as usize],
+        level: w[at + fields::CHOICE_LEVEL as usize],
+        hypothesis: w[at + fields::CHOICE_HYPOTHESIS as usize],
+        clause: w[at + fields::CHOICE_CLAUSE as usize],
+        member: w[at + fields::CHOICE_MEMBER as usize],
+        place,
+        ..r
+    };
+    if place == 0 {
+        return with_mode(s, modes::TAKE);
+    }
+    with_mode(s, modes::TRY)
+}
+
 pub fn resume(w: &[u32], r: Registers, q: u32) -> Registers
     ensures { λ s. ⌜ s ≡ resume (now (w .entry)) r q ⌝ }
 {
+    let at = RECORD_NUMBERS * widen(q);
+    if at + (RECORD_NUMBERS - 1) < w.len() {
+        return resume_within(w, r, at);
+    }
     resume_member(w, resume_goal(w, resume_branch(w, r, q), q), q)
 }
 

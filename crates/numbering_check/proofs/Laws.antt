@@ -13,6 +13,8 @@ use Rattle.scanning.specs.Numbering.{outsideName, isSymbol, numberAt, levelAt, 
 use Rattle.scanning.specs.Numbering.{checkNumbering}
 use Rattle.numbering_check.specs.LevelCache.{madeEntry, leftoverEntry, cacheLevel, cacheShowing, Cached, CacheValid, ValidAfter}
 use Rattle.numbering_check.specs.Sigils.{findSigil}
+use Rattle.term_scanner.specs.Blocks.{Passes}
+use Rattle.term_scanner.proofs.blocks.Laws.{search-passed}
 use Rattle.numbering_check.proofs.LevelCache.{made-valid, leftover-valid, none-valid}
 
 -- the level at the first showing
@@ -138,6 +140,12 @@ module _ (x : List ℕ) (e i b : ℕ) (l : i < e) (p : b ≡ getD x i 0) where
   pub sigil-on : (b ≡ 33 → ⊥) → (b ≡ 95 → ⊥) → findSigil (e - i) x i ≡ findSigil (e - (i + 1)) x (i + 1)
   unfolding findSigil
   sigil-on n m = let d : e - i ≡ suc (e - (i + 1)) = omega arith in rw (d, ← p, ne-eqb b 33 n, ne-eqb b 95 m)
+
+-- The search may begin behind the blocks that were passed.
+pub sigil-blocks : (x : List ℕ) (i e r : ℕ) → Passes x 33 95 i e r → findSigil (e - i) x i ≡ findSigil (e - r) x r
+unfolding findSigil
+sigil-blocks x i e r p =
+    search-passed x 33 95 (λ n j. findSigil n x j) (λ n j h g. rw (ne-eqb (getD x j 0) 33 h, ne-eqb (getD x j 0) 95 g)) i e r p
 
 pub sigil-end : (x : List ℕ) (e i : ℕ) → e ≤ i → findSigil (e - i) x i ≡ i
 unfolding findSigil

@@ -13,6 +13,7 @@ use level_cache::leftover_entry;
 use level_cache::made_entry;
 use memory::byte;
 use scanning::SymbolCounts;
+use term_scanner::blocks::skip_blocks;
 ghost use mathlib.Core.Path.{_≡_};
 ghost use mathlib.Core.Bool.{true};
 ghost use Prim.Native.Nat.{_+_, _-_, _≤_};
@@ -117,7 +118,7 @@ fn find_sigil(text: &[u8], i: usize, e: usize) -> usize
     requires { ⌜ e ≤ length (now text) ⌝ }
     ensures { λ r. ⌜ r ≡ findSigil (e - i) (now (text .entry)) i ⌝ }
 {
-    let mut at = i;
+    let mut at = skip_blocks(text, b'!', b'_', i, e);
     while at < e {
         let b = text[at];
         if b == b'!' {

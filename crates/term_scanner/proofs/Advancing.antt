@@ -139,24 +139,39 @@ module _ (rank : ℕ) (b t : List ℕ) (symbols : ℕ) (x : List ℕ) where
 
     -- after a term
 
-    module _ (z : s .stage ≡ 1) (q : DelimiterStack) (f : Fits w q) (k : delimiters w q ≡ delimiters w (s .stack)) where
-      pub take-none : (r : TermScan) → (q .count ≡ 0 → q .words ≡ 0) → q .count ≡ 0 → r .stack ≡ s .stack → r .at ≡ s .at
-          → r .level ≡ s .level → r .stage ≡ 2 → Advances rank b t symbols x w s w r
+    module _ (z : s .stage ≡ 1) (q : DelimiterStack) (g : q ≡ s .stack) where
+      -- No delimiter is left.
+      pub take-none : (r : TermScan) → q .count ≡ 0 → q .words ≡ 0 → r .stack ≡ s .stack → r .at ≡ s .at → r .level ≡ s .level
+          → r .stage ≡ 2 → Advances rank b t symbols x w s w r
       unfolding stepsLeft delimiters bitsBefore bitsOfWords resume
-      take-none r y c g a v u =
+      take-none r c o k a v u =
           record {
-            fits = subst (Fits w) (sym g) fits;
+            fits = subst (Fits w) (sym k) fits;
             known = omega arith;
             same =
                 outcome-after w s z
-                ∙ ap (λ (ms : List ℕ). resume ms rank b t symbols x (s .depth) (s .at) (s .level)) (sym k ∙ none)
+                ∙ ap (λ (ms : List ℕ). resume ms rank b t symbols x (s .depth) (s .at) (s .level)) none
                 ∙ sym (outcome-ended w r u ∙ rw (a, v));
-            full = λ o. absurd (omega arith);
-            falls = rw (a, u, z) (omega arith);
+            full = λ p. absurd (omega arith);
+            falls = rw (a, u, z, k) (omega arith);
           }
         where
-          none : delimiters w q ≡ []
-          none = rw (c, y c)
+          none : delimiters w (s .stack) ≡ []
+          none = rw (← g, c, o)
+
+      -- The next word of delimiters comes on top.
+      pub take-word : (r : TermScan) (p : DelimiterStack) → q .count ≡ 0 → Fits w p → delimiters w p ≡ delimiters w q → 0 < p .count
+          → r .stack ≡ p → r .depth ≡ s .depth → r .at ≡ s .at → r .level ≡ s .level → r .stage ≡ s .stage
+          → Advances rank b t symbols x w s w r
+      unfolding stepsLeft
+      take-word r p c f k l e d a v u =
+          record {
+            fits = subst (Fits w) (sym e) f;
+            known = omega arith;
+            same = outcome-after w s z ∙ sym (outcome-after w r (u ∙ z) ∙ rw (e, k, g, d, a, v));
+            full = λ o. absurd (omega arith);
+            falls = rw (a, u, e, ← g, c) (omega arith);
+          }
 
       -- The nearest delimiter and those after it.
       module _ (m : DelimiterStack) (c : q .count ≡ 0 → ⊥) (et : m .top ≡ q .top / 2) (ec : m .count ≡ q .count - 1)
@@ -165,11 +180,12 @@ module _ (rank : ℕ) (b t : List ℕ) (symbols : ℕ) (x : List ℕ) where
         unfolding delimiters bitsBefore
         taken =
             let n : q .count ≡ suc (q .count - 1) = omega arith in
-            sym k ∙ rw (n, et, ec, ew)
+            rw (← g, n, et, ec, ew)
 
         rest-fits : Fits w m
         unfolding powerOf2
         rest-fits =
+            let f = subst (Fits w) (sym g) fits in
             let n : q .count ≡ suc (q .count - 1) = omega arith in
             let p : q .top < powerOf2 (suc (q .count - 1)) = subst (λ (m : ℕ). q .top < powerOf2 m) n (f .bounded) in
             let o = f .counted in

@@ -46,9 +46,9 @@ unfoldable pub begin : List ℕ → ℕ → List ℕ → List ℕ → ℕ → Li
 begin ms rank b t symbols x d i k =
     elim (scanTerm (rank - d) b t symbols x i) [ Term e j ↦ resume ms rank b t symbols x d e (higher k j) | Malformed ↦ Malformed ]
 
--- A number that falls at each step.
+-- A number that falls at each step: by the position, by the stage, or where the next word of delimiters comes on top.
 unfoldable pub stepsLeft : List ℕ → TermScan → ℕ
-stepsLeft x s = 2 * (length x - s .at) + (fullStage - s .stage)
+stepsLeft x s = 4 * (length x - s .at) + (2 * (fullStage - s .stage) + (1 - s .stack .count))
 
 module _ (rank : ℕ) (b t : List ℕ) (symbols : ℕ) (x : List ℕ) where
   -- The result that a scan comes to, with the whole words of its stack in w.

@@ -73,22 +73,16 @@ fn word(v: u64) -> u64
     v
 }
 
-// The same delimiters, with none on top only if there is none.
-pub fn refilled(lent: &[u64], s: DelimiterStack) -> DelimiterStack
-    requires { ⌜ Fits (now lent) s ⌝ }
+// The same delimiters where none is on top: the next word comes there.
+pub fn next_word(lent: &[u64], s: DelimiterStack) -> DelimiterStack
+    requires { ⌜ Fits (now lent) s × (s .count ≡ 0) × (0 < s .words) ⌝ }
     ensures { λ r. ⌜ Fits (now (lent .entry)) r × (delimiters (now (lent .entry)) r ≡ delimiters (now (lent .entry)) s)
-        × (r .count ≡ 0 → r .words ≡ 0) ⌝ }
+        × (0 < r .count) ⌝ }
 {
-    if s.count == 0 {
-        if 0 < s.words {
-            let words = s.words - 1;
-            return DelimiterStack {
-                top: word(lent[words]),
-                count: WORD_BITS,
-                words,
-            };
-        }
-        return s;
+    let words = s.words - 1;
+    DelimiterStack {
+        top: word(lent[words]),
+        count: WORD_BITS,
+        words,
     }
-    s
 }

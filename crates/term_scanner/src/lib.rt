@@ -1,4 +1,5 @@
 // Terms of an answer text, read in place.
+pub mod blocks;
 pub mod delimiters;
 pub mod folded_ranges;
 pub mod ranges;
@@ -7,8 +8,8 @@ pub mod tokens;
 
 use delimiters::BRACKET;
 use delimiters::DelimiterStack;
+use delimiters::next_word;
 use delimiters::push_arguments;
-use delimiters::refilled;
 use delimiters::room;
 use line_parser::names::is_name_byte;
 use memory::byte;
@@ -194,23 +195,25 @@ fn begin_term(
     ensures { λ r. ⌜ Advances rank (now (sheet .entry)) (now (t .entry)) symbols (now (text .entry)) (now (lent .entry)) s
         (now (lent .exit)) r ⌝ }
 {
-    let mut r = s;
     if rank <= s.depth {
-        r.stage = MALFORMED;
-        return r;
+        return TermScan {
+            stage: MALFORMED,
+            ..s
+        };
     }
     match scan_head(sheet, t, symbols, text, s.at) {
         Head::Leaf(e, k) => {
-            r.at = e;
-            r.level = higher_of(s.level, k);
-            r.stage = AFTER;
-            return r;
+            return TermScan {
+                at: e,
+                level: higher_of(s.level, k),
+                stage: AFTER,
+                ..s
+            };
         }
         Head::Open(e, n) => {
             let stack = s.stack;
             if room(lent, stack) < widen(n) {
-                r.stage = FULL;
-                return r;
+                return TermScan { stage: FULL, ..s };
             }
             return TermScan {
                 at: e,
@@ -221,23 +224,30 @@ fn begin_term(
             };
         }
         Head::Absent => {
-            r.stage = MALFORMED;
-            return r;
+            return TermScan {
+                stage: MALFORMED,
+                ..s
+            };
         }
     }
 }
 
-// A term has ended: the nearest delimiter must follow, or the whole term has ended.
+// A term has ended: the nearest delimiter must follow, or the whole term has ended. Where the next word of delimiters is due, this is
+// all that the step does: most steps then touch no memory.
 fn take_delimiter(lent: &[u64], text: &[u8], s: TermScan) -> TermScan
     requires { ⌜ Fits (now lent) (s .stack) × (s .stage ≡ 1) ⌝ }
     ensures { λ r. ⌜ ((rank : ℕ) (b t : List ℕ) (symbols : ℕ) → Advances rank b t symbols (now (text .entry)) (now (lent .entry)) s
         (now (lent .entry)) r) ⌝ }
 {
-    let stack = refilled(lent, s.stack);
-    let mut r = s;
+    let stack = s.stack;
     if stack.count == 0 {
-        r.stage = ENDED;
-        return r;
+        if stack.words == 0 {
+            return TermScan { stage: ENDED, ..s };
+        }
+        return TermScan {
+            stack: next_word(lent, stack),
+            ..s
+        };
     }
     let rest = DelimiterStack {
         top: stack.top / 2,
@@ -255,8 +265,10 @@ fn take_delimiter(lent: &[u64], text: &[u8], s: TermScan) -> TermScan
                 stack: rest,
             };
         }
-        r.stage = MALFORMED;
-        return r;
+        return TermScan {
+            stage: MALFORMED,
+            ..s
+        };
     }
     if b == b',' {
         return TermScan {
@@ -267,8 +279,10 @@ fn take_delimiter(lent: &[u64], text: &[u8], s: TermScan) -> TermScan
             stack: rest,
         };
     }
-    r.stage = MALFORMED;
-    r
+    TermScan {
+        stage: MALFORMED,
+        ..s
+    }
 }
 
 // What is due.

@@ -1,4 +1,5 @@
 // Ranges of bytes of an answer text: whether two hold the same, and where a line ends.
+use super::blocks::skip_blocks;
 use memory::byte;
 ghost use mathlib.Core.Path.{_≡_};
 ghost use mathlib.Core.Bool.{true, false, cond};
@@ -77,7 +78,7 @@ pub fn same_range(n: usize, a: &[u8], i: usize, b: &[u8], j: usize) -> bool
 pub fn find_byte(text: &[u8], c: u8, i: usize) -> usize
     ensures { λ r. ⌜ r ≡ findByte (length (now (text .entry)) - i) (now (text .entry)) c i ⌝ }
 {
-    let mut at = i;
+    let mut at = skip_blocks(text, c, c, i, text.len());
     while at < text.len() {
         if text[at] == c {
             return at;

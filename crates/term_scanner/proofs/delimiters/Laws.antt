@@ -143,13 +143,13 @@ module _ (w : List ℕ) (s : DelimiterStack) (f : Fits w s) where
       omega arith
 
   -- An empty top is filled from the last word.
-  pub refill-word : (r : DelimiterStack) → s .count ≡ 0 → 0 < s .words → r .top ≡ getD w (s .words - 1) 0 → r .top < 18446744073709551616
+  pub next-word : (r : DelimiterStack) → s .count ≡ 0 → 0 < s .words → r .top ≡ getD w (s .words - 1) 0 → r .top < 18446744073709551616
       → r .count ≡ 64 → r .words ≡ s .words - 1
-      → Fits w r × (delimiters w r ≡ delimiters w s) × (r .count ≡ 0 → r .words ≡ 0)
-  refill-word r z o et l ec ew = (
+      → Fits w r × (delimiters w r ≡ delimiters w s) × (0 < r .count)
+  next-word r z o et l ec ew = (
     record { counted = omega arith; bounded = rw ec (word-bounded (r .top) l); within = let k = f .within in omega arith },
     filled ∙ sym (word-first (s .words - 1) w) ∙ sym (before ∙ same-words),
-    λ e. absurd (omega arith),
+    omega arith,
   )
     where
       filled : delimiters w r ≡ bitsBefore 64 (getD w (s .words - 1) 0) (bitsOfWords (s .words - 1) w)

@@ -1,12 +1,28 @@
+use native.Mathlib.Omega.{arith}
 use Rattle.memory.proofs.Records.{and-put}
+use Rattle.memory.specs.Records.{putField}
 use Rattle.machine.specs.Records.{putChosen}
+use lib.ListN.{length-set}
 use borrow.Author.Needs.{needs}
 use Rattle.machine_memory.proofs.records.put_chosen.Statement.{statement}
 use Rattle.machine_memory.proofs.records.put_chosen.Tie as tie
 
+slice-write-w-2 : tie.Need-slice-write-w-2
+slice-write-w-2 c = simp length-set (omega (arith, c .if1 .taken))
+
+slice-write-w-3 : tie.Need-slice-write-w-3
+slice-write-w-3 c = simp length-set (omega (arith, c .if1 .taken))
+
+slice-write-w-4 : tie.Need-slice-write-w-4
+slice-write-w-4 c = simp length-set (omega (arith, c .if1 .taken))
+
 returns : tie.Need-returns
+unfolding putChosen putField
+returns c = simp (putChosen, putField, ← c .before .widen .ensures .0)
+
+returns-2 : tie.Need-returns-2
 unfolding putChosen
-returns c =
+returns-2 c =
     let at-put-field3 = c .before .before .before .before .before .before in
     let at-put-field2 = at-put-field3 .before .before .before .before in
     let at-put-field = at-put-field2 .before .before .before .before in
@@ -16,5 +32,8 @@ returns c =
 pub put-chosen-spec : {M : Type 1} → statement M
 put-chosen-spec =
     tie.close
-    (tie.spec (λ c κs. search needs) (λ c κs. search needs) (λ c κs. search needs) (λ c κs. search needs) (λ c. search needs)
-    returns)
+    (tie.spec (λ c κs. search needs) (λ c. search needs) (λ c. search needs) (λ c. search needs) (λ c. search needs)
+    (λ c. search needs) (λ c. search needs) (λ c. search needs) (λ c. search needs) (λ c. search needs) slice-write-w-2
+    (λ c. search needs) (λ c. search needs) (λ c. search needs) slice-write-w-3 (λ c. search needs) (λ c. search needs)
+    (λ c. search needs) slice-write-w-4 (λ c. search needs) returns (λ c κs. search needs) (λ c κs. search needs)
+    (λ c κs. search needs) (λ c κs. search needs) (λ c. search needs) returns-2)

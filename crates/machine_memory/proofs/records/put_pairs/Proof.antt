@@ -1,12 +1,31 @@
+use native.Mathlib.Omega.{arith}
 use Rattle.memory.proofs.Records.{and-put}
+use Rattle.memory.specs.Records.{putField}
 use Rattle.machine.specs.Records.{putPairs}
+use lib.ListN.{length-set}
 use borrow.Author.Needs.{needs}
 use Rattle.machine_memory.proofs.records.put_pairs.Statement.{statement}
 use Rattle.machine_memory.proofs.records.put_pairs.Tie as tie
 
+slice-write-w-2 : tie.Need-slice-write-w-2
+slice-write-w-2 c = simp length-set (omega (arith, c .if1 .taken))
+
+slice-write-w-3 : tie.Need-slice-write-w-3
+slice-write-w-3 c = simp length-set (omega (arith, c .if1 .taken))
+
+slice-write-w-4 : tie.Need-slice-write-w-4
+slice-write-w-4 c = simp length-set (omega (arith, c .if1 .taken))
+
+slice-write-w-5 : tie.Need-slice-write-w-5
+slice-write-w-5 c = simp length-set (omega (arith, c .if1 .taken))
+
 returns : tie.Need-returns
+unfolding putPairs putField
+returns c = simp (putPairs, putField, ← c .before .widen .ensures .0)
+
+returns-2 : tie.Need-returns-2
 unfolding putPairs
-returns c =
+returns-2 c =
     let at-put-field4 = c .before .before .before .before .before .before in
     let at-put-field3 = at-put-field4 .before .before .before .before in
     let at-put-field2 = at-put-field3 .before .before .before .before in
@@ -18,5 +37,9 @@ returns c =
 pub put-pairs-spec : {M : Type 1} → statement M
 put-pairs-spec =
     tie.close
-    (tie.spec (λ c κs. search needs) (λ c κs. search needs) (λ c κs. search needs) (λ c κs. search needs) (λ c κs. search needs)
-    (λ c. search needs) returns)
+    (tie.spec (λ c κs. search needs) (λ c. search needs) (λ c. search needs) (λ c. search needs) (λ c. search needs)
+    (λ c. search needs) (λ c. search needs) (λ c. search needs) (λ c. search needs) (λ c. search needs) slice-write-w-2
+    (λ c. search needs) (λ c. search needs) (λ c. search needs) slice-write-w-3 (λ c. search needs) (λ c. search needs)
+    (λ c. search needs) slice-write-w-4 (λ c. search needs) (λ c. search needs) (λ c. search needs) slice-write-w-5
+    (λ c. search needs) returns (λ c κs. search needs) (λ c κs. search needs) (λ c κs. search needs) (λ c κs. search needs)
+    (λ c κs. search needs) (λ c. search needs) returns-2)
