@@ -22,15 +22,20 @@ use term_scanner::ranges::same_range;
 use term_scanner::symbol_names::name_size;
 use term_scanner::tokens::scan_number;
 ghost use mathlib.Core.Path.{_≡_};
-ghost use Prim.Native.Nat.{_+_, _-_, _<_};
+ghost use mathlib.Core.Bool.{true, false};
+ghost use Prim.Native.Nat.{_+_, _-_, _<_, _≤_};
+ghost use lib.ListN.{length};
 ghost use Rattle.scanning.specs.Instances.{sameSlots, matchRange, matchName, matchNumber, matchFunctor, matchSlot, argumentCount};
 ghost use Rattle.scanning.specs.Instances.{argumentOf, matchInstance, isInstance};
-ghost use Rattle.instances.specs.OpenNodes.{opensOf, matchHead, markBefore, matchChildren};
+ghost use Rattle.instances.specs.OpenNodes.{opensOf, matchHead, markBefore, matchChildren, Matches};
 
 // The most nodes that are open at a time, and a number above every number of children (specs/Instances.antt).
 const NODES: usize = limits::MAX_NODES as usize;
 
 pub const CHILD_LIMIT: u32 = 8;
+
+// In most terms no more nodes are open at a time.
+const FEW_NODES: usize = 8;
 
 // A range of the text.
 pub struct Range {
@@ -170,9 +175,81 @@ fn mark_before(j: u32, n: u32) -> u8
     b')'
 }
 
+// What a match comes to with a stack that is lent: where it ends, unless more nodes are open than the stack has room for.
+pub struct LentMatch {
+    pub full: bool,
+    pub reach: Reach,
+}
+
+// The match has come to its end.
+fn ended(reach: Reach) -> LentMatch
+    ensures { λ r. ⌜ (r .full ≡ false) × (r .reach ≡ reach) ⌝ }
+{
+    LentMatch { full: false, reach }
+}
+
+// The match has stopped for want of room.
+fn stopped() -> LentMatch
+    ensures { λ r. ⌜ (r .full ≡ true) × (r .reach ≡ Reach.Differs) ⌝ }
+{
+    LentMatch {
+        full: true,
+        reach: Reach::Differs,
+    }
+}
+
 // Whether the children of the instance's node stand at position i, in brackets, and where they end. For each node that is open, whose
 // children are being matched, the stack has 8 * node + the next child.
-fn match_children(
+fn match_open(
+    stack: &mut [u32],
+    sheet: &[u8],
+    t: &[u32],
+    text: &[u8],
+    w: &[u32],
+    instance: Instance,
+    i: usize,
+) -> LentMatch
+    requires { ⌜ (instance .node < 1024) × (0 < length (now stack)) × (length (now stack) ≤ 1024) ⌝ }
+    ensures { λ r. ⌜ Matches (length (now (stack .entry))) r (matchChildren 1023 (now (sheet .entry)) (now (t .entry))
+        (now (text .entry)) (now (w .entry)) (instance .frame) (instance .node) i) ⌝ }
+{
+    put(stack, 0, CHILD_LIMIT * instance.node);
+    let mut n: usize = 1;
+    let mut at = i;
+    while 0 < n {
+        let level = get(stack, n - 1);
+        let m = level / CHILD_LIMIT;
+        let j = level % CHILD_LIMIT;
+        let count = argument_count(t, m);
+        if byte(text, at) == mark_before(j, count) {
+            at += 1;
+            if j < count {
+                if n == stack.len() {
+                    return stopped();
+                }
+                let part = Instance {
+                    node: argument_of(t, m, j),
+                    frame: instance.frame,
+                };
+                let Reach::To(e) = match_head(sheet, t, text, w, part, at) else {
+                    return ended(Reach::Differs);
+                };
+                put(stack, n - 1, level + 1);
+                put(stack, n, CHILD_LIMIT * part.node);
+                at = e;
+                n += opens(t, part.node);
+            } else {
+                n -= 1;
+            }
+        } else {
+            return ended(Reach::Differs);
+        }
+    }
+    ended(Reach::To(at))
+}
+
+// The same with room for as many open nodes as the table has.
+fn match_deep(
     sheet: &[u8],
     t: &[u32],
     text: &[u8],
@@ -185,39 +262,29 @@ fn match_children(
         (instance .frame) (instance .node) i ⌝ }
 {
     let mut stack = [0u32; NODES];
-    put(&mut stack, 0, CHILD_LIMIT * instance.node);
-    let mut n: usize = 1;
-    let mut at = i;
-    while 0 < n {
-        let level = get(&stack, n - 1);
-        let m = level / CHILD_LIMIT;
-        let j = level % CHILD_LIMIT;
-        let count = argument_count(t, m);
-        if byte(text, at) == mark_before(j, count) {
-            at += 1;
-            if j < count {
-                if n == NODES {
-                    return Reach::Differs;
-                }
-                let part = Instance {
-                    node: argument_of(t, m, j),
-                    frame: instance.frame,
-                };
-                let Reach::To(e) = match_head(sheet, t, text, w, part, at) else {
-                    return Reach::Differs;
-                };
-                put(&mut stack, n - 1, level + 1);
-                put(&mut stack, n, CHILD_LIMIT * part.node);
-                at = e;
-                n += opens(t, part.node);
-            } else {
-                n -= 1;
-            }
-        } else {
-            return Reach::Differs;
-        }
+    let found = match_open(&mut stack, sheet, t, text, w, instance, i);
+    found.reach
+}
+
+// The same. Few terms on a sheet are nested deep, and only for these a long stack is cleared.
+fn match_children(
+    sheet: &[u8],
+    t: &[u32],
+    text: &[u8],
+    w: &[u32],
+    instance: Instance,
+    i: usize,
+) -> Reach
+    requires { ⌜ instance .node < 1024 ⌝ }
+    ensures { λ r. ⌜ r ≡ matchChildren 1023 (now (sheet .entry)) (now (t .entry)) (now (text .entry)) (now (w .entry))
+        (instance .frame) (instance .node) i ⌝ }
+{
+    let mut stack = [0u32; FEW_NODES];
+    let found = match_open(&mut stack, sheet, t, text, w, instance, i);
+    if found.full {
+        return match_deep(sheet, t, text, w, instance, i);
     }
-    Reach::To(at)
+    found.reach
 }
 
 // Whether the instance stands at position i, and where it ends.

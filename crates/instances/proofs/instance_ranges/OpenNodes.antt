@@ -5,7 +5,7 @@ use Prim.Native.Nat.{ℕ, zero, suc, _+_, _-_, _*_, _/_, _%_, _<_, _≤_}
 use native.Mathlib.Omega.{arith}
 use native.Mathlib.Numerals.{add-one, sub-one}
 use mathlib.Core.Path.{_≡_, refl, sym, ap, ap₂, _∙_}
-use mathlib.Core.Bool.{Bool, true, false, cond}
+use mathlib.Core.Bool.{Bool, true, false, cond, true≢false}
 use mathlib.Core.List.{List}
 use lib.Dec.{eqb, leb, ltb}
 use lib.ListN.{length, getD, set, length-set}
@@ -21,7 +21,8 @@ use Rattle.scanning.specs.Ranges.{sameFolded, scanNumber}
 use Rattle.scanning.specs.Instances.{matchRange, matchName, matchNumber, matchFunctor, matchSlot, argumentCount, argumentOf, matchMore}
 use Rattle.scanning.specs.Instances.{matchArguments, matchApplication, matchInstance}
 use Rattle.term_scanner.proofs.Ends.{NumberFrom, number-ends}
-use Rattle.instances.specs.OpenNodes.{opensOf, matchHead, markBefore, matchChildren}
+use Rattle.instances.specs.declared.instance_ranges.LentMatch.{LentMatch}
+use Rattle.instances.specs.OpenNodes.{opensOf, matchHead, markBefore, matchChildren, Matches}
 
 -- Going on from a position that was reached.
 abbrev onward : (ℕ → Reach) → Reach → Reach
@@ -232,12 +233,10 @@ module _ (b t x w : List ℕ) (g : ℕ) where
   -- A loop's turns
 
   -- The loop begins with one open node.
-  pub open-first : (f m e : ℕ) (s z : List ℕ) → length s ≡ 1024 → s ≡ set z 0 (8 * m)
+  pub open-first : (f m e : ℕ) (s z : List ℕ) → 0 < length z → s ≡ set z 0 (8 * m)
       → matchChildren f b t x w g m e ≡ matchOpen f s 1 e
   unfolding matchOpen
-  open-first f m e s z l h =
-      let k : 0 < length z = (let y = ap length h ∙ length-set z 0 (8 * m) in omega arith) in
-      rw h (sym (open-push 0 f z (8 * m) e k ∙ onward-end (matchNode f (8 * m) e) ∙ node-fresh f m e))
+  open-first f m e s z l h = rw h (sym (open-push 0 f z (8 * m) e l ∙ onward-end (matchNode f (8 * m) e) ∙ node-fresh f m e))
 
   -- It ends when no node is open.
   pub open-none : (f n e : ℕ) (s : List ℕ) → n ≤ 0 → matchOpen f s n e ≡ To e
@@ -284,7 +283,7 @@ module _ (b t x w : List ℕ) (g : ℕ) where
             below ∙ ap (λ (f : ℕ). onward (matchOpen (suc (1024 - n)) s (n - 1)) (onward (matchNode (1024 - n) (v + 1))
             (matchInstance f b t x w g (argumentOf t (v / 8) (v % 8)) (e + 1)))) z
 
-        module _ (room : n ≡ 1024 → ⊥) (a q : ℕ) (next : q ≡ e + 1) (r : Reach) (node : a ≡ argumentOf t (v / 8) (v % 8))
+        module _ (room : n < 1024) (a q : ℕ) (next : q ≡ e + 1) (r : Reach) (node : a ≡ argumentOf t (v / 8) (v % 8))
             (head : r ≡ matchHead b t x w g a q) where
           -- The child's rank, and the child.
           rank : 1024 - n ≡ suc (1024 - (n + 1))
@@ -300,7 +299,7 @@ module _ (b t x w : List ℕ) (g : ℕ) where
               (child-is ∙ head-differs (1024 - (n + 1)) a q r head h)
 
           -- The stack with the node's next child, and with the child's node above it.
-          module _ (long : length s ≡ 1024) (p o : ℕ) (there : r ≡ To p) (opens : o ≡ opensOf t a) (s₁ s₂ : List ℕ)
+          module _ (long : n < length s) (p o : ℕ) (there : r ≡ To p) (opens : o ≡ opensOf t a) (s₁ s₂ : List ℕ)
               (first : s₁ ≡ set s (n - 1) (v + 1)) (second : s₂ ≡ set s₁ n (8 * a)) where
             rest : (i : ℕ) → onward (matchOpen (suc (1024 - n)) s (n - 1)) (matchNode (1024 - n) (v + 1) i) ≡ matchOpen (1024 - n) s₁ n i
             rest i =
@@ -340,3 +339,12 @@ module _ (b t x w : List ℕ) (g : ℕ) where
                     let z : n + 1 ≡ n + o = (let y = eqb-false o 0 h in let l = opens-few t a in omega arith) in
                     opened (eqb-false o 0 h) ∙ ap (λ (i : ℕ). matchOpen (1024 - (n + 1)) s₂ i p) (sym (add-one n))
                     ∙ ap (λ (i : ℕ). matchOpen (1024 - i) s₂ i p) z
+
+-- What is found with a lent stack.
+
+module _ (n : ℕ) (r : LentMatch) (o w : Reach) where
+  pub match-ended : (r .full ≡ false) × (r .reach ≡ o) → o ≡ w → Matches n r w
+  match-ended h e = record { roomy = λ q. h .1 ∙ e; longest = λ q. h .1 ∙ e }
+
+  pub match-stopped : (r .full ≡ true) × (r .reach ≡ o) → (n ≡ 1024 → o ≡ w) → Matches n r w
+  match-stopped h e = record { roomy = λ q. absurd (true≢false (sym (h .0) ∙ q)); longest = λ q. h .1 ∙ e q }
