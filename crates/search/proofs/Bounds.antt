@@ -34,7 +34,7 @@ use Rattle.search.proofs.FormedStores.{UpTo, SymbolUpTo, StoreUpTo, Mat
 use Rattle.search.proofs.FormedStores.{comparing-formed, matchStep-formed, final-formed}
 
 -- The bound n leaves room for what an act makes: a level one higher, the next place.
-abbrev Room : ℕ → Configuration → Type 0
+abbrev pub Room : ℕ → Configuration → Type 0
 Room n (take s g b) = g .level < n
 Room n (try s a m ms k b) = k < n
 Room n (match m b) = Unit {0}
@@ -190,7 +190,7 @@ module _ (ok : Arities) (n : ℕ) where
       ((h, new, (q .0, (r, q .1))), tt)
 
   -- Every act keeps the bound where there is room.
-  step-formed : (u : ℕ) (c : Configuration) → ConfigurationUpTo c → Room n c → All ConfigurationUpTo (step u c)
+  pub step-formed : (u : ℕ) (c : Configuration) → ConfigurationUpTo c → Room n c → All ConfigurationUpTo (step u c)
   unfolding step ConfigurationUpTo
   step-formed u (take s g b) h r = takeGoal-formed u s (g .goal) (g .environment) (g .program) (g .level) b (h .0) (h .1) (h .2) r
   step-formed u (try s a m ms k b) h r =
@@ -214,7 +214,7 @@ module _ (ok : Arities) (n : ℕ) where
   startEnvironment-formed v l = rw (lt-ltb v 8 l) tt
 
   -- Every bound holds at the start.
-  start-formed : (cs : Rules Clause) (g : Goal) → All (λ c. FormedClause c ok) (cs .clauses) → FormedGoal g ok
+  pub start-formed : (cs : Rules Clause) (g : Goal) → All (λ c. FormedClause c ok) (cs .clauses) → FormedGoal g ok
       → All ConfigurationUpTo (start cs g)
   unfolding start startGoal startStore instanceOf sheetProgram ConfigurationUpTo
   start-formed cs g h k = (
@@ -257,7 +257,7 @@ module _ (ok : Arities) (n : ℕ) where
       (startEnvironment-formed v l)
 
 -- A bound leaves room below the next one.
-room : (ok : Arities) (n : ℕ) (c : Configuration) → ConfigurationUpTo ok n c → Room (suc n) c
+pub room : (ok : Arities) (n : ℕ) (c : Configuration) → ConfigurationUpTo ok n c → Room (suc n) c
 unfolding ConfigurationUpTo
 room ok n (take s g b) h = (let l = h .1 .level in omega arith)
 room ok n (try s a m ms k b) h = (let l = h .1 .place in omega arith)
@@ -285,15 +285,20 @@ pub record ShownUpTo (ok : Arities) (n : ℕ) (e : Environment Symbol) (ls : Lis
   pub environment : FormedEnvironment ok (SymbolUpTo n) e
   pub lines : All (FormedLine ok (SymbolUpTo n) (λ k. k ≤ n)) ls
 
--- It does so at its end.
+-- It does so at its end,
+pub bounds-end : (ok : Arities) (n : ℕ) (s : Store) (path : List (Line Leaf)) → ConfigurationUpTo ok n (done s path)
+    → ShownUpTo ok n (finalEnvironment s) (finalLines s path)
+unfolding ConfigurationUpTo
+bounds-end ok n s path last =
+    record { environment = finalEnvironment-formed ok n s (last .0); lines = finalLines-formed ok n s path (last .0) (last .1) }
+
+-- where every bound from its units on holds.
 pub proved-bounds : (ok : Arities) (cs : Rules Clause) (g : Goal) → All (λ c. FormedClause c ok) (cs .clauses) → FormedGoal g ok
     → (budget n : ℕ) (s : Store) (path : List (Line Leaf)) → search budget cs g ≡ ends (proved s path) n
     → ShownUpTo ok n (finalEnvironment s) (finalLines s path)
-unfolding ConfigurationUpTo
 proved-bounds ok cs g h k budget n s path e =
-    let last : ConfigurationUpTo ok n (done s path) =
-    subst (All (ConfigurationUpTo ok n)) (proved-stands cs g budget n s path e .1) (bounded ok cs g h k n n (omega arith)) .0 in
-    record { environment = finalEnvironment-formed ok n s (last .0); lines = finalLines-formed ok n s path (last .0) (last .1) }
+    bounds-end ok n s path
+    (subst (All (ConfigurationUpTo ok n)) (proved-stands cs g budget n s path e .1) (bounded ok cs g h k n n (omega arith)) .0)
 
 -- The first act is always due, so that a proved search has taken at least one.
 pub proved-least : (cs : Rules Clause) (g : Goal) (budget n : ℕ) (s : Store) (path : List (Line Leaf))

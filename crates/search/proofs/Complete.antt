@@ -97,7 +97,7 @@ goals-hold : (gs : List (Sequent Leaf)) (n : ℕ) (σ τ : Valuation) → GoalsB
 goals-hold gs n σ τ b h k = subst (All Holds) (goals-agree gs n σ τ b h) k
 
 -- A program that is low for a level is low for the next level.
-low-up : (i : ℕ) (P : Program Symbol) → LowProgram i P → LowProgram (suc i) P
+pub low-up : (i : ℕ) (P : Program Symbol) → LowProgram i P → LowProgram (suc i) P
 low-up i P h =
     all-weaken (λ x. LowEnvironment i (x .environment)) (λ x. LowEnvironment (suc i) (x .environment))
     (λ x k v. let l = k v in omega arith) (P .clauses) h
@@ -299,11 +299,11 @@ advance-complete u (c ∷ ds) h = (all-append Invariant (step u c) ds (step-keep
     go (inr x) = any-right Solvable (step u c) ds x
 
 -- The terms for the goal's free variables, and a constant for the other names, of which nothing is known.
-unfoldable startValues : Goal → Environment Symbol → Valuation
+unfoldable pub startValues : Goal → Environment Symbol → Valuation
 startValues g e v = cond (freeG g v) (e v) (app (sheetSymbol 0) nil)
 
 -- All values at the start have level 0.
-startValues-low : (g : Goal) (e : Environment Symbol) → ((v : ℕ) → freeG g v ≡ true → level (e v) ≤ 0) → (v : ℕ)
+pub startValues-low : (g : Goal) (e : Environment Symbol) → ((v : ℕ) → freeG g v ≡ true → level (e v) ≤ 0) → (v : ℕ)
     → level (startValues g e v) ≤ 0
 unfolding startValues level levelBy
 startValues-low g e h v = go (freeG g v) refl
@@ -313,7 +313,7 @@ startValues-low g e h v = go (freeG g v) refl
     go false q = omega arith
 
 -- With values of level 0, the names of the start stand for terms of level 0.
-startEnvironment-low : (σ : Valuation) → ((v : ℕ) → level (σ v) ≤ 0) → LowEnvironment 0 (putEnvironment (valued σ) startEnvironment)
+pub startEnvironment-low : (σ : Valuation) → ((v : ℕ) → level (σ v) ≤ 0) → LowEnvironment 0 (putEnvironment (valued σ) startEnvironment)
 unfolding startEnvironment substitute value level levelBy
 startEnvironment-low σ h v = go (ltb v 8)
   where
@@ -322,7 +322,7 @@ startEnvironment-low σ h v = go (ltb v 8)
     go false = omega arith
 
 -- The start environment with `startValues` agrees with e on the names that stand free in the goal.
-startValues-agree : (g : Goal) (e : Environment Symbol) → SheetNames g
+pub startValues-agree : (g : Goal) (e : Environment Symbol) → SheetNames g
     → AgreeOn g e (putEnvironment (valued (startValues g e)) startEnvironment)
 unfolding startValues startEnvironment substitute value
 startValues-agree g e n v h = rw (lt-ltb v 8 (n v h), h) refl

@@ -25,7 +25,7 @@ use Rattle.search.proofs.Invariant.{Invariant, step-keeps, start-invari
 use Rattle.search.proofs.ProcedureSteps.{Known, known-follows, known-more, known-formed, step-known, start-known}
 
 -- Two properties of all elements at once.
-all-both : {A : Type 0} (P Q : A → Type 0) (l : List A) → All P l → All Q l → All (λ a. P a × Q a) l
+pub all-both : {A : Type 0} (P Q : A → Type 0) (l : List A) → All P l → All Q l → All (λ a. P a × Q a) l
 all-both P Q [] h k = tt
 all-both P Q (a ∷ l) h k = ((h .0, k .0), all-both P Q l (h .1) (k .1))
 
@@ -47,7 +47,7 @@ module _ (cs : Rules Clause) (g : Goal) where
   follows n = all-weaken (Both n) (FollowsSteps cs g) (λ c h. known-follows cs g n c (h .1)) (after cs g n) (known n)
 
 -- The answer substitution gives each leaf its final value: the variables in final terms are unbound, and there labels are levels.
-follows-answer : {cs : Rules Clause} {g : Goal} (s : Store) (gs : List PaperSequent) (path : List (Line Leaf)) → Formed s
+pub follows-answer : {cs : Rules Clause} {g : Goal} (s : Store) (gs : List PaperSequent) (path : List (Line Leaf)) → Formed s
     → (f : Follows cs g s gs path) → (l : Leaf) → answerOf (f .sequence) l ≡ final s l
 unfolding answerOf final at solution
 follows-answer s gs path h f (con c k) = unfold substitute symbolUnder in refl

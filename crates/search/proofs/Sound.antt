@@ -21,7 +21,6 @@ use Rattle.sequents.proofs.Sequents.{putEntry, entries-put, assign-put, instanc
 use Rattle.sequents.proofs.Lines.{leads-append}
 use Rattle.unification.specs.Store.{Leaf, var, con, Store, fresh, freshVariables}
 use Rattle.unification.specs.Matching.{Matching, pairs, check, fail, matchStep}
-use Rattle.unification.specs.Promises.{Formed}
 use Rattle.unification.proofs.Valuation.{value}
 use Rattle.unification.proofs.Sound.{SolvesMatching, comparing-sound, matchStep-sound}
 use Rattle.search.specs.Configurations.{Branch, Atom, Configuration, take, try, match, done}
@@ -190,22 +189,28 @@ module _ (s₀ : Store) (g₀ : Sequent Leaf) where
   step-sound u (done s path) h = (h, tt)
 
 -- The soundness invariant holds at the start, which needs no line.
-start-sound : (cs : Rules Clause) (g : Goal) → All (SoundConfiguration startStore (startGoal cs g)) (start cs g)
+pub start-sound : (cs : Rules Clause) (g : Goal) → All (SoundConfiguration startStore (startGoal cs g)) (start cs g)
 unfolding start Leads
 start-sound cs g = ((λ σ v. record { first = v; leads = refl }), tt)
 
--- At the end no goal is left and the final values are a solution, so that T5 holds.
-pub sound : (cs : Rules Clause) (g : Goal) (budget n : ℕ) (s : Store) (path : List (Line Leaf))
-    → search budget cs g ≡ ends (proved s path) n → Sound cs g s path
+-- At the end no goal is left and the final values are a solution.
+pub sound-end : (cs : Rules Clause) (g : Goal) (s : Store) (path : List (Line Leaf)) → Invariant (done s path)
+    → SoundConfiguration startStore (startGoal cs g) (done s path) → Sound cs g s path
 unfolding Invariant startStore startGoal finalLines finalEnvironment level symbols value
-sound cs g budget n s path e =
-    let formed : Formed s = proved-all cs g Invariant (start-invariant cs g) step-keeps budget n s path e in
+sound-end cs g s path formed h =
     let r : Reaches startStore (startGoal cs g) (finalValues s) (linesAt (finalValues s) path) [] =
-    proved-all cs g (SoundConfiguration startStore (startGoal cs g)) (start-sound cs g)
-    (step-sound startStore (startGoal cs g)) budget n s path e (finalValues s) (final-solves s formed) in
+    h (finalValues s) (final-solves s formed) in
     record {
       level0 = final-level0 s (λ x l. subst (λ (θ : Leaf → Ground). level (θ (var x)) ≤ 0) (final-valued s) (r .first .levels x l));
       derives = subst (λ (q : Sequent Symbol). Derives (finalLines s path) (q ∷ [])) (instance-put (final s) cs g startEnvironment)
           (subst (λ (θ : Leaf → Ground). Derives (map (putLine θ) (reverse path)) (putSequent θ (startGoal cs g) ∷ [])) (final-valued s)
           (r .leads));
     }
+
+-- So T5 holds of a proved search.
+pub sound : (cs : Rules Clause) (g : Goal) (budget n : ℕ) (s : Store) (path : List (Line Leaf))
+    → search budget cs g ≡ ends (proved s path) n → Sound cs g s path
+sound cs g budget n s path e =
+    sound-end cs g s path (proved-all cs g Invariant (start-invariant cs g) step-keeps budget n s path e)
+    (proved-all cs g (SoundConfiguration startStore (startGoal cs g)) (start-sound cs g) (step-sound startStore (startGoal cs g))
+    budget n s path e)

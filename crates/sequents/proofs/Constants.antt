@@ -27,11 +27,11 @@ abbrev pub LowProgram : ℕ → Program Symbol → Type 0
 LowProgram i P = All (λ h. LowEnvironment i (h .environment)) (P .clauses)
 
 -- The made constant n of level k becomes m.
-unfoldable exchange : ℕ → ℕ → ℕ → Renaming
+unfoldable pub exchange : ℕ → ℕ → ℕ → Renaming
 exchange k n m = record { ofMade = λ x j. cond (eqb j k && eqb x n) m x; ofLeftover = λ x j. x }
 
 -- The exchange takes the made constant n of level k to m.
-exchange-at : (k n m : ℕ) → renamed (exchange k n m) (made n k) ≡ leaf (made m k)
+pub exchange-at : (k n m : ℕ) → renamed (exchange k n m) (made n k) ≡ leaf (made m k)
 unfolding exchange rename
 exchange-at k n m = rw (eq-eqb k k refl, eq-eqb n n refl)
 
@@ -53,11 +53,11 @@ exchange-term i n m t h =
     (exchange-symbol i n m) ∙ substitute-leaf t
 
 -- The exchange at level i + 1 leaves an environment that is low for i as it is.
-exchange-environment : (i n m : ℕ) (e : Environment Symbol) → LowEnvironment i e → putEnvironment (renamed (exchange (suc i) n m)) e ≡ e
+pub exchange-environment : (i n m : ℕ) (e : Environment Symbol) → LowEnvironment i e → putEnvironment (renamed (exchange (suc i) n m)) e ≡ e
 exchange-environment i n m e h = fun-ext (λ v. exchange-term i n m (e v) (h v))
 
 -- The exchange at level i + 1 leaves a program that is low for i as it is.
-exchange-program : (i n m : ℕ) (P : Program Symbol) → LowProgram i P → putProgram (renamed (exchange (suc i) n m)) P ≡ P
+pub exchange-program : (i n m : ℕ) (P : Program Symbol) → LowProgram i P → putProgram (renamed (exchange (suc i) n m)) P ≡ P
 exchange-program i n m P h = ap (rules (P .order)) (each (P .clauses) h)
   where
     each : (l : List (Hypothesis Symbol)) → All (λ h. LowEnvironment i (h .environment)) l

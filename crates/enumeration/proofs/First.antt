@@ -1,0 +1,90 @@
+-- The first proof is what the search finds.
+use Prim.Native.Nat.{ℕ, zero, suc}
+use mathlib.Core.Path.{_≡_, refl, sym, _∙_, ap, ap₂, subst}
+use mathlib.Core.List.{List, [], _∷_, _++_}
+use mathlib.Core.Logic.{_↔_}
+use mathlib.Core.Option.{Option, none, some}
+use native.Mathlib.Omega.{arith}
+use Rattle.formulas.specs.Formulas.{Goal, Clause}
+use Rattle.formulas.specs.Rules.{Rules}
+use Rattle.sequents.specs.Sequents.{Line}
+use Rattle.unification.specs.Store.{Leaf, Store}
+use Rattle.search.specs.Configurations.{Configuration}
+use Rattle.search.specs.Search.{start, advance, Verdict, proved, noProof, verdictOf, SearchOutcome, ends, spent, searchFrom, search}
+use Rattle.enumeration.specs.Enumeration.{Proof, proofOf, exhausted, unitsSpent, Enumeration, Next, finds, noneLeft, runsOut, reaches, nextProof, goOn, enumerateFrom, enumerate}
+use Rattle.enumeration.specs.Smaller.{oneProof}
+use Rattle.enumeration.specs.Promises.{AllFirst, OneProof}
+
+-- What the search tells where the walk comes to its next proof.
+unfoldable told : Next → SearchOutcome
+told (finds f w ds) = ends (proved (w .store) (w .path)) (w .units)
+told (noneLeft u) = ends noProof u
+told runsOut = spent
+
+next-search : (left u : ℕ) (ds : List Configuration) → searchFrom left u ds ≡ told (nextProof left u ds)
+unfolding nextProof reaches told searchFrom
+next-search zero u ds = go (verdictOf ds)
+  where
+    go : (o : Option Verdict) → (elim o [ some v ↦ ends v u | none ↦ spent ]) ≡ told (elim o [ some v ↦ reaches zero u ds v | none ↦ runsOut ])
+    go (some (proved s ls)) = refl
+    go (some noProof) = refl
+    go none = refl
+next-search (suc left) u ds = go (verdictOf ds) (next-search left (suc u) (advance u ds))
+  where
+    go : (o : Option Verdict) → searchFrom left (suc u) (advance u ds) ≡ told (nextProof left (suc u) (advance u ds))
+        → (elim o [ some v ↦ ends v u | none ↦ searchFrom left (suc u) (advance u ds) ])
+        ≡ told (elim o [ some v ↦ reaches (suc left) u ds v | none ↦ nextProof left (suc u) (advance u ds) ])
+    go (some (proved s ls)) ih = refl
+    go (some noProof) ih = refl
+    go none ih = ih
+
+search-told : (cs : Rules Clause) (g : Goal) (budget : ℕ) → search budget cs g ≡ told (nextProof budget 0 (start cs g))
+unfolding search
+search-told cs g budget = next-search budget 0 (start cs g)
+
+same-proof : (u v : ℕ) (s t : Store) (ls ks : List (Line Leaf)) → u ≡ v → s ≡ t → ls ≡ ks → proofOf u s ls ≡ proofOf v t ks
+same-proof u v s t ls ks p q r = ap₂ (λ (x : ℕ) (y : Store). proofOf x y ls) p q ∙ ap (proofOf v t) r
+
+module _ (rest : ℕ → ℕ → List Configuration → Enumeration) where
+  told-proves : (x : Next) (n : ℕ) (s : Store) (path : List (Line Leaf)) → (told x ≡ ends (proved s path) n) ↔ ((more : List Proof) × (goOn rest x .found ≡ proofOf n s path ∷ more))
+  unfolding told goOn
+  told-proves (finds f w ds) n s path = (
+    (λ e. (rest f (w .units) ds .found, ap (_∷ rest f (w .units) ds .found) (same-proof (w .units) n (w .store) s (w .path) path (cc) (cc) (cc)))),
+    (λ h. let e = h .1 in let q : w ≡ proofOf n s path = cc in ap (λ (v : Proof). ends (proved (v .store) (v .path)) (v .units)) q),
+  )
+  told-proves (noneLeft u) n s path = ((λ e. absurd (let z : _≡_ {A = ℕ} 0 1 = cc in omega arith)), (λ h. absurd (let e = h .1 in let z : _≡_ {A = ℕ} 0 1 = cc in omega arith)))
+  told-proves runsOut n s path = ((λ e. absurd (let z : _≡_ {A = ℕ} 0 1 = cc in omega arith)), (λ h. absurd (let e = h .1 in let z : _≡_ {A = ℕ} 0 1 = cc in omega arith)))
+
+  told-denies : (x : Next) (n : ℕ) → (told x ≡ ends noProof n) ↔ ((goOn rest x .found ≡ []) × (goOn rest x .end ≡ exhausted n))
+  unfolding told goOn
+  told-denies (finds f w ds) n = ((λ e. absurd (let z : _≡_ {A = ℕ} 0 1 = cc in omega arith)), (λ h. absurd (let e = h .0 in let z : _≡_ {A = ℕ} 0 1 = cc in omega arith)))
+  told-denies (noneLeft u) n = ((λ e. (refl, (let q : u ≡ n = cc in ap exhausted q))), (λ h. let e = h .1 in let q : u ≡ n = cc in ap (ends noProof) q))
+  told-denies runsOut n = ((λ e. absurd (let z : _≡_ {A = ℕ} 0 1 = cc in omega arith)), (λ h. absurd (let e = h .1 in let z : _≡_ {A = ℕ} 0 1 = cc in omega arith)))
+
+  told-spends : (x : Next) → (told x ≡ spent) ↔ ((goOn rest x .found ≡ []) × (goOn rest x .end ≡ unitsSpent))
+  unfolding told goOn
+  told-spends (finds f w ds) = ((λ e. absurd (let z : _≡_ {A = ℕ} 0 1 = cc in omega arith)), (λ h. absurd (let e = h .0 in let z : _≡_ {A = ℕ} 0 1 = cc in omega arith)))
+  told-spends (noneLeft u) = ((λ e. absurd (let z : _≡_ {A = ℕ} 0 1 = cc in omega arith)), (λ h. absurd (let e = h .1 in let z : _≡_ {A = ℕ} 0 1 = cc in omega arith)))
+  told-spends runsOut = ((λ e. (refl, refl)), (λ h. refl))
+
+pub first-proof : AllFirst
+unfolding enumerate enumerateFrom
+first-proof cs g wanted budget =
+    let x = nextProof budget 0 (start cs g) in
+    let rest : ℕ → ℕ → List Configuration → Enumeration = λ e v ds. enumerateFrom wanted e v ds in
+    let q : told x ≡ search budget cs g = sym (search-told cs g budget) in
+    record {
+      proves = λ n s path. subst (λ (o : SearchOutcome). (o ≡ ends (proved s path) n) ↔ ((more : List Proof) × (goOn rest x .found ≡ proofOf n s path ∷ more))) q (told-proves rest x n s path);
+      denies = λ n. subst (λ (o : SearchOutcome). (o ≡ ends noProof n) ↔ ((goOn rest x .found ≡ []) × (goOn rest x .end ≡ exhausted n))) q (told-denies rest x n);
+      spends = subst (λ (o : SearchOutcome). (o ≡ spent) ↔ ((goOn rest x .found ≡ []) × (goOn rest x .end ≡ unitsSpent))) q (told-spends rest x);
+    }
+
+one : (x : Next) → goOn (λ e v ds. enumerateFrom 0 e v ds) x ≡ oneProof (told x)
+unfolding goOn enumerateFrom oneProof told
+one (finds f w ds) = refl
+one (noneLeft u) = refl
+one runsOut = refl
+
+pub one-proof : OneProof
+unfolding enumerate enumerateFrom
+one-proof cs g budget = one (nextProof budget 0 (start cs g)) ∙ ap oneProof (sym (search-told cs g budget))

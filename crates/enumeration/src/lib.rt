@@ -1,0 +1,1 @@
+// Definitions and theorems alone: the search that goes on after each proof (request W-202).
