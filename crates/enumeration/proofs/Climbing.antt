@@ -16,7 +16,8 @@ use Rattle.unification.specs.Matching.{matchStep}
 use Rattle.search.specs.Configurations.{Branch, Atom, Configuration, take, try, match, done}
 use Rattle.search.specs.Steps.{settle, tryFrom, tryMember, takeGoal, step}
 use Rattle.search.specs.Search.{start, advance, Verdict, proved, noProof, verdictOf}
-use Rattle.enumeration.specs.Enumeration.{Next, finds, noneLeft, runsOut, alternatives, reaches, nextProof, goOn, enumerateFrom, enumerate}
+use Rattle.enumeration.specs.Enumeration.{Next, finds, noneLeft, runsOut, alternatives, reaches, nextProof, goOn, enumerateFrom}
+use Rattle.enumeration.specs.Enumeration.{enumerate}
 use Rattle.enumeration.specs.Promises.{Climbs}
 use Rattle.enumeration.proofs.Scripts.{Finished}
 use Rattle.enumeration.proofs.Lines.{Single, proceed-single, settle-single, tryFrom-single, tried-single}
@@ -50,7 +51,8 @@ unfolding tryFrom Finished
 tryFrom-waits s a [] k b = tt
 tryFrom-waits s a (m ∷ ms) k b = ((λ h. h), tt)
 
-takeGoal-front : (u : ℕ) (s : Store) (g : Goal) (e : Environment Leaf) (P : Program Leaf) (i : ℕ) (b : Branch) → Front (takeGoal u s g e P i b)
+takeGoal-front : (u : ℕ) (s : Store) (g : Goal) (e : Environment Leaf) (P : Program Leaf) (i : ℕ) (b : Branch)
+    → Front (takeGoal u s g e P i b)
 unfolding takeGoal Front Finished
 takeGoal-front u s (atom p ts) e P i b = front-single _ (tryFrom-single s _ (entries P) 1 b)
 takeGoal-front u s truth e P i b = front-single _ (proceed-single s (b .goals) (plain Dtrue ∷ b .path))
@@ -65,7 +67,8 @@ unfolding step Front
 step-front u (take s g b) = takeGoal-front u s (g .goal) (g .environment) (g .program) (g .level) b
 step-front u (try s a m ms k b) =
     let same = eqb (a .predicate) (m .member .predicate) in
-    front-append (cond same (tryMember s a m k b) []) (tryFrom s a ms (suc k) b) (front-single (cond same (tryMember s a m k b) []) (tried-single same s a m k b)) (tryFrom-waits s a ms (suc k) b)
+    front-append (cond same (tryMember s a m k b) []) (tryFrom s a ms (suc k) b)
+    (front-single (cond same (tryMember s a m k b) []) (tried-single same s a m k b)) (tryFrom-waits s a ms (suc k) b)
 step-front u (match m b) = front-single (settle (matchStep m) b) (settle-single (matchStep m) b)
 step-front u (done s ls) = tt
 
@@ -139,7 +142,8 @@ unfolding enumerateFrom Climbs goOn AtLeast
 enumerate-climb zero f u ds h = tt
 enumerate-climb (suc wanted) f u ds h = go (λ e v es k. enumerate-climb wanted e v es k) (nextProof f u ds) (next-more f u ds h)
   where
-    go : ((e v : ℕ) (es : List Configuration) → All Unfinished es → Climbs v (enumerateFrom wanted e v es .found)) → (x : Next) → AtLeast (suc u) x
+    go : ((e v : ℕ) (es : List Configuration) → All Unfinished es → Climbs v (enumerateFrom wanted e v es .found)) → (x : Next)
+        → AtLeast (suc u) x
         → Climbs u (goOn (λ e v es. enumerateFrom wanted e v es) x .found)
     go ih (finds e w es) k = ((let z = k .0 in omega arith), ih e (w .units) es (k .1))
     go ih (noneLeft n) k = tt

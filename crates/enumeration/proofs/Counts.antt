@@ -9,7 +9,8 @@ use lib.ListN.{length}
 use Rattle.terms.specs.Lists.{All}
 use Rattle.search.specs.Configurations.{Configuration}
 use Rattle.search.specs.Search.{start, advance, Verdict, proved, noProof, verdictOf}
-use Rattle.enumeration.specs.Enumeration.{enough, exhausted, Enumeration, Next, finds, noneLeft, runsOut, reaches, nextProof, goOn, enumerateFrom, enumerate}
+use Rattle.enumeration.specs.Enumeration.{enough, exhausted, Enumeration, Next, finds, noneLeft, runsOut, reaches, nextProof, goOn}
+use Rattle.enumeration.specs.Enumeration.{enumerateFrom, enumerate}
 use Rattle.enumeration.specs.Promises.{AllCounts}
 use Rattle.enumeration.proofs.Climbing.{climbing}
 
@@ -48,7 +49,8 @@ pub record Counted (wanted budget : ℕ) (r : Enumeration) : Type 0 where
   pub units : All (λ w. w .units ≤ budget) (r .found)
   pub last : (n : ℕ) → r .end ≡ exhausted n → n ≤ budget
 
-counted-next : (wanted b u : ℕ) (rest : ℕ → ℕ → List Configuration → Enumeration) → ((f v : ℕ) (ds : List Configuration) → v + f ≡ b → Counted wanted b (rest f v ds))
+counted-next : (wanted b u : ℕ) (rest : ℕ → ℕ → List Configuration → Enumeration)
+    → ((f v : ℕ) (ds : List Configuration) → v + f ≡ b → Counted wanted b (rest f v ds))
     → (x : Next) → Between u b x → Counted (suc wanted) b (goOn rest x)
 unfolding goOn Between
 counted-next wanted b u rest h (finds f w ds) k =
@@ -81,7 +83,8 @@ enumerate-counted zero f u b ds e = record {
   last = λ m q. absurd (let z : _≡_ {A = ℕ} 0 1 = cc in omega arith);
 }
 enumerate-counted (suc wanted) f u b ds e =
-    counted-next wanted b u (λ h v cs. enumerateFrom wanted h v cs) (λ h v cs q. enumerate-counted wanted h v b cs q) (nextProof f u ds) (next-between f u b ds e)
+    counted-next wanted b u (λ h v cs. enumerateFrom wanted h v cs) (λ h v cs q. enumerate-counted wanted h v b cs q) (nextProof f u ds)
+    (next-between f u b ds e)
 
 pub counts : AllCounts
 unfolding enumerate

@@ -51,7 +51,8 @@ module _ (cs : Rules Clause) (g : Goal) where
   fine-acts : (u : ℕ) (c : Configuration) → Fine u c → All (Fine (suc u)) (acts u c)
   fine-acts u c h = acts-keep (Fine (suc u)) u c
       (all-both Invariant (λ d. SoundConfiguration startStore (startGoal cs g) d × Known cs g (suc u) d) (step u c) (step-keeps u c (h .0))
-      (all-both (SoundConfiguration startStore (startGoal cs g)) (Known cs g (suc u)) (step u c) (step-sound startStore (startGoal cs g) u c (h .1 .0)) (step-known cs g u c (h .0) (h .1 .1))))
+      (all-both (SoundConfiguration startStore (startGoal cs g)) (Known cs g (suc u)) (step u c)
+      (step-sound startStore (startGoal cs g) u c (h .1 .0)) (step-known cs g u c (h .0) (h .1 .1))))
 
   fine-waits : (u v : ℕ) (c : Configuration) → u ≤ v → Fine u c → Fine v c
   fine-waits u v c l h = (h .0, (h .1 .0, waits (λ n. Known cs g n c) (λ n k. known-more cs g n c k) v u l (h .1 .1)))
@@ -80,10 +81,12 @@ module _ (cs : Rules Clause) (g : Goal) where
   each-all (is ∷ x) (w ∷ ws) h = (each is w (h .0), each-all x ws (h .1))
 
 pub each-sound : AllSound
-each-sound cs g wanted budget = let t = found-at-start cs g wanted budget in each-all cs g (t .scripts) (enumerate wanted budget cs g .found) (t .arrive)
+each-sound cs g wanted budget =
+    let t = found-at-start cs g wanted budget in each-all cs g (t .scripts) (enumerate wanted budget cs g .found) (t .arrive)
 
 -- A path that succeeds by its own acts.
-own-acts : (is : Script) (u : ℕ) (c d : Configuration) → LeadsTo is u c d → (ns : List ℕ) × (LeadsBy ns is c d × Rising u ns (u + length is))
+own-acts : (is : Script) (u : ℕ) (c d : Configuration) → LeadsTo is u c d
+    → (ns : List ℕ) × (LeadsBy ns is c d × Rising u ns (u + length is))
 unfolding LeadsTo LeadsBy Rising
 own-acts [] u c d h = ([], (h, omega arith))
 own-acts (i ∷ is) u c d h =
@@ -91,7 +94,8 @@ own-acts (i ∷ is) u c d h =
     let q : suc u + length is ≡ u + length (i ∷ is) = omega arith in
     (u ∷ r .0, ((h .0, h .1, r .1 .0), (omega arith, subst (λ (v : ℕ). Rising (suc u) (r .0) v) q (r .1 .1))))
 
-pub path-sound : (cs : Rules Clause) (g : Goal) (p : Script) (s : Store) (ls : List (Line Leaf)) → SucceedsWith cs g p s ls → Sound cs g s ls
+pub path-sound : (cs : Rules Clause) (g : Goal) (p : Script) (s : Store) (ls : List (Line Leaf)) → SucceedsWith cs g p s ls
+    → Sound cs g s ls
 unfolding SucceedsWith
 path-sound cs g p s ls h =
     let r = own-acts p 0 (root cs g) (done s ls) h in

@@ -11,7 +11,8 @@ use Rattle.sequents.specs.Sequents.{Line}
 use Rattle.unification.specs.Store.{Leaf, Store}
 use Rattle.search.specs.Configurations.{Configuration}
 use Rattle.search.specs.Search.{start, advance, Verdict, proved, noProof, verdictOf, SearchOutcome, ends, spent, searchFrom, search}
-use Rattle.enumeration.specs.Enumeration.{Proof, proofOf, exhausted, unitsSpent, Enumeration, Next, finds, noneLeft, runsOut, reaches, nextProof, goOn, enumerateFrom, enumerate}
+use Rattle.enumeration.specs.Enumeration.{Proof, proofOf, exhausted, unitsSpent, Enumeration, Next, finds, noneLeft, runsOut, reaches}
+use Rattle.enumeration.specs.Enumeration.{nextProof, goOn, enumerateFrom, enumerate}
 use Rattle.enumeration.specs.Smaller.{oneProof}
 use Rattle.enumeration.specs.Promises.{AllFirst, OneProof}
 
@@ -25,7 +26,8 @@ next-search : (left u : ℕ) (ds : List Configuration) → searchFrom left u ds 
 unfolding nextProof reaches told searchFrom
 next-search zero u ds = go (verdictOf ds)
   where
-    go : (o : Option Verdict) → (elim o [ some v ↦ ends v u | none ↦ spent ]) ≡ told (elim o [ some v ↦ reaches zero u ds v | none ↦ runsOut ])
+    go : (o : Option Verdict)
+        → (elim o [ some v ↦ ends v u | none ↦ spent ]) ≡ told (elim o [ some v ↦ reaches zero u ds v | none ↦ runsOut ])
     go (some (proved s ls)) = refl
     go (some noProof) = refl
     go none = refl
@@ -46,25 +48,49 @@ same-proof : (u v : ℕ) (s t : Store) (ls ks : List (Line Leaf)) → u ≡ v �
 same-proof u v s t ls ks p q r = ap₂ (λ (x : ℕ) (y : Store). proofOf x y ls) p q ∙ ap (proofOf v t) r
 
 module _ (rest : ℕ → ℕ → List Configuration → Enumeration) where
-  told-proves : (x : Next) (n : ℕ) (s : Store) (path : List (Line Leaf)) → (told x ≡ ends (proved s path) n) ↔ ((more : List Proof) × (goOn rest x .found ≡ proofOf n s path ∷ more))
+  told-proves : (x : Next) (n : ℕ) (s : Store) (path : List (Line Leaf))
+      → (told x ≡ ends (proved s path) n) ↔ ((more : List Proof) × (goOn rest x .found ≡ proofOf n s path ∷ more))
   unfolding told goOn
   told-proves (finds f w ds) n s path = (
-    (λ e. (rest f (w .units) ds .found, ap (_∷ rest f (w .units) ds .found) (same-proof (w .units) n (w .store) s (w .path) path (cc) (cc) (cc)))),
+    (λ e. (
+      rest f (w .units) ds .found,
+      ap (_∷ rest f (w .units) ds .found)
+          (same-proof (w .units) n (w .store) s (w .path) path (cc) (cc) (cc)),
+    )),
     (λ h. let e = h .1 in let q : w ≡ proofOf n s path = cc in ap (λ (v : Proof). ends (proved (v .store) (v .path)) (v .units)) q),
   )
-  told-proves (noneLeft u) n s path = ((λ e. absurd (let z : _≡_ {A = ℕ} 0 1 = cc in omega arith)), (λ h. absurd (let e = h .1 in let z : _≡_ {A = ℕ} 0 1 = cc in omega arith)))
-  told-proves runsOut n s path = ((λ e. absurd (let z : _≡_ {A = ℕ} 0 1 = cc in omega arith)), (λ h. absurd (let e = h .1 in let z : _≡_ {A = ℕ} 0 1 = cc in omega arith)))
+  told-proves (noneLeft u) n s path = (
+    (λ e. absurd (let z : _≡_ {A = ℕ} 0 1 = cc in omega arith)),
+    (λ h. absurd (let e = h .1 in let z : _≡_ {A = ℕ} 0 1 = cc in omega arith)),
+  )
+  told-proves runsOut n s path = (
+    (λ e. absurd (let z : _≡_ {A = ℕ} 0 1 = cc in omega arith)),
+    (λ h. absurd (let e = h .1 in let z : _≡_ {A = ℕ} 0 1 = cc in omega arith)),
+  )
 
   told-denies : (x : Next) (n : ℕ) → (told x ≡ ends noProof n) ↔ ((goOn rest x .found ≡ []) × (goOn rest x .end ≡ exhausted n))
   unfolding told goOn
-  told-denies (finds f w ds) n = ((λ e. absurd (let z : _≡_ {A = ℕ} 0 1 = cc in omega arith)), (λ h. absurd (let e = h .0 in let z : _≡_ {A = ℕ} 0 1 = cc in omega arith)))
-  told-denies (noneLeft u) n = ((λ e. (refl, (let q : u ≡ n = cc in ap exhausted q))), (λ h. let e = h .1 in let q : u ≡ n = cc in ap (ends noProof) q))
-  told-denies runsOut n = ((λ e. absurd (let z : _≡_ {A = ℕ} 0 1 = cc in omega arith)), (λ h. absurd (let e = h .1 in let z : _≡_ {A = ℕ} 0 1 = cc in omega arith)))
+  told-denies (finds f w ds) n = (
+    (λ e. absurd (let z : _≡_ {A = ℕ} 0 1 = cc in omega arith)),
+    (λ h. absurd (let e = h .0 in let z : _≡_ {A = ℕ} 0 1 = cc in omega arith)),
+  )
+  told-denies (noneLeft u) n =
+      ((λ e. (refl, (let q : u ≡ n = cc in ap exhausted q))), (λ h. let e = h .1 in let q : u ≡ n = cc in ap (ends noProof) q))
+  told-denies runsOut n = (
+    (λ e. absurd (let z : _≡_ {A = ℕ} 0 1 = cc in omega arith)),
+    (λ h. absurd (let e = h .1 in let z : _≡_ {A = ℕ} 0 1 = cc in omega arith)),
+  )
 
   told-spends : (x : Next) → (told x ≡ spent) ↔ ((goOn rest x .found ≡ []) × (goOn rest x .end ≡ unitsSpent))
   unfolding told goOn
-  told-spends (finds f w ds) = ((λ e. absurd (let z : _≡_ {A = ℕ} 0 1 = cc in omega arith)), (λ h. absurd (let e = h .0 in let z : _≡_ {A = ℕ} 0 1 = cc in omega arith)))
-  told-spends (noneLeft u) = ((λ e. absurd (let z : _≡_ {A = ℕ} 0 1 = cc in omega arith)), (λ h. absurd (let e = h .1 in let z : _≡_ {A = ℕ} 0 1 = cc in omega arith)))
+  told-spends (finds f w ds) = (
+    (λ e. absurd (let z : _≡_ {A = ℕ} 0 1 = cc in omega arith)),
+    (λ h. absurd (let e = h .0 in let z : _≡_ {A = ℕ} 0 1 = cc in omega arith)),
+  )
+  told-spends (noneLeft u) = (
+    (λ e. absurd (let z : _≡_ {A = ℕ} 0 1 = cc in omega arith)),
+    (λ h. absurd (let e = h .1 in let z : _≡_ {A = ℕ} 0 1 = cc in omega arith)),
+  )
   told-spends runsOut = ((λ e. (refl, refl)), (λ h. refl))
 
 pub first-proof : AllFirst
@@ -74,9 +100,14 @@ first-proof cs g wanted budget =
     let rest : ℕ → ℕ → List Configuration → Enumeration = λ e v ds. enumerateFrom wanted e v ds in
     let q : told x ≡ search budget cs g = sym (search-told cs g budget) in
     record {
-      proves = λ n s path. subst (λ (o : SearchOutcome). (o ≡ ends (proved s path) n) ↔ ((more : List Proof) × (goOn rest x .found ≡ proofOf n s path ∷ more))) q (told-proves rest x n s path);
-      denies = λ n. subst (λ (o : SearchOutcome). (o ≡ ends noProof n) ↔ ((goOn rest x .found ≡ []) × (goOn rest x .end ≡ exhausted n))) q (told-denies rest x n);
-      spends = subst (λ (o : SearchOutcome). (o ≡ spent) ↔ ((goOn rest x .found ≡ []) × (goOn rest x .end ≡ unitsSpent))) q (told-spends rest x);
+      proves =
+          λ n s path. subst (λ (o : SearchOutcome). (o ≡ ends (proved s path) n)
+          ↔ ((more : List Proof) × (goOn rest x .found ≡ proofOf n s path ∷ more))) q (told-proves rest x n s path);
+      denies =
+          λ n. subst (λ (o : SearchOutcome). (o ≡ ends noProof n) ↔ ((goOn rest x .found ≡ []) × (goOn rest x .end ≡ exhausted n))) q
+          (told-denies rest x n);
+      spends =
+          subst (λ (o : SearchOutcome). (o ≡ spent) ↔ ((goOn rest x .found ≡ []) × (goOn rest x .end ≡ unitsSpent))) q (told-spends rest x);
     }
 
 one : (x : Next) → goOn (λ e v ds. enumerateFrom 0 e v ds) x ≡ oneProof (told x)

@@ -11,12 +11,14 @@ use Rattle.sequents.specs.Sequents.{Line}
 use Rattle.unification.specs.Store.{Leaf, Store}
 use Rattle.search.specs.Configurations.{Configuration, take, try, match, done}
 use Rattle.search.specs.Search.{advance, verdictOf}
-use Rattle.enumeration.specs.Enumeration.{Proof, proofOf, End, enough, exhausted, unitsSpent, Enumeration, alternatives, reaches, nextProof, goOn, enumerateFrom}
+use Rattle.enumeration.specs.Enumeration.{Proof, proofOf, End, enough, exhausted, unitsSpent, Enumeration, alternatives, reaches}
+use Rattle.enumeration.specs.Enumeration.{nextProof, goOn, enumerateFrom}
 use Rattle.enumeration.specs.Scripts.{Script, acts, Stands, LeadsTo, SucceedsWith, Succeeds, Before, Ascending, root}
 use Rattle.enumeration.specs.Promises.{Paired}
 use Rattle.enumeration.proofs.Numbers.{Rising}
 use Rattle.enumeration.proofs.Scripts.{before-longer, Finished}
-use Rattle.enumeration.proofs.Paths.{LeadsBy, Node, node, script, configuration, Reached, Ordered, children, children-are, children-any, Standing, choices, standing-act, goes-on, ends-there}
+use Rattle.enumeration.proofs.Paths.{LeadsBy, Node, node, script, configuration, Reached, Ordered, children, children-are}
+use Rattle.enumeration.proofs.Paths.{children-any, Standing, choices, standing-act, goes-on, ends-there}
 
 -- The proof stands where the script leads, by acts with rising numbers below its units.
 abbrev pub Arrives : Rules Clause → Goal → Script → Proof → Type 0
@@ -58,40 +60,52 @@ before-any is q (p ∷ ps) h (inl a) =
 before-any is q (p ∷ ps) h (inr a) = before-any is q ps (h .1) a
 
 -- a proof is found
-told-found : (cs : Rules Clause) (g : Goal) (u : ℕ) (is : Script) (ns : List ℕ) (s : Store) (ls : List (Line Leaf)) (ps : List Node) (r : Enumeration) → Standing cs g u (node is ns (done s ls) ∷ ps)
+told-found : (cs : Rules Clause) (g : Goal) (u : ℕ) (is : Script) (ns : List ℕ) (s : Store) (ls : List (Line Leaf)) (ps : List Node)
+    (r : Enumeration) → Standing cs g u (node is ns (done s ls) ∷ ps)
     → Told cs g ps r → Told cs g (node is ns (done s ls) ∷ ps) (record { found = proofOf u s ls ∷ r .found; end = r .end })
 unfolding Paired Ascending Reached Ordered script acts Stands SucceedsWith
 told-found cs g u is ns s ls ps r h t = record {
   scripts = is ∷ t .scripts;
   arrive = ((ns, h .reached .0 .0, h .reached .0 .1), t .arrive);
-  ascend = (all-weaken (λ q. Any (From q) ps) (Before is) (λ q a. before-any is q ps (h .ordered .0) a) (t .scripts) (t .inside), t .ascend);
-  inside = (inl ([], append-nil is), all-weaken (λ q. Any (From q) ps) (λ q. Any (From q) (node is ns (done s ls) ∷ ps)) (λ q a. inr a) (t .scripts) (t .inside));
+  ascend =
+      (all-weaken (λ q. Any (From q) ps) (Before is) (λ q a. before-any is q ps (h .ordered .0) a) (t .scripts) (t .inside), t .ascend);
+  inside = (
+    inl ([], append-nil is),
+    all-weaken (λ q. Any (From q) ps) (λ q. Any (From q) (node is ns (done s ls) ∷ ps)) (λ q a. inr a)
+        (t .scripts) (t .inside),
+  );
   covers = covered;
 }
   where
     here-only : (q : Script) → Succeeds cs g q → (x : Script) → is ++ x ≡ q → Mem q (is ∷ t .scripts)
     here-only q k [] e = subst (λ (y : Script). Mem y (is ∷ t .scripts)) (sym (append-nil is) ∙ e) here
     here-only q k (i ∷ x) e =
-        absurd (goes-on cs g u is ns (done s ls) i x (done (k .0) (k .1 .0)) (h .reached .0) (subst (λ (y : Script). LeadsTo y 0 (root cs g) (done (k .0) (k .1 .0))) (sym e) (k .1 .1)) .1)
+        absurd (goes-on cs g u is ns (done s ls) i x (done (k .0) (k .1 .0)) (h .reached .0)
+        (subst (λ (y : Script). LeadsTo y 0 (root cs g) (done (k .0) (k .1 .0))) (sym e) (k .1 .1)) .1)
 
-    later : (q : Script) → Before is q → Mem q (t .scripts) ⊎ (Open (r .end) × All (λ p. Before p q) (t .scripts)) → Mem q (is ∷ t .scripts) ⊎ (Open (r .end) × All (λ p. Before p q) (is ∷ t .scripts))
+    later : (q : Script) → Before is q → Mem q (t .scripts) ⊎ (Open (r .end) × All (λ p. Before p q) (t .scripts))
+        → Mem q (is ∷ t .scripts) ⊎ (Open (r .end) × All (λ p. Before p q) (is ∷ t .scripts))
     later q b (inl m) = inl (there m)
     later q b (inr a) = inr (a .0, (b, a .1))
 
-    covered : (q : Script) → Succeeds cs g q → Any (From q) (node is ns (done s ls) ∷ ps) → Mem q (is ∷ t .scripts) ⊎ (Open (r .end) × All (λ p. Before p q) (is ∷ t .scripts))
+    covered : (q : Script) → Succeeds cs g q → Any (From q) (node is ns (done s ls) ∷ ps)
+        → Mem q (is ∷ t .scripts) ⊎ (Open (r .end) × All (λ p. Before p q) (is ∷ t .scripts))
     covered q k (inl a) = inl (here-only q k (a .0) (a .1))
     covered q k (inr a) = later q (before-any is q ps (h .ordered .0) a) (t .covers q k a)
 
 -- what goes on from a child goes on from the node
-from-child : (q : Script) (is : Script) (ns ms : List ℕ) (c : Configuration) (f : ℕ → Script) (ds : List Configuration) (ps : List Node) → ((i : ℕ) → (x : Script) × (is ++ x ≡ f i))
+from-child : (q : Script) (is : Script) (ns ms : List ℕ) (c : Configuration) (f : ℕ → Script) (ds : List Configuration) (ps : List Node)
+    → ((i : ℕ) → (x : Script) × (is ++ x ≡ f i))
     → Any (From q) (children f ms ds ++ ps) → Any (From q) (node is ns c ∷ ps)
 unfolding children script
 from-child q is ns ms c f [] ps h a = inr a
-from-child q is ns ms c f (d ∷ ds) ps h (inl a) = inl (h 0 .0 ++ a .0, sym (append-assoc is (h 0 .0) (a .0)) ∙ ap (λ (x : Script). x ++ a .0) (h 0 .1) ∙ a .1)
+from-child q is ns ms c f (d ∷ ds) ps h (inl a) =
+    inl (h 0 .0 ++ a .0, sym (append-assoc is (h 0 .0) (a .0)) ∙ ap (λ (x : Script). x ++ a .0) (h 0 .1) ∙ a .1)
 from-child q is ns ms c f (d ∷ ds) ps h (inr a) = from-child q is ns ms c (λ i. f (suc i)) ds ps (λ i. h (suc i)) a
 
 -- an act is done
-told-act : (cs : Rules Clause) (g : Goal) (u : ℕ) (is : Script) (ns : List ℕ) (c : Configuration) (ps : List Node) (r : Enumeration) → (Finished c → ⊥) → Standing cs g u (node is ns c ∷ ps)
+told-act : (cs : Rules Clause) (g : Goal) (u : ℕ) (is : Script) (ns : List ℕ) (c : Configuration) (ps : List Node) (r : Enumeration)
+    → (Finished c → ⊥) → Standing cs g u (node is ns c ∷ ps)
     → Told cs g (children (choices is) (ns ++ (u ∷ [])) (acts u c) ++ ps) r → Told cs g (node is ns c ∷ ps) r
 unfolding SucceedsWith Finished script
 told-act cs g u is ns c ps r f h t = record {
@@ -103,27 +117,33 @@ told-act cs g u is ns c ps r f h t = record {
   covers = λ q k a. t .covers q k (covered q k a);
 }
   where
-    child : (q : Script) → Succeeds cs g q → (x : Script) → is ++ x ≡ q → Any (From q) (children (choices is) (ns ++ (u ∷ [])) (acts u c) ++ ps)
+    child : (q : Script) → Succeeds cs g q → (x : Script) → is ++ x ≡ q
+        → Any (From q) (children (choices is) (ns ++ (u ∷ [])) (acts u c) ++ ps)
     child q k [] e =
         let d = done (k .0) (k .1 .0) in
-        absurd (f (ends-there cs g u is ns c d (h .reached .0) tt (subst (λ (y : Script). LeadsTo y 0 (root cs g) d) (sym e ∙ append-nil is) (k .1 .1))))
+        absurd (f (ends-there cs g u is ns c d (h .reached .0) tt
+        (subst (λ (y : Script). LeadsTo y 0 (root cs g) d) (sym e ∙ append-nil is) (k .1 .1))))
     child q k (i ∷ x) e =
         let d = done (k .0) (k .1 .0) in
         let z = goes-on cs g u is ns c i x d (h .reached .0) (subst (λ (y : Script). LeadsTo y 0 (root cs g) d) (sym e) (k .1 .1)) in
         any-left (From q) (children (choices is) (ns ++ (u ∷ [])) (acts u c)) ps
         (children-any (From q) (choices is) (ns ++ (u ∷ [])) (acts u c) i (z .0) (z .1) (x, append-assoc is (i ∷ []) x ∙ e))
 
-    covered : (q : Script) → Succeeds cs g q → Any (From q) (node is ns c ∷ ps) → Any (From q) (children (choices is) (ns ++ (u ∷ [])) (acts u c) ++ ps)
+    covered : (q : Script) → Succeeds cs g q → Any (From q) (node is ns c ∷ ps)
+        → Any (From q) (children (choices is) (ns ++ (u ∷ [])) (acts u c) ++ ps)
     covered q k (inl a) = child q k (a .0) (a .1)
     covered q k (inr a) = any-right (From q) (children (choices is) (ns ++ (u ∷ [])) (acts u c)) ps a
 
 -- the state after an act
-act-state : (is : Script) (ns : List ℕ) (u : ℕ) (c : Configuration) (ps : List Node) → map configuration (children (choices is) (ns ++ (u ∷ [])) (acts u c) ++ ps) ≡ acts u c ++ map configuration ps
+act-state : (is : Script) (ns : List ℕ) (u : ℕ) (c : Configuration) (ps : List Node)
+    → map configuration (children (choices is) (ns ++ (u ∷ [])) (acts u c) ++ ps) ≡ acts u c ++ map configuration ps
 act-state is ns u c ps =
-    map-append configuration (children (choices is) (ns ++ (u ∷ [])) (acts u c)) ps ∙ ap (λ (x : List Configuration). x ++ map configuration ps) (children-are (choices is) (ns ++ (u ∷ [])) (acts u c))
+    map-append configuration (children (choices is) (ns ++ (u ∷ [])) (acts u c)) ps
+    ∙ ap (λ (x : List Configuration). x ++ map configuration ps) (children-are (choices is) (ns ++ (u ∷ [])) (acts u c))
 
 -- up to the next proof, if what follows it is told
-next-told : (cs : Rules Clause) (g : Goal) (rest : ℕ → ℕ → List Configuration → Enumeration) → ((f u : ℕ) (ps : List Node) → Standing cs g u ps → Told cs g ps (rest f u (map configuration ps)))
+next-told : (cs : Rules Clause) (g : Goal) (rest : ℕ → ℕ → List Configuration → Enumeration)
+    → ((f u : ℕ) (ps : List Node) → Standing cs g u ps → Told cs g ps (rest f u (map configuration ps)))
     → (f u : ℕ) (ps : List Node) → Standing cs g u ps → Told cs g ps (goOn rest (nextProof f u (map configuration ps)))
 unfolding nextProof reaches alternatives verdictOf advance goOn configuration acts Finished Open Ordered
 next-told cs g rest k zero u [] h = told-none cs g u
@@ -131,28 +151,35 @@ next-told cs g rest k zero u (node is ns (take s q b) ∷ ps) h = told-open cs g
 next-told cs g rest k zero u (node is ns (try s a m ms j b) ∷ ps) h = told-open cs g _ unitsSpent tt
 next-told cs g rest k zero u (node is ns (match m b) ∷ ps) h = told-open cs g _ unitsSpent tt
 next-told cs g rest k zero u (node is ns (done s ls) ∷ ps) h =
-    told-found cs g u is ns s ls ps (rest zero u (map configuration ps)) h (k zero u ps (record { reached = h .reached .1; ordered = h .ordered .1 }))
+    told-found cs g u is ns s ls ps (rest zero u (map configuration ps)) h
+    (k zero u ps (record { reached = h .reached .1; ordered = h .ordered .1 }))
 next-told cs g rest k (suc f) u [] h = told-none cs g u
 next-told cs g rest k (suc f) u (node is ns (take s q b) ∷ ps) h =
     let c = take s q b in
     told-act cs g u is ns c ps (goOn rest (nextProof f (suc u) (acts u c ++ map configuration ps))) (λ z. z) h
-    (subst (λ (x : List Configuration). Told cs g (children (choices is) (ns ++ (u ∷ [])) (acts u c) ++ ps) (goOn rest (nextProof f (suc u) x))) (act-state is ns u c ps)
+    (subst (λ (x : List Configuration). Told cs g (children (choices is) (ns ++ (u ∷ [])) (acts u c) ++ ps)
+    (goOn rest (nextProof f (suc u) x))) (act-state is ns u c ps)
     (next-told cs g rest k f (suc u) (children (choices is) (ns ++ (u ∷ [])) (acts u c) ++ ps) (standing-act cs g u is ns c ps h)))
 next-told cs g rest k (suc f) u (node is ns (try s a m ms j b) ∷ ps) h =
     let c = try s a m ms j b in
     told-act cs g u is ns c ps (goOn rest (nextProof f (suc u) (acts u c ++ map configuration ps))) (λ z. z) h
-    (subst (λ (x : List Configuration). Told cs g (children (choices is) (ns ++ (u ∷ [])) (acts u c) ++ ps) (goOn rest (nextProof f (suc u) x))) (act-state is ns u c ps)
+    (subst (λ (x : List Configuration). Told cs g (children (choices is) (ns ++ (u ∷ [])) (acts u c) ++ ps)
+    (goOn rest (nextProof f (suc u) x))) (act-state is ns u c ps)
     (next-told cs g rest k f (suc u) (children (choices is) (ns ++ (u ∷ [])) (acts u c) ++ ps) (standing-act cs g u is ns c ps h)))
 next-told cs g rest k (suc f) u (node is ns (match m b) ∷ ps) h =
     let c = match m b in
     told-act cs g u is ns c ps (goOn rest (nextProof f (suc u) (acts u c ++ map configuration ps))) (λ z. z) h
-    (subst (λ (x : List Configuration). Told cs g (children (choices is) (ns ++ (u ∷ [])) (acts u c) ++ ps) (goOn rest (nextProof f (suc u) x))) (act-state is ns u c ps)
+    (subst (λ (x : List Configuration). Told cs g (children (choices is) (ns ++ (u ∷ [])) (acts u c) ++ ps)
+    (goOn rest (nextProof f (suc u) x))) (act-state is ns u c ps)
     (next-told cs g rest k f (suc u) (children (choices is) (ns ++ (u ∷ [])) (acts u c) ++ ps) (standing-act cs g u is ns c ps h)))
 next-told cs g rest k (suc f) u (node is ns (done s ls) ∷ ps) h =
-    told-found cs g u is ns s ls ps (rest (suc f) u (map configuration ps)) h (k (suc f) u ps (record { reached = h .reached .1; ordered = h .ordered .1 }))
+    told-found cs g u is ns s ls ps (rest (suc f) u (map configuration ps)) h
+    (k (suc f) u ps (record { reached = h .reached .1; ordered = h .ordered .1 }))
 
 -- as many as are wanted
-pub enumerate-told : (cs : Rules Clause) (g : Goal) (wanted f u : ℕ) (ps : List Node) → Standing cs g u ps → Told cs g ps (enumerateFrom wanted f u (map configuration ps))
+pub enumerate-told : (cs : Rules Clause) (g : Goal) (wanted f u : ℕ) (ps : List Node) → Standing cs g u ps
+    → Told cs g ps (enumerateFrom wanted f u (map configuration ps))
 unfolding enumerateFrom Open
 enumerate-told cs g zero f u ps h = told-open cs g ps enough tt
-enumerate-told cs g (suc wanted) f u ps h = next-told cs g (λ e v ds. enumerateFrom wanted e v ds) (λ e v qs k. enumerate-told cs g wanted e v qs k) f u ps h
+enumerate-told cs g (suc wanted) f u ps h =
+    next-told cs g (λ e v ds. enumerateFrom wanted e v ds) (λ e v qs k. enumerate-told cs g wanted e v qs k) f u ps h

@@ -11,7 +11,8 @@ use Rattle.formulas.specs.Formulas.{Goal, Clause}
 use Rattle.formulas.specs.Rules.{Rules}
 use Rattle.search.specs.Configurations.{Configuration}
 use Rattle.search.specs.Search.{start, advance, Verdict, proved, noProof, verdictOf}
-use Rattle.enumeration.specs.Enumeration.{Proof, End, enough, exhausted, unitsSpent, Enumeration, Next, finds, noneLeft, runsOut, reaches, nextProof, goOn, enumerateFrom, enumerate}
+use Rattle.enumeration.specs.Enumeration.{Proof, End, enough, exhausted, unitsSpent, Enumeration, Next, finds, noneLeft, runsOut}
+use Rattle.enumeration.specs.Enumeration.{reaches, nextProof, goOn, enumerateFrom, enumerate}
 use Rattle.enumeration.specs.Smaller.{firsts, endWithin, within}
 use Rattle.enumeration.specs.Promises.{AllLarger}
 use Rattle.enumeration.proofs.Counts.{Between, next-between}
@@ -24,14 +25,17 @@ addProof w r = record { found = w ∷ r .found; end = r .end }
 
 -- A smaller number
 
-enumerate-firsts : (w v f u : ℕ) (ds : List Configuration) → w ≤ v → enumerateFrom w f u ds ≡ firsts w (enumerateFrom v f u ds .found) (enumerateFrom v f u ds .end)
+enumerate-firsts : (w v f u : ℕ) (ds : List Configuration) → w ≤ v
+    → enumerateFrom w f u ds ≡ firsts w (enumerateFrom v f u ds .found) (enumerateFrom v f u ds .end)
 unfolding enumerateFrom firsts goOn
 enumerate-firsts zero v f u ds l = refl
 enumerate-firsts (suc w) zero f u ds l = absurd (omega arith)
 enumerate-firsts (suc w) (suc v) f u ds l = go (λ e k cs. enumerate-firsts w v e k cs (omega arith)) (nextProof f u ds)
   where
-    go : ((e k : ℕ) (cs : List Configuration) → enumerateFrom w e k cs ≡ firsts w (enumerateFrom v e k cs .found) (enumerateFrom v e k cs .end)) → (x : Next)
-        → goOn (λ e k cs. enumerateFrom w e k cs) x ≡ firsts (suc w) (goOn (λ e k cs. enumerateFrom v e k cs) x .found) (goOn (λ e k cs. enumerateFrom v e k cs) x .end)
+    go : ((e k : ℕ) (cs : List Configuration)
+        → enumerateFrom w e k cs ≡ firsts w (enumerateFrom v e k cs .found) (enumerateFrom v e k cs .end)) → (x : Next)
+        → goOn (λ e k cs. enumerateFrom w e k cs) x
+        ≡ firsts (suc w) (goOn (λ e k cs. enumerateFrom v e k cs) x .found) (goOn (λ e k cs. enumerateFrom v e k cs) x .end)
     go ih (finds e y cs) = ap (addProof y) (ih e (y .units) cs)
     go ih (noneLeft n) = refl
     go ih runsOut = refl
@@ -98,14 +102,16 @@ dropped n b l = go (leb n b) refl
     go false e = refl
 
 within-next : (b c : ℕ) (rest : ℕ → ℕ → List Configuration → Enumeration) → b ≤ c
-    → ((f h u : ℕ) (ds : List Configuration) → u + f ≡ b → u + h ≡ c → f ≤ h → rest f u ds ≡ within b (rest h u ds .found) (rest h u ds .end))
+    → ((f h u : ℕ) (ds : List Configuration) → u + f ≡ b → u + h ≡ c → f ≤ h
+    → rest f u ds ≡ within b (rest h u ds .found) (rest h u ds .end))
     → (x y : Next) → Shorter b c x y → goOn rest x ≡ within b (goOn rest y .found) (goOn rest y .end)
 unfolding Shorter goOn within endWithin
 within-next b c rest l ih (finds f w ds) (finds h v es) k =
     let below : v .units ≤ b = (let e : w .units ≡ v .units = ap (λ (z : Proof). z .units) (k .0) in let z = k .2 in omega arith) in
     let same : w .units ≡ v .units = ap (λ (z : Proof). z .units) (k .0) in
     let r = ih f h (v .units) es (let z = k .2 in omega arith) (k .3) (let z = k .2 in let y = k .3 in omega arith) in
-    rw (kept (v .units) b below) (ap₂ (λ (z : Proof) (cs : List Configuration). addProof z (rest f (z .units) cs)) (k .0) (k .1) ∙ ap (addProof v) r)
+    rw (kept (v .units) b below)
+    (ap₂ (λ (z : Proof) (cs : List Configuration). addProof z (rest f (z .units) cs)) (k .0) (k .1) ∙ ap (addProof v) r)
 within-next b c rest l ih (finds f w ds) (noneLeft m) k = absurd k
 within-next b c rest l ih (finds f w ds) runsOut k = absurd k
 within-next b c rest l ih (noneLeft n) (finds h v es) k = absurd k
@@ -115,11 +121,13 @@ within-next b c rest l ih runsOut (finds h v es) k = rw (dropped (v .units) b k)
 within-next b c rest l ih runsOut (noneLeft m) k = rw (dropped m b k) refl
 within-next b c rest l ih runsOut runsOut k = refl
 
-enumerate-within : (w f h u b c : ℕ) (ds : List Configuration) → u + f ≡ b → u + h ≡ c → f ≤ h → enumerateFrom w f u ds ≡ within b (enumerateFrom w h u ds .found) (enumerateFrom w h u ds .end)
+enumerate-within : (w f h u b c : ℕ) (ds : List Configuration) → u + f ≡ b → u + h ≡ c → f ≤ h
+    → enumerateFrom w f u ds ≡ within b (enumerateFrom w h u ds .found) (enumerateFrom w h u ds .end)
 unfolding enumerateFrom within endWithin
 enumerate-within zero f h u b c ds p q l = refl
 enumerate-within (suc w) f h u b c ds p q l =
-    within-next b c (λ e v es. enumerateFrom w e v es) (omega arith) (λ e k v es x y z. enumerate-within w e k v b c es x y z) (nextProof f u ds) (nextProof h u ds) (next-shorter f h u b c ds p q l)
+    within-next b c (λ e v es. enumerateFrom w e v es) (omega arith) (λ e k v es x y z. enumerate-within w e k v b c es x y z)
+    (nextProof f u ds) (nextProof h u ds) (next-shorter f h u b c ds p q l)
 
 -- What is left out stands at the end
 
@@ -177,21 +185,27 @@ module _ (cs : Rules Clause) (g : Goal) where
   extends w v b c l m =
       let r = within-prefix b (enumerate v c cs g .found) (enumerate v c cs g .end) in
       let s = firsts-prefix w (enumerate v b cs g .found) (enumerate v b cs g .end) in
-      let p : within b (enumerate v c cs g .found) (enumerate v c cs g .end) .found ≡ enumerate v b cs g .found = ap (λ (x : Enumeration). x .found) (sym (budgets v b c m)) in
-      let q : firsts w (enumerate v b cs g .found) (enumerate v b cs g .end) .found ≡ enumerate w b cs g .found = ap (λ (x : Enumeration). x .found) (sym (number w v b l)) in (
+      let p : within b (enumerate v c cs g .found) (enumerate v c cs g .end) .found ≡ enumerate v b cs g .found =
+      ap (λ (x : Enumeration). x .found) (sym (budgets v b c m)) in
+      let q : firsts w (enumerate v b cs g .found) (enumerate v b cs g .end) .found ≡ enumerate w b cs g .found =
+      ap (λ (x : Enumeration). x .found) (sym (number w v b l)) in (
         s .0 ++ r .0,
-        r .1 ∙ ap (λ (x : List Proof). x ++ r .0) (p ∙ s .1 ∙ ap (λ (x : List Proof). x ++ s .0) q) ∙ append-assoc (enumerate w b cs g .found) (s .0) (r .0),
+        r .1 ∙ ap (λ (x : List Proof). x ++ r .0) (p ∙ s .1 ∙ ap (λ (x : List Proof). x ++ s .0) q)
+            ∙ append-assoc (enumerate w b cs g .found) (s .0) (r .0),
       )
 
-  first : (w v b c : ℕ) → w ≤ v → b ≤ c → (x : Proof) (rest : List Proof) → enumerate w b cs g .found ≡ x ∷ rest → (more : List Proof) × (enumerate v c cs g .found ≡ x ∷ more)
+  first : (w v b c : ℕ) → w ≤ v → b ≤ c → (x : Proof) (rest : List Proof) → enumerate w b cs g .found ≡ x ∷ rest
+      → (more : List Proof) × (enumerate v c cs g .found ≡ x ∷ more)
   first w v b c l m x rest h = let r = extends w v b c l m in (rest ++ r .0, r .1 ∙ ap (λ (y : List Proof). y ++ r .0) h)
 
   settled : (w v b c n : ℕ) → w ≤ v → b ≤ c → enumerate w b cs g .end ≡ exhausted n → enumerate v c cs g ≡ enumerate w b cs g
   settled w v b c n l m h =
       let p = number w v b l in
       let q = budgets v b c m in
-      let one : enumerate v b cs g ≡ enumerate w b cs g = firsts-settled w (enumerate v b cs g .found) (enumerate v b cs g .end) n (ap (λ (x : Enumeration). x .end) (sym p) ∙ h) ∙ sym p in
-      within-settled b (enumerate v c cs g .found) (enumerate v c cs g .end) n (ap (λ (x : Enumeration). x .end) (sym q ∙ one) ∙ h) ∙ sym q ∙ one
+      let one : enumerate v b cs g ≡ enumerate w b cs g =
+      firsts-settled w (enumerate v b cs g .found) (enumerate v b cs g .end) n (ap (λ (x : Enumeration). x .end) (sym p) ∙ h) ∙ sym p in
+      within-settled b (enumerate v c cs g .found) (enumerate v c cs g .end) n (ap (λ (x : Enumeration). x .end) (sym q ∙ one) ∙ h) ∙ sym q
+      ∙ one
 
 pub larger : AllLarger
 larger cs g = record { number = number cs g; budgets = budgets cs g; extends = extends cs g; first = first cs g; settled = settled cs g }

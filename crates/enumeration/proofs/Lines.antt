@@ -66,7 +66,8 @@ tryFrom-grown s a [] k b = tt
 tryFrom-grown s a (m ∷ ms) k b = (([], refl), tt)
 
 -- the member of a try writes its place
-tryMember-grown : (s : Store) (a : Atom) (m : Entry Leaf) (k : ℕ) (b : Branch) → All (Grown (Dclause k (freshVariables (m .member .prefix) (s .next)) ∷ b .path)) (tryMember s a m k b)
+tryMember-grown : (s : Store) (a : Atom) (m : Entry Leaf) (k : ℕ) (b : Branch)
+    → All (Grown (Dclause k (freshVariables (m .member .prefix) (s .next)) ∷ b .path)) (tryMember s a m k b)
 unfolding tryMember
 tryMember-grown s a m k b = settle-grown _ _
 
@@ -74,12 +75,14 @@ tryMember-grown s a m k b = settle-grown _ _
 grown-one : (x : Line Leaf) (ls : List (Line Leaf)) (e : Configuration) → Grown (x ∷ ls) e → Grown ls e
 grown-one x ls e h = (h .0 ++ (x ∷ []), h .1 ∙ sym (append-assoc (h .0) (x ∷ []) ls))
 
-takeGoal-grown : (u : ℕ) (s : Store) (g : Goal) (e : Environment Leaf) (P : Program Leaf) (i : ℕ) (b : Branch) → All (Grown (b .path)) (takeGoal u s g e P i b)
+takeGoal-grown : (u : ℕ) (s : Store) (g : Goal) (e : Environment Leaf) (P : Program Leaf) (i : ℕ) (b : Branch)
+    → All (Grown (b .path)) (takeGoal u s g e P i b)
 unfolding takeGoal pathOf
 takeGoal-grown u s (atom p ts) e P i b = tryFrom-grown s _ (entries P) 1 b
 takeGoal-grown u s truth e P i b =
     let ls = plain Dtrue ∷ b .path in
-    all-weaken (Grown ls) (Grown (b .path)) (λ d h. grown-one (plain Dtrue) (b .path) d h) (proceed s (b .goals) ls) (proceed-grown s (b .goals) ls)
+    all-weaken (Grown ls) (Grown (b .path)) (λ d h. grown-one (plain Dtrue) (b .path) d h) (proceed s (b .goals) ls)
+    (proceed-grown s (b .goals) ls)
 takeGoal-grown u s (and g h) e P i b = ((_ ∷ [], refl), tt)
 takeGoal-grown u s (or g h) e P i b = ((_ ∷ [], refl), ((_ ∷ [], refl), tt))
 takeGoal-grown u s (implies c g) e P i b = ((_ ∷ [], refl), tt)
@@ -98,7 +101,8 @@ acts-grown u (try s a m ms k b) =
     let x = Dclause k (freshVariables (m .member .prefix) (s .next)) in
     let same = eqb (a .predicate) (m .member .predicate) in
     all-append (Grown (b .path)) (cond same (tryMember s a m k b) []) (tryFrom s a ms (suc k) b)
-    (all-weaken (Grown (x ∷ b .path)) (Grown (b .path)) (λ d h. grown-one x (b .path) d h) (cond same (tryMember s a m k b) []) (tried-grown same s a m k b))
+    (all-weaken (Grown (x ∷ b .path)) (Grown (b .path)) (λ d h. grown-one x (b .path) d h) (cond same (tryMember s a m k b) [])
+    (tried-grown same s a m k b))
     (tryFrom-grown s a ms (suc k) b)
 acts-grown u (match m b) = settle-grown (matchStep m) b
 acts-grown u (done s ls) = tt
@@ -110,7 +114,8 @@ leads-grown : (p : Script) (u : ℕ) (c d : Configuration) → LeadsTo p u c d �
 unfolding LeadsTo
 leads-grown [] u c d h = ([], ap pathOf (sym h))
 leads-grown (i ∷ p) u c d h =
-    grown-on (pathOf c) (h .0) d (stands-all (Grown (pathOf c)) (acts u c) i (h .0) (acts-grown u c) (h .1)) (leads-grown p (suc u) (h .0) d (h .2))
+    grown-on (pathOf c) (h .0) d (stands-all (Grown (pathOf c)) (acts u c) i (h .0) (acts-grown u c) (h .1))
+    (leads-grown p (suc u) (h .0) d (h .2))
 
 -- The members left write a place from k on.
 abbrev Placed : ℕ → List (Line Leaf) → Configuration → Type 0
@@ -128,7 +133,8 @@ tryFrom-trying s a (m ∷ ms) k b = ((m, (ms, refl)), tt)
 abbrev Tried : Store → Atom → Entry Leaf → ℕ → Branch → Configuration → Type 0
 Tried s a m k b e = Grown (Dclause k (freshVariables (m .member .prefix) (s .next)) ∷ b .path) e ⊎ Trying s a (suc k) b e
 
-try-tried : (u : ℕ) (s : Store) (a : Atom) (m : Entry Leaf) (ms : List (Entry Leaf)) (k : ℕ) (b : Branch) → All (Tried s a m k b) (acts u (try s a m ms k b))
+try-tried : (u : ℕ) (s : Store) (a : Atom) (m : Entry Leaf) (ms : List (Entry Leaf)) (k : ℕ) (b : Branch)
+    → All (Tried s a m k b) (acts u (try s a m ms k b))
 unfolding acts step
 try-tried u s a m ms k b =
     let ls = Dclause k (freshVariables (m .member .prefix) (s .next)) ∷ b .path in
@@ -137,14 +143,17 @@ try-tried u s a m ms k b =
     (all-weaken (Grown ls) (Tried s a m k b) (λ e h. inl h) (cond same (tryMember s a m k b) []) (tried-grown same s a m k b))
     (all-weaken (Trying s a (suc k) b) (Tried s a m k b) (λ e h. inr h) (tryFrom s a ms (suc k) b) (tryFrom-trying s a ms (suc k) b))
 
-try-placed : (p : Script) (u : ℕ) (s : Store) (a : Atom) (m : Entry Leaf) (ms : List (Entry Leaf)) (k : ℕ) (b : Branch) (d : Configuration) → Finished d
+try-placed : (p : Script) (u : ℕ) (s : Store) (a : Atom) (m : Entry Leaf) (ms : List (Entry Leaf)) (k : ℕ) (b : Branch) (d : Configuration)
+    → Finished d
     → LeadsTo p u (try s a m ms k b) d → Placed k (b .path) d
 unfolding LeadsTo Finished
 try-placed [] u s a m ms k b d f h = absurd (subst Finished (sym h) f)
 try-placed (i ∷ p) u s a m ms k b d f h =
-    go (λ n ns z. try-placed p (suc u) s a n ns (suc k) b d f z) (stands-all (Tried s a m k b) (acts u (try s a m ms k b)) i (h .0) (try-tried u s a m ms k b) (h .1))
+    go (λ n ns z. try-placed p (suc u) s a n ns (suc k) b d f z)
+    (stands-all (Tried s a m k b) (acts u (try s a m ms k b)) i (h .0) (try-tried u s a m ms k b) (h .1))
   where
-    go : ((n : Entry Leaf) (ns : List (Entry Leaf)) → LeadsTo p (suc u) (try s a n ns (suc k) b) d → Placed (suc k) (b .path) d) → Tried s a m k b (h .0) → Placed k (b .path) d
+    go : ((n : Entry Leaf) (ns : List (Entry Leaf)) → LeadsTo p (suc u) (try s a n ns (suc k) b) d → Placed (suc k) (b .path) d)
+        → Tried s a m k b (h .0) → Placed k (b .path) d
     go ih (inl z) = (k, (_, (omega arith, grown-on _ (h .0) d z (leads-grown p (suc u) (h .0) d (h .2)))))
     go ih (inr z) =
         let r = ih (z .0) (z .1 .0) (subst (λ (e : Configuration). LeadsTo p (suc u) e d) (z .1 .1) (h .2)) in
@@ -188,7 +197,8 @@ tried-single true s a m k b = settle-single _ _
 tried-single false s a m k b = tt
 
 -- of two lists, the first with at most one
-two-lists : (x y : List Configuration) (i j : ℕ) (d e : Configuration) → Single x → Single y → i < j → Stands (x ++ y) i d → Stands (x ++ y) j e → Stands x 0 d × Stands y 0 e
+two-lists : (x y : List Configuration) (i j : ℕ) (d e : Configuration) → Single x → Single y → i < j → Stands (x ++ y) i d
+    → Stands (x ++ y) j e → Stands x 0 d × Stands y 0 e
 unfolding Single Stands
 two-lists [] y i j d e s t l h k = absurd (single-one y i j d e t l h k)
 two-lists (c ∷ []) y i zero d e s t l h k = absurd (omega arith)
@@ -211,10 +221,13 @@ record Apart (ls ks : List (Line Leaf)) : Type 0 where
   pub differ : bare left ≡ bare right → ⊥
 
 -- where a goal is taken: the left and the right of an or
-goal-parts : (u : ℕ) (s : Store) (g : Goal) (e : Environment Leaf) (P : Program Leaf) (l : ℕ) (b : Branch) (i j : ℕ) (c d : Configuration) → i < j
-    → Stands (takeGoal u s g e P l b) i c → Stands (takeGoal u s g e P l b) j d → (pathOf c ≡ plain Dleft ∷ b .path) × (pathOf d ≡ plain Dright ∷ b .path)
+goal-parts : (u : ℕ) (s : Store) (g : Goal) (e : Environment Leaf) (P : Program Leaf) (l : ℕ) (b : Branch) (i j : ℕ) (c d : Configuration)
+    → i < j
+    → Stands (takeGoal u s g e P l b) i c → Stands (takeGoal u s g e P l b) j d
+    → (pathOf c ≡ plain Dleft ∷ b .path) × (pathOf d ≡ plain Dright ∷ b .path)
 unfolding takeGoal Stands Single pathOf
-goal-parts u s (atom p ts) e P l b i j c d n h k = absurd (single-one (tryFrom s _ (entries P) 1 b) i j c d (tryFrom-single s _ (entries P) 1 b) n h k)
+goal-parts u s (atom p ts) e P l b i j c d n h k =
+    absurd (single-one (tryFrom s _ (entries P) 1 b) i j c d (tryFrom-single s _ (entries P) 1 b) n h k)
 goal-parts u s truth e P l b i j c d n h k =
     absurd (single-one (proceed s (b .goals) (plain Dtrue ∷ b .path)) i j c d (proceed-single s (b .goals) (plain Dtrue ∷ b .path)) n h k)
 goal-parts u s (and g f) e P l b i j c d n h k = absurd (single-one (_ ∷ []) i j c d tt n h k)
@@ -234,7 +247,8 @@ other-place : (k j : ℕ) (xs ys : List (Term Leaf)) → suc k ≤ j → bare (D
 unfolding bare
 other-place k j xs ys l e = let z : k ≡ j = cc in omega arith
 
-parts : (p q : Script) (u : ℕ) (c : Configuration) (i j : ℕ) (x y d e : Configuration) → i < j → Stands (acts u c) i x → Stands (acts u c) j y
+parts : (p q : Script) (u : ℕ) (c : Configuration) (i j : ℕ) (x y d e : Configuration) → i < j → Stands (acts u c) i x
+    → Stands (acts u c) j y
     → LeadsTo p (suc u) x d → LeadsTo q (suc u) y e → Finished e → Apart (pathOf d) (pathOf e)
 unfolding acts step Stands
 parts p q u (take s g b) i j x y d e n h k v w f =
@@ -254,8 +268,13 @@ parts p q u (take s g b) i j x y d e n h k v w f =
 parts p q u (try s a m ms k b) i j x y d e n h l v w f =
     let same = eqb (a .predicate) (m .member .predicate) in
     let xs = freshVariables (m .member .prefix) (s .next) in
-    let z = two-lists (cond same (tryMember s a m k b) []) (tryFrom s a ms (suc k) b) i j x y (tried-single same s a m k b) (tryFrom-single s a ms (suc k) b) n h l in
-    let r = grown-on (Dclause k xs ∷ b .path) x d (stands-all (Grown (Dclause k xs ∷ b .path)) (cond same (tryMember s a m k b) []) 0 x (tried-grown same s a m k b) (z .0)) (leads-grown p (suc u) x d v) in
+    let z =
+    two-lists (cond same (tryMember s a m k b) []) (tryFrom s a ms (suc k) b) i j x y (tried-single same s a m k b)
+    (tryFrom-single s a ms (suc k) b) n h l in
+    let r =
+    grown-on (Dclause k xs ∷ b .path) x d
+    (stands-all (Grown (Dclause k xs ∷ b .path)) (cond same (tryMember s a m k b) []) 0 x (tried-grown same s a m k b) (z .0))
+    (leads-grown p (suc u) x d v) in
     let t = stands-all (Trying s a (suc k) b) (tryFrom s a ms (suc k) b) 0 y (tryFrom-trying s a ms (suc k) b) (z .1) in
     let o = try-placed q (suc u) s a (t .0) (t .1 .0) (suc k) b e f (subst (λ (c : Configuration). LeadsTo q (suc u) c e) (t .1 .1) w) in
     record {
@@ -271,22 +290,26 @@ parts p q u (try s a m ms k b) i j x y d e n h l v w f =
 parts p q u (match m b) i j x y d e n h k v w f = absurd (single-one (settle (matchStep m) b) i j x y (settle-single (matchStep m) b) n h k)
 parts p q u (done s ls) i j x y d e n h k v w f = absurd h
 
-before-apart : (p q : Script) (u : ℕ) (c d e : Configuration) → Finished e → Before p q → LeadsTo p u c d → LeadsTo q u c e → Apart (pathOf d) (pathOf e)
+before-apart : (p q : Script) (u : ℕ) (c d e : Configuration) → Finished e → Before p q → LeadsTo p u c d → LeadsTo q u c e
+    → Apart (pathOf d) (pathOf e)
 unfolding Before LeadsTo
 before-apart [] q u c d e f b h k = absurd b
 before-apart (i ∷ p) [] u c d e f b h k = absurd b
 before-apart (i ∷ p) (j ∷ q) u c d e f (inl l) h k = parts p q u c i j (h .0) (k .0) d e l (h .1) (k .1) (h .2) (k .2) f
 before-apart (i ∷ p) (j ∷ q) u c d e f (inr b) h k =
     before-apart p q (suc u) (h .0) d e f (b .1) (h .2)
-    (subst (λ (z : Configuration). LeadsTo q (suc u) z e) (stands-once (acts u c) i (k .0) (h .0) (subst (λ (n : ℕ). Stands (acts u c) n (k .0)) (sym (b .0)) (k .1)) (h .1)) (k .2))
+    (subst (λ (z : Configuration). LeadsTo q (suc u) z e)
+    (stands-once (acts u c) i (k .0) (h .0) (subst (λ (n : ℕ). Stands (acts u c) n (k .0)) (sym (b .0)) (k .1)) (h .1)) (k .2))
 
 apart-not : (ls ks : List (Line Leaf)) → Apart ls ks → map bare ls ≡ map bare ks → ⊥
 apart-not ls ks a e =
     a .differ (same-at (map bare (a .lefts)) (map bare (a .rights)) (bare (a .left)) (bare (a .right)) (map bare (a .end))
-    (sym (map-append bare (a .lefts) (a .left ∷ a .end)) ∙ ap (map bare) (sym (a .first)) ∙ e ∙ ap (map bare) (a .second) ∙ map-append bare (a .rights) (a .right ∷ a .end)))
+    (sym (map-append bare (a .lefts) (a .left ∷ a .end)) ∙ ap (map bare) (sym (a .first)) ∙ e ∙ ap (map bare) (a .second)
+    ∙ map-append bare (a .rights) (a .right ∷ a .end)))
 
 -- The lines without their terms tell the script.
-pub lines-tell : (p q : Script) (u : ℕ) (c : Configuration) (s t : Store) (ls ks : List (Line Leaf)) → LeadsTo p u c (done s ls) → LeadsTo q u c (done t ks) → map bare ls ≡ map bare ks → p ≡ q
+pub lines-tell : (p q : Script) (u : ℕ) (c : Configuration) (s t : Store) (ls ks : List (Line Leaf)) → LeadsTo p u c (done s ls)
+    → LeadsTo q u c (done t ks) → map bare ls ≡ map bare ks → p ≡ q
 unfolding pathOf Finished
 lines-tell p q u c s t ls ks h k e = go (leads-either p q u c (done s ls) (done t ks) tt tt h k)
   where

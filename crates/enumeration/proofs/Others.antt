@@ -37,7 +37,9 @@ no-other cs g e c n d wanted budget m q =
     let h = f .all m q (r .0) (r .1 .0, (r .1 .1 .0, r .1 .1 .1 .0)) in
     let w = paired-with (Belongs cs g) (r .0) (f .scripts) (enumerate wanted budget cs g .found) h (f .belong) in
     let b = w .1 .1 in
-    let same = walk-order cs g .once (r .0) (reStore (b .number) (w .0 .store)) (r .1 .0) (rePath (b .number) (w .0 .path)) (r .1 .1 .0) (b .succeeds) (r .1 .1 .1 .0) in
+    let same =
+    walk-order cs g .once (r .0) (reStore (b .number) (w .0 .store)) (r .1 .0) (rePath (b .number) (w .0 .path)) (r .1 .1 .0) (b .succeeds)
+    (r .1 .1 .1 .0) in
     (w .0, (w .1 .0, sym (bare-re (b .number) (w .0 .path)) ∙ ap (map bare) (same .1) ∙ r .1 .1 .1 .1))
 
 -- Whoever holds a derivation of an instance is never told no without a proof.

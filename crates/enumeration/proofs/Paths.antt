@@ -13,7 +13,8 @@ use Rattle.search.specs.Configurations.{Configuration, take, try, match, done}
 use Rattle.enumeration.specs.Scripts.{Script, acts, Stands, LeadsTo, Before, root}
 use Rattle.enumeration.proofs.Renumbering.{re, acts-re, root-re}
 use Rattle.enumeration.proofs.Numbers.{Rising, rising-more, rising-next, Counted, counted-next, index, index-differs, counted}
-use Rattle.enumeration.proofs.Scripts.{before-longer, before-choices, stands-map, stands-unmap, stands-all, leads-once, leads-split, Finished}
+use Rattle.enumeration.proofs.Scripts.{before-longer, before-choices, stands-map, stands-unmap, stands-all, leads-once, leads-split}
+use Rattle.enumeration.proofs.Scripts.{Finished}
 
 -- The script leads from c to d, its acts having these numbers.
 unfoldable pub LeadsBy : List ℕ → Script → Configuration → Configuration → Type 0
@@ -23,7 +24,8 @@ LeadsBy (n ∷ ns) [] c d = ⊥
 LeadsBy (n ∷ ns) (i ∷ is) c d = (e : Configuration) × Stands (acts n c) i e × LeadsBy ns is e d
 
 -- one act more
-pub leads-next : (ns : List ℕ) (is : Script) (u i : ℕ) (c d e : Configuration) → LeadsBy ns is c d → Stands (acts u d) i e → LeadsBy (ns ++ (u ∷ [])) (is ++ (i ∷ [])) c e
+pub leads-next : (ns : List ℕ) (is : Script) (u i : ℕ) (c d e : Configuration) → LeadsBy ns is c d → Stands (acts u d) i e
+    → LeadsBy (ns ++ (u ∷ [])) (is ++ (i ∷ [])) c e
 unfolding LeadsBy
 leads-next [] [] u i c d e h k = (e, subst (λ (x : Configuration). Stands (acts u x) i e) (sym h) k, refl)
 leads-next [] (j ∷ is) u i c d e h k = absurd h
@@ -38,24 +40,28 @@ leads-length (n ∷ ns) [] c d h = absurd h
 leads-length (n ∷ ns) (j ∷ is) c d h = let z = leads-length ns is (h .0) d (h .2) in omega arith
 
 -- what acts keep is true where a script leads, the numbers rising
-pub leads-keep : (P : ℕ → Configuration → Type 0) → ((u : ℕ) (c : Configuration) → P u c → All (P (suc u)) (acts u c)) → ((u v : ℕ) (c : Configuration) → u ≤ v → P u c → P v c)
+pub leads-keep : (P : ℕ → Configuration → Type 0) → ((u : ℕ) (c : Configuration) → P u c → All (P (suc u)) (acts u c))
+    → ((u v : ℕ) (c : Configuration) → u ≤ v → P u c → P v c)
     → (ns : List ℕ) (is : Script) (k u : ℕ) (c d : Configuration) → Rising k ns u → LeadsBy ns is c d → P k c → P u d
 unfolding LeadsBy Rising
 leads-keep P act more [] [] k u c d r h p = more k u d r (subst (P k) h p)
 leads-keep P act more [] (i ∷ is) k u c d r h p = absurd h
 leads-keep P act more (n ∷ ns) [] k u c d r h p = absurd h
 leads-keep P act more (n ∷ ns) (i ∷ is) k u c d r h p =
-    leads-keep P act more ns is (suc n) u (h .0) d (r .1) (h .2) (stands-all (P (suc n)) (acts n c) i (h .0) (act n c (more k n c (r .0) p)) (h .1))
+    leads-keep P act more ns is (suc n) u (h .0) d (r .1) (h .2)
+    (stands-all (P (suc n)) (acts n c) i (h .0) (act n c (more k n c (r .0) p)) (h .1))
 
 -- Renumbered so that they count from k on, they are the script's own acts.
-pub leads-own : (κ : ℕ → ℕ) → ((c d : ℕ) → κ c ≡ κ d → c ≡ d) → (ns : List ℕ) (is : Script) (k : ℕ) (c d : Configuration) → Counted κ k ns → LeadsBy ns is c d → LeadsTo is k (re κ c) (re κ d)
+pub leads-own : (κ : ℕ → ℕ) → ((c d : ℕ) → κ c ≡ κ d → c ≡ d) → (ns : List ℕ) (is : Script) (k : ℕ) (c d : Configuration) → Counted κ k ns
+    → LeadsBy ns is c d → LeadsTo is k (re κ c) (re κ d)
 unfolding LeadsBy LeadsTo Counted
 leads-own κ differs [] [] k c d n h = ap (re κ) h
 leads-own κ differs [] (i ∷ is) k c d n h = absurd h
 leads-own κ differs (m ∷ ns) [] k c d n h = absurd h
 leads-own κ differs (m ∷ ns) (i ∷ is) k c d n h = (
   re κ (h .0),
-  subst (λ (l : List Configuration). Stands l i (re κ (h .0))) (acts-re κ differs m c ∙ ap (λ (u : ℕ). acts u (re κ c)) (n .0)) (stands-map (re κ) (acts m c) i (h .0) (h .1)),
+  subst (λ (l : List Configuration). Stands l i (re κ (h .0))) (acts-re κ differs m c ∙ ap (λ (u : ℕ). acts u (re κ c)) (n .0))
+      (stands-map (re κ) (acts m c) i (h .0) (h .1)),
   leads-own κ differs ns is (suc k) (h .0) d (n .1) (h .2),
 )
 
@@ -88,18 +94,21 @@ unfolding children configuration
 children-are f ns [] = refl
 children-are f ns (c ∷ cs) = ap (c ∷_) (children-are (λ i. f (suc i)) ns cs)
 
-pub children-all : (P : Node → Type 0) (f : ℕ → Script) (ns : List ℕ) (cs : List Configuration) → ((i : ℕ) (e : Configuration) → Stands cs i e → P (node (f i) ns e)) → All P (children f ns cs)
+pub children-all : (P : Node → Type 0) (f : ℕ → Script) (ns : List ℕ) (cs : List Configuration)
+    → ((i : ℕ) (e : Configuration) → Stands cs i e → P (node (f i) ns e)) → All P (children f ns cs)
 unfolding children Stands
 children-all P f ns [] h = tt
 children-all P f ns (c ∷ cs) h = (h 0 c refl, children-all P (λ i. f (suc i)) ns cs (λ i e k. h (suc i) e k))
 
-pub children-any : (P : Node → Type 0) (f : ℕ → Script) (ns : List ℕ) (cs : List Configuration) (i : ℕ) (e : Configuration) → Stands cs i e → P (node (f i) ns e) → Any P (children f ns cs)
+pub children-any : (P : Node → Type 0) (f : ℕ → Script) (ns : List ℕ) (cs : List Configuration) (i : ℕ) (e : Configuration) → Stands cs i e
+    → P (node (f i) ns e) → Any P (children f ns cs)
 unfolding children Stands
 children-any P f ns [] i e h k = absurd h
 children-any P f ns (c ∷ cs) zero e h k = inl (subst (λ (x : Configuration). P (node (f 0) ns x)) (sym h) k)
 children-any P f ns (c ∷ cs) (suc i) e h k = inr (children-any P (λ j. f (suc j)) ns cs i e h k)
 
-children-ordered : (f : ℕ → Script) (ns : List ℕ) (cs : List Configuration) → ((i j : ℕ) → i < j → Before (f i) (f j)) → Ordered (children f ns cs)
+children-ordered : (f : ℕ → Script) (ns : List ℕ) (cs : List Configuration) → ((i j : ℕ) → i < j → Before (f i) (f j))
+    → Ordered (children f ns cs)
 unfolding children Ordered script
 children-ordered f ns [] h = tt
 children-ordered f ns (c ∷ cs) h = (
@@ -107,10 +116,12 @@ children-ordered f ns (c ∷ cs) h = (
   children-ordered (λ i. f (suc i)) ns cs (λ i j l. h (suc i) (suc j) (omega arith)),
 )
 
-ordered-append : (ps qs : List Node) → Ordered ps → Ordered qs → All (λ p. All (λ q. Before (script p) (script q)) qs) ps → Ordered (ps ++ qs)
+ordered-append : (ps qs : List Node) → Ordered ps → Ordered qs → All (λ p. All (λ q. Before (script p) (script q)) qs) ps
+    → Ordered (ps ++ qs)
 unfolding Ordered
 ordered-append [] qs h k a = k
-ordered-append (p ∷ ps) qs h k a = (all-append (λ q. Before (script p) (script q)) ps qs (h .0) (a .0), ordered-append ps qs (h .1) k (a .1))
+ordered-append (p ∷ ps) qs h k a =
+    (all-append (λ q. Before (script p) (script q)) ps qs (h .0) (a .0), ordered-append ps qs (h .1) k (a .1))
 
 -- The state after an act stands as the state before it.
 pub record Standing (cs : Rules Clause) (g : Goal) (u : ℕ) (ps : List Node) : Type 0 where
@@ -120,7 +131,8 @@ pub record Standing (cs : Rules Clause) (g : Goal) (u : ℕ) (ps : List Node) : 
 abbrev pub choices : Script → ℕ → Script
 choices is i = is ++ (i ∷ [])
 
-pub standing-act : (cs : Rules Clause) (g : Goal) (u : ℕ) (is : Script) (ns : List ℕ) (c : Configuration) (ps : List Node) → Standing cs g u (node is ns c ∷ ps)
+pub standing-act : (cs : Rules Clause) (g : Goal) (u : ℕ) (is : Script) (ns : List ℕ) (c : Configuration) (ps : List Node)
+    → Standing cs g u (node is ns c ∷ ps)
     → Standing cs g (suc u) (children (choices is) (ns ++ (u ∷ [])) (acts u c) ++ ps)
 unfolding Reached Ordered script
 standing-act cs g u is ns c ps h =
@@ -134,7 +146,8 @@ standing-act cs g u is ns c ps h =
           (children-ordered (choices is) (ns ++ (u ∷ [])) (acts u c) (before-choices is))
           (h .ordered .1)
           (children-all (λ p. All (λ q. Before (script p) (script q)) ps) (choices is) (ns ++ (u ∷ [])) (acts u c)
-          (λ i e k. all-weaken (λ q. Before is (script q)) (λ q. Before (is ++ (i ∷ [])) (script q)) (λ q b. longer i q b) ps (h .ordered .0)));
+          (λ i e k. all-weaken (λ q. Before is (script q)) (λ q. Before (is ++ (i ∷ [])) (script q)) (λ q b. longer i q b) ps
+          (h .ordered .0)));
     }
   where
     later : (p : Node) → Reached cs g u p → Reached cs g (suc u) p
@@ -150,7 +163,8 @@ pub record Own (cs : Rules Clause) (g : Goal) (u : ℕ) (is : Script) (c : Confi
   pub leads : LeadsTo is 0 (root cs g) (re number c)
   pub next : number u ≡ length is
 
-pub own : (cs : Rules Clause) (g : Goal) (u : ℕ) (is : Script) (ns : List ℕ) (c : Configuration) → Reached cs g u (node is ns c) → Own cs g u is c
+pub own : (cs : Rules Clause) (g : Goal) (u : ℕ) (is : Script) (ns : List ℕ) (c : Configuration) → Reached cs g u (node is ns c)
+    → Own cs g u is c
 unfolding Reached
 own cs g u is ns c h =
     let ms = ns ++ (u ∷ []) in
@@ -160,12 +174,15 @@ own cs g u is ns c h =
     record {
       number = κ;
       differs = index-differs ms 0;
-      leads = subst (λ (x : Configuration). LeadsTo is 0 x (re κ c)) (root-re κ cs g) (leads-own κ (index-differs ms 0) ns is 0 (root cs g) c (z .0) (h .0));
+      leads =
+          subst (λ (x : Configuration). LeadsTo is 0 x (re κ c)) (root-re κ cs g)
+          (leads-own κ (index-differs ms 0) ns is 0 (root cs g) c (z .0) (h .0));
       next = (let q = z .1 in omega arith);
     }
 
 -- A script that goes on from the node's goes on with one of the node's children,
-pub goes-on : (cs : Rules Clause) (g : Goal) (u : ℕ) (is : Script) (ns : List ℕ) (c : Configuration) (i : ℕ) (r : Script) (d : Configuration) → Reached cs g u (node is ns c)
+pub goes-on : (cs : Rules Clause) (g : Goal) (u : ℕ) (is : Script) (ns : List ℕ) (c : Configuration) (i : ℕ) (r : Script)
+    (d : Configuration) → Reached cs g u (node is ns c)
     → LeadsTo (is ++ (i ∷ r)) 0 (root cs g) d → (e : Configuration) × Stands (acts u c) i e
 unfolding LeadsTo
 goes-on cs g u is ns c i r d h k =
@@ -174,8 +191,10 @@ goes-on cs g u is ns c i r d h k =
     let same : z .0 ≡ re (o .number) c = leads-once is 0 (root cs g) (z .0) (re (o .number) c) (z .1) (o .leads) in
     let w = z .2 in
     let n : 0 + length is ≡ o .number u = (let q = o .next in omega arith) in
-    let there : Stands (acts (o .number u) (re (o .number) c)) i (w .0) = subst₂ (λ (v : ℕ) (x : Configuration). Stands (acts v x) i (w .0)) n same (w .1) in
-    stands-unmap (re (o .number)) (acts u c) i (w .0) (subst (λ (l : List Configuration). Stands l i (w .0)) (sym (acts-re (o .number) (o .differs) u c)) there)
+    let there : Stands (acts (o .number u) (re (o .number) c)) i (w .0) =
+    subst₂ (λ (v : ℕ) (x : Configuration). Stands (acts v x) i (w .0)) n same (w .1) in
+    stands-unmap (re (o .number)) (acts u c) i (w .0)
+    (subst (λ (l : List Configuration). Stands l i (w .0)) (sym (acts-re (o .number) (o .differs) u c)) there)
 
 finished-re : (κ : ℕ → ℕ) (c : Configuration) → Finished (re κ c) → Finished c
 unfolding Finished re
@@ -185,7 +204,8 @@ finished-re κ (match m b) h = h
 finished-re κ (done s ls) h = h
 
 -- and ends there only if no goal is left.
-pub ends-there : (cs : Rules Clause) (g : Goal) (u : ℕ) (is : Script) (ns : List ℕ) (c d : Configuration) → Reached cs g u (node is ns c) → Finished d → LeadsTo is 0 (root cs g) d → Finished c
+pub ends-there : (cs : Rules Clause) (g : Goal) (u : ℕ) (is : Script) (ns : List ℕ) (c d : Configuration) → Reached cs g u (node is ns c)
+    → Finished d → LeadsTo is 0 (root cs g) d → Finished c
 ends-there cs g u is ns c d h f k =
     let o = own cs g u is ns c h in
     finished-re (o .number) c (subst Finished (leads-once is 0 (root cs g) d (re (o .number) c) k (o .leads)) f)

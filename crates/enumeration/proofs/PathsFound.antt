@@ -23,7 +23,8 @@ use Rattle.enumeration.proofs.Lines.{lines-tell}
 use Rattle.enumeration.proofs.Paths.{LeadsBy, node, script, configuration, Reached, Ordered, own}
 use Rattle.enumeration.proofs.Found.{Arrives, Open, Told, enumerate-told}
 
-pub paired-weaken : {A B : Type 0} (R S : A → B → Type 0) → ((a : A) (b : B) → R a b → S a b) → (x : List A) (y : List B) → Paired R x y → Paired S x y
+pub paired-weaken : {A B : Type 0} (R S : A → B → Type 0) → ((a : A) (b : B) → R a b → S a b) → (x : List A) (y : List B) → Paired R x y
+    → Paired S x y
 unfolding Paired
 paired-weaken R S h [] [] k = tt
 paired-weaken R S h [] (b ∷ y) k = k
@@ -49,7 +50,8 @@ bare-re κ (x ∷ ls) = ap₂ (λ (y : Line Leaf) (ks : List (Line Leaf)). y ∷
     one (Dall t) = refl
     one (Dclause k ts) = refl
 
-different : (cs : Rules Clause) (g : Goal) (p : Script) (w : Proof) (ps : List Script) (ws : List Proof) → Belongs cs g p w → All (Before p) ps → Paired (Belongs cs g) ps ws
+different : (cs : Rules Clause) (g : Goal) (p : Script) (w : Proof) (ps : List Script) (ws : List Proof) → Belongs cs g p w
+    → All (Before p) ps → Paired (Belongs cs g) ps ws
     → All (λ v. map bare (w .path) ≡ map bare (v .path) → ⊥) ws
 unfolding Paired SucceedsWith
 different cs g p w [] [] b h k = tt
@@ -58,13 +60,15 @@ different cs g p w (q ∷ ps) [] b h k = tt
 different cs g p w (q ∷ ps) (v ∷ ws) b h k = (
   (λ e.
       let c = k .0 in
-      let same : p ≡ q = lines-tell p q 0 (root cs g) _ _ (rePath (b .number) (w .path)) (rePath (c .number) (v .path)) (b .succeeds) (c .succeeds)
+      let same : p ≡ q =
+      lines-tell p q 0 (root cs g) _ _ (rePath (b .number) (w .path)) (rePath (c .number) (v .path)) (b .succeeds) (c .succeeds)
       (bare-re (b .number) (w .path) ∙ e ∙ sym (bare-re (c .number) (v .path))) in
       before-never q (subst (λ (x : Script). Before x q) same (h .0))),
   different cs g p w ps ws b (h .1) (k .1),
 )
 
-all-different : (cs : Rules Clause) (g : Goal) (ps : List Script) (ws : List Proof) → Ascending ps → Paired (Belongs cs g) ps ws → Different ws
+all-different : (cs : Rules Clause) (g : Goal) (ps : List Script) (ws : List Proof) → Ascending ps → Paired (Belongs cs g) ps ws
+    → Different ws
 unfolding Paired Ascending Different
 all-different cs g [] [] h k = tt
 all-different cs g [] (w ∷ ws) h k = absurd k
@@ -72,7 +76,8 @@ all-different cs g (p ∷ ps) [] h k = absurd k
 all-different cs g (p ∷ ps) (w ∷ ws) h k = (different cs g p w ps ws (k .0) (h .0) (k .1), all-different cs g ps ws (h .1) (k .1))
 
 -- the start
-pub found-at-start : (cs : Rules Clause) (g : Goal) (wanted budget : ℕ) → Told cs g (node [] [] (root cs g) ∷ []) (enumerate wanted budget cs g)
+pub found-at-start : (cs : Rules Clause) (g : Goal) (wanted budget : ℕ)
+    → Told cs g (node [] [] (root cs g) ∷ []) (enumerate wanted budget cs g)
 unfolding enumerate start root configuration Reached LeadsBy Rising Ordered
 found-at-start cs g wanted budget =
     enumerate-told cs g wanted budget 0 (node [] [] (root cs g) ∷ []) (record { reached = ((refl, omega arith), tt); ordered = (tt, tt) })
@@ -83,7 +88,9 @@ paths-found cs g wanted budget = record {
   scripts = t .scripts;
   belong = paired-weaken (Arrives cs g) (Belongs cs g) (belongs cs g) (t .scripts) (r .found) (t .arrive);
   ascend = t .ascend;
-  differ = all-different cs g (t .scripts) (r .found) (t .ascend) (paired-weaken (Arrives cs g) (Belongs cs g) (belongs cs g) (t .scripts) (r .found) (t .arrive));
+  differ =
+      all-different cs g (t .scripts) (r .found) (t .ascend)
+      (paired-weaken (Arrives cs g) (Belongs cs g) (belongs cs g) (t .scripts) (r .found) (t .arrive));
   below = λ p q m s b. before (t .covers q s (inl (q, refl))) p m b;
   initial = λ q s. either (t .covers q s (inl (q, refl)));
   all = λ n e q s. closed n e (t .covers q s (inl (q, refl)));
@@ -95,15 +102,18 @@ paths-found cs g wanted budget = record {
     t : Told cs g (node [] [] (root cs g) ∷ []) (enumerate wanted budget cs g)
     t = found-at-start cs g wanted budget
 
-    before : {q : Script} → Mem q (t .scripts) ⊎ (Open (r .end) × All (λ p. Before p q) (t .scripts)) → (p : Script) → Mem p (t .scripts) → Before q p → Mem q (t .scripts)
+    before : {q : Script} → Mem q (t .scripts) ⊎ (Open (r .end) × All (λ p. Before p q) (t .scripts)) → (p : Script) → Mem p (t .scripts)
+        → Before q p → Mem q (t .scripts)
     before (inl m) p k b = m
     before {q = q} (inr a) p k b = absurd (before-not p q (all-mem (λ x. Before x q) (t .scripts) p (a .1) k) b)
 
-    either : {q : Script} → Mem q (t .scripts) ⊎ (Open (r .end) × All (λ p. Before p q) (t .scripts)) → Mem q (t .scripts) ⊎ All (λ p. Before p q) (t .scripts)
+    either : {q : Script} → Mem q (t .scripts) ⊎ (Open (r .end) × All (λ p. Before p q) (t .scripts))
+        → Mem q (t .scripts) ⊎ All (λ p. Before p q) (t .scripts)
     either (inl m) = inl m
     either (inr a) = inr (a .1)
 
-    closed : {q : Script} (n : ℕ) → r .end ≡ exhausted n → Mem q (t .scripts) ⊎ (Open (r .end) × All (λ p. Before p q) (t .scripts)) → Mem q (t .scripts)
+    closed : {q : Script} (n : ℕ) → r .end ≡ exhausted n → Mem q (t .scripts) ⊎ (Open (r .end) × All (λ p. Before p q) (t .scripts))
+        → Mem q (t .scripts)
     closed n e (inl m) = m
     closed n e (inr a) = absurd (subst Open e (a .0))
 

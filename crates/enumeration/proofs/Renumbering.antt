@@ -11,7 +11,8 @@ use Rattle.terms.proofs.Lists.{map-append}
 use Rattle.terms.proofs.Terms.{substitutes-substitutes}
 use Rattle.formulas.specs.Formulas.{Goal, atom, truth, and, or, implies, exists, forall, Clause, variableNames}
 use Rattle.formulas.specs.Rules.{Rules}
-use Rattle.sequents.specs.Sequents.{Environment, Program, Entry, entries, Sequent, sequent, assign, bodySequent, Dassume, Line, plain, Dsome, Dall, Dclause, putTerms, putEnvironment, putProgram, putSequent, putLine}
+use Rattle.sequents.specs.Sequents.{Environment, Program, Entry, entries, Sequent, sequent, assign, bodySequent, Dassume, Line, plain}
+use Rattle.sequents.specs.Sequents.{Dsome, Dall, Dclause, putTerms, putEnvironment, putProgram, putSequent, putLine}
 use Rattle.sequents.specs.Derivations.{instanceOf}
 use Rattle.sequents.proofs.Sequents.{putEntry, entries-put, assume-put, update-put, assign-put, body-put, instance-put}
 use Rattle.unification.specs.Store.{Leaf, var, con, Binding, Store, binding, follow, lower, bind, fresh, freshVariables}
@@ -45,7 +46,14 @@ module _ (κ : ℕ → ℕ) where
   reBranch b = branch (map (putSequent (renumbered κ)) (b .goals)) (map (putLine (renumbered κ)) (b .path))
 
   unfoldable pub reAtom : Atom → Atom
-  reAtom a = record { predicate = a .predicate; arguments = substitutes (a .arguments) (renumbered κ); program = putProgram (renumbered κ) (a .program); level = a .level }
+  reAtom a =
+      record {
+        predicate = a .predicate;
+        arguments = substitutes (a .arguments) (renumbered κ);
+        program = putProgram (renumbered κ)
+            (a .program);
+        level = a .level;
+      }
 
   unfoldable pub re : Configuration → Configuration
   re (take s g b) = take (RS s) (putSequent (renumbered κ) g) (reBranch b)
@@ -77,12 +85,15 @@ module _ (κ : ℕ → ℕ) where
   pushTerms-re nil ns = refl
   pushTerms-re (cons t ts) ns = ap (T t ∷_) (pushTerms-re ts ns)
 
-  pushPairs-re : (ts us : Terms Leaf) (ps : List Pair) → Option·map (map rePair) (pushPairs ts us ps) ≡ pushPairs (substitutes ts (renumbered κ)) (substitutes us (renumbered κ)) (map rePair ps)
+  pushPairs-re : (ts us : Terms Leaf) (ps : List Pair)
+      → Option·map (map rePair) (pushPairs ts us ps)
+      ≡ pushPairs (substitutes ts (renumbered κ)) (substitutes us (renumbered κ)) (map rePair ps)
   unfolding pushPairs substitute rePair
   pushPairs-re nil nil ps = refl
   pushPairs-re nil (cons u us) ps = refl
   pushPairs-re (cons t ts) nil ps = refl
-  pushPairs-re (cons t ts) (cons u us) ps = go (pushPairs ts us ps) ∙ ap (Option·map (λ (qs : List Pair). record { goal = T t; clause = T u } ∷ qs)) (pushPairs-re ts us ps)
+  pushPairs-re (cons t ts) (cons u us) ps =
+      go (pushPairs ts us ps) ∙ ap (Option·map (λ (qs : List Pair). record { goal = T t; clause = T u } ∷ qs)) (pushPairs-re ts us ps)
     where
       go : (o : Option (List Pair)) → Option·map (map rePair) (Option·map (λ (qs : List Pair). record { goal = t; clause = u } ∷ qs) o)
           ≡ Option·map (λ (qs : List Pair). record { goal = T t; clause = T u } ∷ qs) (Option·map (map rePair) o)
@@ -95,16 +106,19 @@ module _ (κ : ℕ → ℕ) where
   comparing-re s (some ps) = refl
 
   -- range checks
-  afterNode-re : (s : Store) (y : ℕ) (t : Term Leaf) (ns : List (Term Leaf)) (ps : List Pair) → reMatching (afterNode s y t ns ps) ≡ afterNode (RS s) y (T t) (map T ns) (map rePair ps)
+  afterNode-re : (s : Store) (y : ℕ) (t : Term Leaf) (ns : List (Term Leaf)) (ps : List Pair)
+      → reMatching (afterNode s y t ns ps) ≡ afterNode (RS s) y (T t) (map T ns) (map rePair ps)
   unfolding afterNode reMatching reStore bind reBinding
   afterNode-re s y t [] ps = refl
   afterNode-re s y t (n ∷ ns) ps = refl
 
-  visit-re : (s : Store) (y : ℕ) (t n : Term Leaf) (ns : List (Term Leaf)) (ps : List Pair) → reMatching (visit s y t n ns ps) ≡ visit (RS s) y (T t) (T n) (map T ns) (map rePair ps)
+  visit-re : (s : Store) (y : ℕ) (t n : Term Leaf) (ns : List (Term Leaf)) (ps : List Pair)
+      → reMatching (visit s y t n ns ps) ≡ visit (RS s) y (T t) (T n) (map T ns) (map rePair ps)
   unfolding visit substitute renumbered reMatching reStore lower
   visit-re s y t (leaf (var z)) ns ps = go (eqb z y)
     where
-      go : (b : Bool) → reMatching (cond b fail (afterNode (lower s z (s .level y)) y t ns ps)) ≡ cond b fail (afterNode (lower (RS s) z (s .level y)) y (T t) (map T ns) (map rePair ps))
+      go : (b : Bool) → reMatching (cond b fail (afterNode (lower s z (s .level y)) y t ns ps))
+          ≡ cond b fail (afterNode (lower (RS s) z (s .level y)) y (T t) (map T ns) (map rePair ps))
       go true = refl
       go false = afterNode-re (lower s z (s .level y)) y t ns ps
   visit-re s y t (leaf (con c j)) ns ps = go (leb j (s .level y))
@@ -113,7 +127,8 @@ module _ (κ : ℕ → ℕ) where
       go true = afterNode-re s y t ns ps
       go false = refl
   visit-re s y t (app f ts) ns ps =
-      afterNode-re s y t (pushTerms ts ns) ps ∙ ap (λ (x : List (Term Leaf)). afterNode (RS s) y (T t) x (map rePair ps)) (pushTerms-re ts ns)
+      afterNode-re s y t (pushTerms ts ns) ps
+      ∙ ap (λ (x : List (Term Leaf)). afterNode (RS s) y (T t) x (map rePair ps)) (pushTerms-re ts ns)
 
   module _ (differs : (c d : ℕ) → κ c ≡ κ d → c ≡ d) where
     -- two made constants are the same, renumbered or not
@@ -134,20 +149,25 @@ module _ (κ : ℕ → ℕ) where
         end false = refl
 
         go : (b : Bool) → eqb k j ≡ b → (eqb (renumber κ c k) (renumber κ d j) && b) ≡ (eqb c d && b)
-        go true q = ap (λ (x : Bool). x && true) (subst (λ (i : ℕ). eqb (renumber κ c k) (renumber κ d i) ≡ eqb c d) (eqb-true k j q) (same-number c d k))
+        go true q =
+            ap (λ (x : Bool). x && true)
+            (subst (λ (i : ℕ). eqb (renumber κ c k) (renumber κ d i) ≡ eqb c d) (eqb-true k j q) (same-number c d k))
         go false q = end (eqb (renumber κ c k) (renumber κ d j)) ∙ sym (end (eqb c d))
 
-    compareTerms-re : (s : Store) (t u : Term Leaf) (ps : List Pair) → reMatching (compareTerms s t u ps) ≡ compareTerms (RS s) (T t) (T u) (map rePair ps)
+    compareTerms-re : (s : Store) (t u : Term Leaf) (ps : List Pair)
+        → reMatching (compareTerms s t u ps) ≡ compareTerms (RS s) (T t) (T u) (map rePair ps)
     unfolding compareTerms substitute renumbered reMatching
     compareTerms-re s (leaf (var x)) (leaf (var y)) ps = go (eqb x y)
       where
-        go : (b : Bool) → reMatching (cond b (pairs s ps) (check s x (leaf (var y)) (leaf (var y)) [] ps)) ≡ cond b (pairs (RS s) (map rePair ps)) (check (RS s) x (leaf (var y)) (leaf (var y)) [] (map rePair ps))
+        go : (b : Bool) → reMatching (cond b (pairs s ps) (check s x (leaf (var y)) (leaf (var y)) [] ps))
+            ≡ cond b (pairs (RS s) (map rePair ps)) (check (RS s) x (leaf (var y)) (leaf (var y)) [] (map rePair ps))
         go true = refl
         go false = refl
     compareTerms-re s (leaf (var x)) (leaf (con d j)) ps = refl
     compareTerms-re s (leaf (var x)) (app g us) ps = refl
     compareTerms-re s (leaf (con c k)) (leaf (var y)) ps = refl
-    compareTerms-re s (leaf (con c k)) (leaf (con d j)) ps = go (eqb c d && eqb k j) ∙ ap (λ (b : Bool). cond b (pairs (RS s) (map rePair ps)) fail) (sym (same-constant c k d j))
+    compareTerms-re s (leaf (con c k)) (leaf (con d j)) ps =
+        go (eqb c d && eqb k j) ∙ ap (λ (b : Bool). cond b (pairs (RS s) (map rePair ps)) fail) (sym (same-constant c k d j))
       where
         go : (b : Bool) → reMatching (cond b (pairs s ps) fail) ≡ cond b (pairs (RS s) (map rePair ps)) fail
         go true = refl
@@ -155,9 +175,11 @@ module _ (κ : ℕ → ℕ) where
     compareTerms-re s (leaf (con c k)) (app g us) ps = refl
     compareTerms-re s (app f ts) (leaf (var y)) ps = refl
     compareTerms-re s (app f ts) (leaf (con d j)) ps = refl
-    compareTerms-re s (app f ts) (app g us) ps = go (sameFunctor f g) ∙ ap (λ (o : Option (List Pair)). cond (sameFunctor f g) (comparing (RS s) o) fail) (pushPairs-re ts us ps)
+    compareTerms-re s (app f ts) (app g us) ps =
+        go (sameFunctor f g) ∙ ap (λ (o : Option (List Pair)). cond (sameFunctor f g) (comparing (RS s) o) fail) (pushPairs-re ts us ps)
       where
-        go : (b : Bool) → reMatching (cond b (comparing s (pushPairs ts us ps)) fail) ≡ cond b (comparing (RS s) (Option·map (map rePair) (pushPairs ts us ps))) fail
+        go : (b : Bool) → reMatching (cond b (comparing s (pushPairs ts us ps)) fail)
+            ≡ cond b (comparing (RS s) (Option·map (map rePair) (pushPairs ts us ps))) fail
         go true = comparing-re s (pushPairs ts us ps)
         go false = refl
 
@@ -191,7 +213,8 @@ module _ (κ : ℕ → ℕ) where
 
     -- the acts
 
-    proceed-re : (s : Store) (gs : List (Sequent Leaf)) (ls : List (Line Leaf)) → map re (proceed s gs ls) ≡ proceed (RS s) (map (putSequent (renumbered κ)) gs) (map (putLine (renumbered κ)) ls)
+    proceed-re : (s : Store) (gs : List (Sequent Leaf)) (ls : List (Line Leaf))
+        → map re (proceed s gs ls) ≡ proceed (RS s) (map (putSequent (renumbered κ)) gs) (map (putLine (renumbered κ)) ls)
     unfolding proceed re reBranch
     proceed-re s [] ls = refl
     proceed-re s (g ∷ gs) ls = refl
@@ -203,7 +226,8 @@ module _ (κ : ℕ → ℕ) where
     settle-re (check s y t n ns ps) b = refl
     settle-re fail b = refl
 
-    tryFrom-re : (s : Store) (a : Atom) (ms : List (Entry Leaf)) (k : ℕ) (b : Branch) → map re (tryFrom s a ms k b) ≡ tryFrom (RS s) (reAtom a) (map (putEntry (renumbered κ)) ms) k (reBranch b)
+    tryFrom-re : (s : Store) (a : Atom) (ms : List (Entry Leaf)) (k : ℕ) (b : Branch)
+        → map re (tryFrom s a ms k b) ≡ tryFrom (RS s) (reAtom a) (map (putEntry (renumbered κ)) ms) k (reBranch b)
     unfolding tryFrom re
     tryFrom-re s a [] k b = refl
     tryFrom-re s a (m ∷ ms) k b = refl
@@ -213,7 +237,8 @@ module _ (κ : ℕ → ℕ) where
     freshVariables-re [] n = refl
     freshVariables-re (v ∷ vs) n = ap (leaf (var n) ∷_) (freshVariables-re vs (suc n))
 
-    tryMember-re : (s : Store) (a : Atom) (m : Entry Leaf) (k : ℕ) (b : Branch) → map re (tryMember s a m k b) ≡ tryMember (RS s) (reAtom a) (putEntry (renumbered κ) m) k (reBranch b)
+    tryMember-re : (s : Store) (a : Atom) (m : Entry Leaf) (k : ℕ) (b : Branch)
+        → map re (tryMember s a m k b) ≡ tryMember (RS s) (reAtom a) (putEntry (renumbered κ) m) k (reBranch b)
     unfolding tryMember reStore reAtom reBranch fresh putLine
     tryMember-re s a m k b =
         let θ : Leaf → Term Leaf = renumbered κ in
@@ -221,12 +246,16 @@ module _ (κ : ℕ → ℕ) where
         let xs = freshVariables vs (s .next) in
         let e = assign vs xs (m .environment) in
         let f = assign vs xs (putEnvironment θ (m .environment)) in
-        let same : putEnvironment θ e ≡ f = assign-put θ vs xs (m .environment) ∙ ap (λ (ts : List (Term Leaf)). assign vs ts (putEnvironment θ (m .environment))) (freshVariables-re vs (s .next)) in
-        settle-re (comparing (fresh vs (a .level) s) (pushPairs (a .arguments) (substitutes (m .member .arguments) e) [])) (branch (bodySequent (m .member .body) e (a .program) (a .level) ++ b .goals) (Dclause k xs ∷ b .path))
+        let same : putEnvironment θ e ≡ f =
+        assign-put θ vs xs (m .environment)
+        ∙ ap (λ (ts : List (Term Leaf)). assign vs ts (putEnvironment θ (m .environment))) (freshVariables-re vs (s .next)) in
+        settle-re (comparing (fresh vs (a .level) s) (pushPairs (a .arguments) (substitutes (m .member .arguments) e) []))
+        (branch (bodySequent (m .member .body) e (a .program) (a .level) ++ b .goals) (Dclause k xs ∷ b .path))
         ∙ ap₂ settle
         (comparing-re (fresh vs (a .level) s) (pushPairs (a .arguments) (substitutes (m .member .arguments) e) [])
         ∙ ap (comparing (RS (fresh vs (a .level) s))) (pushPairs-re (a .arguments) (substitutes (m .member .arguments) e) []
-        ∙ ap (λ (us : Terms Leaf). pushPairs (substitutes (a .arguments) θ) us []) (substitutes-substitutes (m .member .arguments) e θ ∙ ap (substitutes (m .member .arguments)) same)))
+        ∙ ap (λ (us : Terms Leaf). pushPairs (substitutes (a .arguments) θ) us [])
+        (substitutes-substitutes (m .member .arguments) e θ ∙ ap (substitutes (m .member .arguments)) same)))
         (ap₂ branch
         (map-append (putSequent θ) (bodySequent (m .member .body) e (a .program) (a .level)) (b .goals)
         ∙ ap (λ (gs : List (Sequent Leaf)). gs ++ map (putSequent θ) (b .goals)) (body-put θ (m .member .body) e (a .program) (a .level)
@@ -234,11 +263,13 @@ module _ (κ : ℕ → ℕ) where
         (ap (λ (ts : List (Term Leaf)). Dclause k ts ∷ map (putLine θ) (b .path)) (freshVariables-re vs (s .next))))
 
     takeGoal-re : (u : ℕ) (s : Store) (g : Goal) (e : Environment Leaf) (P : Program Leaf) (i : ℕ) (b : Branch)
-        → map re (takeGoal u s g e P i b) ≡ takeGoal (κ u) (RS s) g (putEnvironment (renumbered κ) e) (putProgram (renumbered κ) P) i (reBranch b)
+        → map re (takeGoal u s g e P i b)
+        ≡ takeGoal (κ u) (RS s) g (putEnvironment (renumbered κ) e) (putProgram (renumbered κ) P) i (reBranch b)
     unfolding takeGoal re reBranch reStore reAtom fresh putLine substitute renumbered renumber
     takeGoal-re u s (atom p ts) e P i b =
         tryFrom-re s (record { predicate = p; arguments = substitutes ts e; program = P; level = i }) (entries P) 1 b
-        ∙ ap₂ (λ (us : Terms Leaf) (ms : List (Entry Leaf)). tryFrom (RS s) (record { predicate = p; arguments = us; program = putProgram (renumbered κ) P; level = i }) ms 1 (reBranch b))
+        ∙ ap₂ (λ (us : Terms Leaf) (ms : List (Entry Leaf)). tryFrom (RS s)
+        (record { predicate = p; arguments = us; program = putProgram (renumbered κ) P; level = i }) ms 1 (reBranch b))
         (substitutes-substitutes ts e (renumbered κ)) (sym (entries-put (renumbered κ) (P .clauses)))
     takeGoal-re u s truth e P i b = proceed-re s (b .goals) _
     takeGoal-re u s (and g h) e P i b = refl
@@ -246,10 +277,14 @@ module _ (κ : ℕ → ℕ) where
     takeGoal-re u s (implies c g) e P i b = ap (λ (Q : Program Leaf). take (RS s) (sequent g (putEnvironment (renumbered κ) e) Q i)
         (branch (map (putSequent (renumbered κ)) (b .goals)) (plain Dassume ∷ map (putLine (renumbered κ)) (b .path))) ∷ [])
         (assume-put (renumbered κ) c e P)
-    takeGoal-re u s (exists v g) e P i b = ap (λ (f : Environment Leaf). take (fresh (v ∷ []) i (RS s)) (sequent g f (putProgram (renumbered κ) P) i)
-        (branch (map (putSequent (renumbered κ)) (b .goals)) (Dsome (leaf (var (s .next))) ∷ map (putLine (renumbered κ)) (b .path))) ∷ []) (update-put (renumbered κ) e v (leaf (var (s .next))))
+    takeGoal-re u s (exists v g) e P i b =
+        ap (λ (f : Environment Leaf). take (fresh (v ∷ []) i (RS s)) (sequent g f (putProgram (renumbered κ) P) i)
+        (branch (map (putSequent (renumbered κ)) (b .goals)) (Dsome (leaf (var (s .next))) ∷ map (putLine (renumbered κ)) (b .path))) ∷ [])
+        (update-put (renumbered κ) e v (leaf (var (s .next))))
     takeGoal-re u s (forall v g) e P i b = ap (λ (f : Environment Leaf). take (RS s) (sequent g f (putProgram (renumbered κ) P) (suc i))
-        (branch (map (putSequent (renumbered κ)) (b .goals)) (Dall (leaf (con (κ u) (suc i))) ∷ map (putLine (renumbered κ)) (b .path))) ∷ []) (update-put (renumbered κ) e v (leaf (con u (suc i))))
+        (branch (map (putSequent (renumbered κ)) (b .goals))
+        (Dall (leaf (con (κ u) (suc i))) ∷ map (putLine (renumbered κ)) (b .path))) ∷ [])
+        (update-put (renumbered κ) e v (leaf (con u (suc i))))
 
     step-re : (u : ℕ) (c : Configuration) → map re (step u c) ≡ step (κ u) (re c)
     unfolding step re reAtom
@@ -258,7 +293,8 @@ module _ (κ : ℕ → ℕ) where
         map-append re (cond (eqb (a .predicate) (m .member .predicate)) (tryMember s a m k b) []) (tryFrom s a ms (suc k) b)
         ∙ ap₂ _++_ (go (eqb (a .predicate) (m .member .predicate))) (tryFrom-re s a ms (suc k) b)
       where
-        go : (c : Bool) → map re (cond c (tryMember s a m k b) []) ≡ cond c (tryMember (RS s) (reAtom a) (putEntry (renumbered κ) m) k (reBranch b)) []
+        go : (c : Bool) → map re (cond c (tryMember s a m k b) [])
+            ≡ cond c (tryMember (RS s) (reAtom a) (putEntry (renumbered κ) m) k (reBranch b)) []
         go true = tryMember-re s a m k b
         go false = refl
     step-re u (match m b) = settle-re (matchStep m) b ∙ ap (λ (x : Matching). settle x (reBranch b)) (matchStep-re m)
@@ -276,10 +312,13 @@ start-environment : (κ : ℕ → ℕ) → putEnvironment (renumbered κ) startE
 unfolding startEnvironment substitute renumbered
 start-environment κ = fun-ext (λ v. go v (ltb v variableNames))
   where
-    go : (v : ℕ) (b : Bool) → substitute (cond b (leaf (var v)) (app (sheetSymbol 0) nil)) (renumbered κ) ≡ cond b (leaf (var v)) (app (sheetSymbol 0) nil)
+    go : (v : ℕ) (b : Bool)
+        → substitute (cond b (leaf (var v)) (app (sheetSymbol 0) nil)) (renumbered κ) ≡ cond b (leaf (var v)) (app (sheetSymbol 0) nil)
     go v true = refl
     go v false = refl
 
 pub root-re : (κ : ℕ → ℕ) (cs : Rules Clause) (g : Goal) → re κ (root cs g) ≡ root cs g
 unfolding root startGoal startStore re reStore reBranch
-root-re κ cs g = ap (λ x. take startStore x (branch [] [])) (instance-put (renumbered κ) cs g startEnvironment ∙ ap (instanceOf cs g) (start-environment κ))
+root-re κ cs g =
+    ap (λ x. take startStore x (branch [] []))
+    (instance-put (renumbered κ) cs g startEnvironment ∙ ap (instanceOf cs g) (start-environment κ))

@@ -76,9 +76,11 @@ pub leads-once : (p : Script) (u : ℕ) (c d e : Configuration) → LeadsTo p u 
 unfolding LeadsTo
 leads-once [] u c d e h k = sym h ∙ k
 leads-once (i ∷ p) u c d e h k =
-    leads-once p (suc u) (h .0) d e (h .2) (subst (λ (x : Configuration). LeadsTo p (suc u) x e) (stands-once (acts u c) i (k .0) (h .0) (k .1) (h .1)) (k .2))
+    leads-once p (suc u) (h .0) d e (h .2)
+    (subst (λ (x : Configuration). LeadsTo p (suc u) x e) (stands-once (acts u c) i (k .0) (h .0) (k .1) (h .1)) (k .2))
 
-pub leads-split : (p r : Script) (u : ℕ) (c d : Configuration) → LeadsTo (p ++ r) u c d → (e : Configuration) × LeadsTo p u c e × LeadsTo r (u + length p) e d
+pub leads-split : (p r : Script) (u : ℕ) (c d : Configuration) → LeadsTo (p ++ r) u c d
+    → (e : Configuration) × LeadsTo p u c e × LeadsTo r (u + length p) e d
 unfolding LeadsTo
 leads-split [] r u c d h = (c, refl, (let q : u ≡ u + 0 = omega arith in subst (λ (v : ℕ). LeadsTo r v c d) q h))
 leads-split (i ∷ p) r u c d h =
@@ -102,7 +104,8 @@ finished-stops (match m b) u i e h k = h
 finished-stops (done s ls) u i e h k = k
 
 -- two scripts that end where no goal is left are in one order or the same
-pub leads-either : (p q : Script) (u : ℕ) (c d e : Configuration) → Finished d → Finished e → LeadsTo p u c d → LeadsTo q u c e → (Before p q) ⊎ ((p ≡ q) ⊎ Before q p)
+pub leads-either : (p q : Script) (u : ℕ) (c d e : Configuration) → Finished d → Finished e → LeadsTo p u c d → LeadsTo q u c e
+    → (Before p q) ⊎ ((p ≡ q) ⊎ Before q p)
 unfolding LeadsTo Before
 leads-either [] [] u c d e x y h k = inr (inl refl)
 leads-either [] (j ∷ q) u c d e x y h k = absurd (finished-stops c u j (k .0) (subst Finished (sym h) x) (k .1))

@@ -33,20 +33,27 @@ module _ (ok : Arities) (cs : Rules Clause) (g : Goal) (clauses : All (λ c. For
   each-bound [] u h = tt
   each-bound (c ∷ l) u h = ((λ n k. h n k .0), each-bound l u (λ n k. h n k .1))
 
-  shown : (is : Script) (w : Proof) → Arrives cs g is w → ShownUpTo ok (w .units) (finalEnvironment (w .store)) (finalLines (w .store) (w .path))
+  shown : (is : Script) (w : Proof) → Arrives cs g is w
+      → ShownUpTo ok (w .units) (finalEnvironment (w .store)) (finalLines (w .store) (w .path))
   unfolding root start
   shown is w a =
       let d = done (w .store) (w .path) in
-      let b : Bounded (w .units) d = leads-keep Bounded (λ u c h. acts-keep (Bounded (suc u)) u c (each-bound (step u c) (suc u) (step-bounded u c h)))
-      (λ u v c l h n k. h n (omega arith)) (a .0) is 0 (w .units) (root cs g) d (a .2) (a .1) (λ n l. start-formed ok n cs g clauses goal .0) in
+      let b : Bounded (w .units) d =
+      leads-keep Bounded (λ u c h. acts-keep (Bounded (suc u)) u c (each-bound (step u c) (suc u) (step-bounded u c h)))
+      (λ u v c l h n k. h n (omega arith)) (a .0) is 0 (w .units) (root cs g) d (a .2) (a .1)
+      (λ n l. start-formed ok n cs g clauses goal .0) in
       bounds-end ok (w .units) (w .store) (w .path) (b (w .units) (omega arith))
 
-  shown-all : (x : List Script) (ws : List Proof) → Paired (Arrives cs g) x ws → All (λ w. ShownUpTo ok (w .units) (finalEnvironment (w .store)) (finalLines (w .store) (w .path))) ws
+  shown-all : (x : List Script) (ws : List Proof) → Paired (Arrives cs g) x ws
+      → All (λ w. ShownUpTo ok (w .units) (finalEnvironment (w .store)) (finalLines (w .store) (w .path))) ws
   unfolding Paired
   shown-all [] [] h = tt
   shown-all [] (w ∷ ws) h = absurd h
   shown-all (is ∷ x) [] h = tt
   shown-all (is ∷ x) (w ∷ ws) h = (shown is w (h .0), shown-all x ws (h .1))
 
-  pub proofs-shown : (wanted budget : ℕ) → All (λ w. ShownUpTo ok (w .units) (finalEnvironment (w .store)) (finalLines (w .store) (w .path))) (enumerate wanted budget cs g .found)
-  proofs-shown wanted budget = let t = found-at-start cs g wanted budget in shown-all (t .scripts) (enumerate wanted budget cs g .found) (t .arrive)
+  pub proofs-shown : (wanted budget : ℕ)
+      → All (λ w. ShownUpTo ok (w .units) (finalEnvironment (w .store)) (finalLines (w .store) (w .path)))
+      (enumerate wanted budget cs g .found)
+  proofs-shown wanted budget =
+      let t = found-at-start cs g wanted budget in shown-all (t .scripts) (enumerate wanted budget cs g .found) (t .arrive)
