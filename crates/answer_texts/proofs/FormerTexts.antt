@@ -1,6 +1,5 @@
--- Request W-204: a proved search over a sheet without numbers in its terms shows none, so that its text is one of those before.
+-- Request W-204: a proof over a sheet without numbers in its terms shows none, so that its text is one of those before.
 use Prim.Native.Nat.{ℕ, _≤_}
-use mathlib.Core.Path.{_≡_}
 use mathlib.Core.List.{List, [], _∷_, map}
 use Rattle.terms.specs.Lists.{All}
 use Rattle.terms.specs.Terms.{sheetSymbol, numeral, Term, leaf, app, Terms, nil, cons}
@@ -10,13 +9,12 @@ use Rattle.formulas.specs.Formulas.{Goal, atom, truth, and, or, implies, exists
 use Rattle.sequents.specs.Symbols.{Symbol, Ground}
 use Rattle.sequents.specs.Sequents.{Environment, Line, plain, Dsome, Dall, Dclause}
 use Rattle.unification.specs.Store.{Leaf, Store}
-use Rattle.search.specs.Search.{proved, ends, search}
 use Rattle.search.specs.Answers.{finalEnvironment, finalLines}
 use Rattle.search.proofs.Formed.{Arities, FormedTerm, FormedTerms, SheetName, FormedGoal, FormedClause, FormedLine}
 use Rattle.search.proofs.FormedStores.{SymbolUpTo}
-use Rattle.search.proofs.Bounds.{ShownUpTo, proved-bounds}
+use Rattle.search.proofs.Bounds.{ShownUpTo}
 use Rattle.sheet_format.specs.Nodes.{Declaration}
-use Rattle.sheet_format.specs.Sheets.{Sheet, rulesOf}
+use Rattle.sheet_format.specs.Sheets.{Sheet}
 use Rattle.sheet_format.proofs.Formed.{FormedTerm as SheetTerm, FormedTerms as SheetTerms, FormedGoal as SheetGoal, FormedClause as SheetClause}
 use Rattle.sheet_format.proofs.Good.{Good}
 use Rattle.sheet_format.proofs.Numberless.{NumberlessGoal, NumberlessClause}
@@ -24,7 +22,7 @@ use Rattle.answer_texts.specs.TextLines.{TextLine, bindingLine, derivati
 use Rattle.answer_texts.proofs.SoundWritable.{names-free}
 
 -- Only symbols stand before arguments, whatever their number.
-unfoldable symbolic : Arities
+unfoldable pub symbolic : Arities
 symbolic (sheetSymbol f) n = Unit {0}
 symbolic (numeral m) n = ⊥
 
@@ -100,11 +98,17 @@ answer-numberless n vs e ls h k = (
       (k .lines)),
 )
 
--- The lines of a proved search over such a sheet.
-pub lines-numberless : (s : Sheet) → Good s → All NumberlessClause (s .clauses) × NumberlessGoal (s .goal)
-    → (budget n : ℕ) (store : Store) (path : List (Line Leaf)) → search budget (rulesOf s) (s .goal) ≡ ends (proved store path) n
+-- A sheet without numbers in its terms is well-formed with symbols alone.
+pub sheet-symbolic : (s : Sheet) → Good s → All NumberlessClause (s .clauses) × NumberlessGoal (s .goal)
+    → All (λ c. FormedClause c symbolic) (s .clauses) × FormedGoal (s .goal) symbolic
+sheet-symbolic s good h = (
+  clauses-symbolic (s .symbols) (s .clauses) (good .clausesFormed) (h .0),
+  goal-symbolic (s .symbols) (s .goal) (good .goalFormed) (h .1),
+)
+
+-- The lines of a proof that shows symbols alone hold no number.
+pub lines-numberless : (s : Sheet) (n : ℕ) (store : Store) (path : List (Line Leaf))
+    → ShownUpTo symbolic n (finalEnvironment store) (finalLines store path)
     → All (λ x. All Numberless (termsOf x)) (answerLines n (freeVariables (s .goal)) (finalEnvironment store) (finalLines store path))
-lines-numberless s good h budget n store path e =
-    answer-numberless n (freeVariables (s .goal)) (finalEnvironment store) (finalLines store path) (names-free (s .goal))
-    (proved-bounds symbolic (rulesOf s) (s .goal) (clauses-symbolic (s .symbols) (s .clauses) (good .clausesFormed) (h .0))
-    (goal-symbolic (s .symbols) (s .goal) (good .goalFormed) (h .1)) budget n store path e)
+lines-numberless s n store path shown =
+    answer-numberless n (freeVariables (s .goal)) (finalEnvironment store) (finalLines store path) (names-free (s .goal)) shown

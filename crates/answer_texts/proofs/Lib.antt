@@ -7,4 +7,5 @@ pub mod SoundWritable
 pub mod FormerTexts
 pub mod TextSound
 pub mod Promises
+pub mod EnumerationTexts
 pub mod Capitals

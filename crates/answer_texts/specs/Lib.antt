@@ -8,3 +8,5 @@ pub mod Spelled
 pub mod FormerTexts
 pub mod Judgements
 pub mod Promises
+pub mod Enumerations
+pub mod EnumerationPromises
