@@ -1,16 +1,12 @@
 -- The texts of the proofs that an enumeration finds: each is that of a proof, and they extend the text of the search.
-use Prim.Native.Nat.{ℕ, suc, _≤_, _<_}
+use Prim.Native.Nat.{ℕ, suc, _≤_}
 use mathlib.Core.Path.{_≡_, refl, sym, _∙_, ap}
 use mathlib.Core.List.{List, [], _∷_, _++_, append-assoc, append-nil}
 use native.Mathlib.Omega.{arith}
 use Rattle.terms.specs.Lists.{All}
 use Rattle.terms.proofs.Lists.{all-weaken}
-use Rattle.formulas.specs.Formulas.{Goal, Clause}
-use Rattle.formulas.specs.Rules.{Rules}
 use Rattle.search.specs.Search.{proved, noProof, SearchOutcome, ends, spent, search}
-use Rattle.search.specs.Answers.{finalEnvironment, finalLines}
 use Rattle.search.proofs.Formed.{Arities, FormedGoal, FormedClause}
-use Rattle.search.proofs.Bounds.{ShownUpTo}
 use Rattle.search.proofs.ProcedureSearch.{all-both}
 use Rattle.enumeration.specs.Enumeration.{Proof, proofOf, Enumeration, enumerate}
 use Rattle.enumeration.specs.Smaller.{oneProof}

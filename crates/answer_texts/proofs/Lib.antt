@@ -7,5 +7,6 @@ pub mod SoundWritable
 pub mod FormerTexts
 pub mod TextSound
 pub mod Promises
+pub mod SpelledLines
 pub mod EnumerationTexts
 pub mod Capitals

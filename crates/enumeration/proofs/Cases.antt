@@ -2,7 +2,7 @@
 use Prim.Native.Nat.{ℕ}
 use mathlib.Core.Path.{_≡_, refl}
 use mathlib.Core.List.{List, [], _∷_, map}
-use Rattle.terms.specs.Terms.{sheetSymbol, Term, leaf, app, Terms, nil, cons}
+use Rattle.terms.specs.Terms.{sheetSymbol, leaf, app, Terms, nil, cons}
 use Rattle.formulas.specs.Formulas.{Goal, atom, truth, or, implies, exists, forall, Clause, fact, rule}
 use Rattle.formulas.specs.Rules.{Order, oldest, latest, rules}
 use Rattle.sequents.specs.Sequents.{Line, plain, Dleft, Dright, Dassume, Dtrue, Dall, Dclause}

@@ -12,7 +12,7 @@ use lib.ListN.{length}
 use borrow.Author.Tests.{eq-eqb}
 use Rattle.terms.specs.Lists.{All, Mem, here, there, place, update}
 use Rattle.terms.specs.Terms.{leaf, Terms, substitute, substitutes, levelBy}
-use Rattle.terms.proofs.Lists.{all-append, update-all, map-append, map-map, map-agree, Any, any-left, any-right, mem-nil}
+use Rattle.terms.proofs.Lists.{all-append, update-all, map-append, Any, any-left, any-right, mem-nil}
 use Rattle.terms.proofs.Terms.{substitutes-substitutes}
 use Rattle.formulas.specs.Formulas.{Goal, atom, truth, and, or, implies, exists, forall, Clause}
 use Rattle.formulas.specs.Rules.{Rules, assume}
@@ -20,10 +20,9 @@ use Rattle.formulas.proofs.Rules.{joined-all}
 use Rattle.sequents.specs.Symbols.{Symbol, made, symbolLevel, Ground, level}
 use Rattle.sequents.specs.Sequents.{Environment, Program, hypothesis, Entry, entries, Sequent, sequent, assign, bodySequent, Dtrue, Dand}
 use Rattle.sequents.specs.Sequents.{Dleft, Dright, Dassume, Line, plain, Dsome, Dall, Dclause, putEnvironment, putProgram, putSequent}
-use Rattle.sequents.specs.Sequents.{putLine}
 use Rattle.sequents.specs.Derivations.{Instantiates, lines, instanceOf, InstanceDerivation}
 use Rattle.sequents.specs.Lines.{Uses, Infers, Leads, Derives}
-use Rattle.sequents.specs.Renamings.{Renaming, renamed, renameLine}
+use Rattle.sequents.specs.Renamings.{renamed}
 use Rattle.sequents.specs.Promises.{Closed}
 use Rattle.sequents.proofs.Sequents.{putEntry, entries-put, update-put, assign-put, assign-all, entries-all, instance-put, sheet-all}
 use Rattle.sequents.proofs.Constants.{LowEnvironment, LowProgram, exchange, exchange-at, exchange-environment, exchange-program}
@@ -46,6 +45,7 @@ use Rattle.search.proofs.Values.{symbols, Valuation, valued, Solution, goalsAt,
 use Rattle.search.proofs.Values.{program-agree, goals-agree, extend}
 use Rattle.search.proofs.Complete.{low-up, startValues, startValues-low, startEnvironment-low, startValues-agree}
 use Rattle.enumeration.specs.Scripts.{Script, acts, Stands, LeadsTo, bare, root}
+use Rattle.enumeration.proofs.Scripts.{bare-lines}
 
 -- A path from c ends with these lines, without their terms.
 abbrev pub EndsWith : List (Line Leaf) → ℕ → Configuration → Type 0
@@ -244,16 +244,6 @@ forest-derives (g ∷ gs) ls f =
     subst (λ (ks : List (Line Symbol)). Derives ks (g ∷ gs)) (sym (f .2))
     (leads-append (lines (f .0)) (f .1) (g ∷ gs) gs [] (tree-leads (f .0) gs) (forest-derives gs (f .1) (f .3)))
 
-bare-rename : (r : Renaming) (ls : List (Line Symbol)) → map bare (map (renameLine r) ls) ≡ map bare ls
-unfolding putLine bare
-bare-rename r ls = map-map (renameLine r) bare ls ∙ map-agree (λ x. bare (renameLine r x)) bare one ls
-  where
-    one : (x : Line Symbol) → bare (renameLine r x) ≡ bare x
-    one (plain w) = refl
-    one (Dsome t) = refl
-    one (Dall t) = refl
-    one (Dclause k ts) = refl
-
 record Other (ls : List (Line Symbol)) (gs : List (Sequent Symbol)) : Type 0 where
   ks : List (Line Symbol)
   same : map bare ks ≡ map bare ls
@@ -278,7 +268,7 @@ other-constant P g e v i n m gs ls lP le h =
       ks = lines (d .0) ++ f .1;
       same =
           map-append bare (lines (d .0)) (f .1)
-          ∙ ap (λ (x : List (Line Leaf)). x ++ map bare (f .1)) (ap (map bare) (d .1) ∙ bare-rename r (lines (f .0)))
+          ∙ ap (λ (x : List (Line Leaf)). x ++ map bare (f .1)) (ap (map bare) (d .1) ∙ bare-lines (renamed r) (lines (f .0)))
           ∙ sym (map-append bare (lines (f .0)) (f .1)) ∙ ap (map bare) (sym (f .2));
       derives =
           leads-append (lines (d .0)) (f .1) (sequent g (update e v (leaf (made m (suc i)))) P (suc i) ∷ gs) gs [] first

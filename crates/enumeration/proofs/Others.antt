@@ -6,11 +6,12 @@ use native.Mathlib.Omega.{arith}
 use Rattle.terms.specs.Lists.{Mem, here, there}
 use Rattle.search.proofs.Promises.{completeness}
 use Rattle.enumeration.specs.Enumeration.{enumerateFrom, enumerate}
-use Rattle.enumeration.specs.Renumbering.{reStore, rePath}
+use Rattle.enumeration.specs.Renumbering.{renumbered, reStore, rePath}
 use Rattle.enumeration.specs.Scripts.{SucceedsWith, bare}
 use Rattle.enumeration.specs.Promises.{Belongs, Paired, AllDerivations, NoOther, NoneMissed}
+use Rattle.enumeration.proofs.Scripts.{bare-lines}
 use Rattle.enumeration.proofs.Derivations.{derivation-path}
-use Rattle.enumeration.proofs.PathsFound.{bare-re, paths-found, walk-order}
+use Rattle.enumeration.proofs.PathsFound.{paths-found, walk-order}
 use Rattle.enumeration.proofs.First.{first-proof}
 use Rattle.enumeration.proofs.Each.{path-sound}
 
@@ -30,7 +31,7 @@ paired-with R a (c ∷ x) [] (there h) p = absurd p
 paired-with R a (c ∷ x) (b ∷ y) (there h) p = let r = paired-with R a x y h (p .1) in (r .0, (there (r .1 .0), r .1 .1))
 
 pub no-other : NoOther
-unfolding SucceedsWith
+unfolding SucceedsWith rePath
 no-other cs g e c n d wanted budget m q =
     let r = paths-derivations cs g c n .path e d in
     let f = paths-found cs g wanted budget in
@@ -40,7 +41,7 @@ no-other cs g e c n d wanted budget m q =
     let same =
     walk-order cs g .once (r .0) (reStore (b .number) (w .0 .store)) (r .1 .0) (rePath (b .number) (w .0 .path)) (r .1 .1 .0) (b .succeeds)
     (r .1 .1 .1 .0) in
-    (w .0, (w .1 .0, sym (bare-re (b .number) (w .0 .path)) ∙ ap (map bare) (same .1) ∙ r .1 .1 .1 .1))
+    (w .0, (w .1 .0, sym (bare-lines (renumbered (b .number)) (w .0 .path)) ∙ ap (map bare) (same .1) ∙ r .1 .1 .1 .1))
 
 -- Whoever holds a derivation of an instance is never told no without a proof.
 pub none-missed : NoneMissed

@@ -1,6 +1,6 @@
 -- The scripts of what is found: in walk order, each once, none left out before the end.
 use Prim.Native.Nat.{ℕ}
-use mathlib.Core.Path.{_≡_, refl, sym, _∙_, ap₂, subst}
+use mathlib.Core.Path.{_≡_, refl, sym, _∙_, subst}
 use mathlib.Core.List.{List, [], _∷_, map}
 use mathlib.Core.Logic.{_⊎_, inl, inr}
 use native.Mathlib.Omega.{arith}
@@ -8,8 +8,6 @@ use Rattle.terms.specs.Lists.{All, Mem}
 use Rattle.terms.proofs.Lists.{all-mem}
 use Rattle.formulas.specs.Formulas.{Goal, Clause}
 use Rattle.formulas.specs.Rules.{Rules}
-use Rattle.sequents.specs.Sequents.{Line, plain, Dsome, Dall, Dclause, putLine}
-use Rattle.unification.specs.Store.{Leaf}
 use Rattle.search.specs.Configurations.{done}
 use Rattle.search.specs.Search.{start}
 use Rattle.enumeration.specs.Enumeration.{Proof, exhausted, Enumeration, enumerate}
@@ -18,7 +16,7 @@ use Rattle.enumeration.specs.Scripts.{Script, SucceedsWith, Before, Asce
 use Rattle.enumeration.specs.Promises.{Belongs, Paired, Different, AllPaths, AllOrdered}
 use Rattle.enumeration.proofs.Renumbering.{re}
 use Rattle.enumeration.proofs.Numbers.{Rising}
-use Rattle.enumeration.proofs.Scripts.{before-never, before-onward, before-not, Finished, leads-either, leads-once}
+use Rattle.enumeration.proofs.Scripts.{before-never, before-onward, before-not, Finished, leads-either, leads-once, bare-lines}
 use Rattle.enumeration.proofs.Lines.{lines-tell}
 use Rattle.enumeration.proofs.Paths.{LeadsBy, node, script, configuration, Reached, Ordered, own}
 use Rattle.enumeration.proofs.Found.{Arrives, Open, Told, enumerate-told}
@@ -38,22 +36,10 @@ belongs cs g is w h =
     let o = own cs g (w .units) is (h .0) (done (w .store) (w .path)) (h .1, h .2) in
     record { number = o .number; differs = o .differs; succeeds = o .leads }
 
--- renumbered lines are the same but for their terms
-pub bare-re : (κ : ℕ → ℕ) (ls : List (Line Leaf)) → map bare (rePath κ ls) ≡ map bare ls
-unfolding rePath bare putLine
-bare-re κ [] = refl
-bare-re κ (x ∷ ls) = ap₂ (λ (y : Line Leaf) (ks : List (Line Leaf)). y ∷ ks) (one x) (bare-re κ ls)
-  where
-    one : (y : Line Leaf) → bare (putLine (renumbered κ) y) ≡ bare y
-    one (plain w) = refl
-    one (Dsome t) = refl
-    one (Dall t) = refl
-    one (Dclause k ts) = refl
-
 different : (cs : Rules Clause) (g : Goal) (p : Script) (w : Proof) (ps : List Script) (ws : List Proof) → Belongs cs g p w
     → All (Before p) ps → Paired (Belongs cs g) ps ws
     → All (λ v. map bare (w .path) ≡ map bare (v .path) → ⊥) ws
-unfolding Paired SucceedsWith
+unfolding Paired SucceedsWith rePath
 different cs g p w [] [] b h k = tt
 different cs g p w [] (v ∷ ws) b h k = absurd k
 different cs g p w (q ∷ ps) [] b h k = tt
@@ -62,7 +48,7 @@ different cs g p w (q ∷ ps) (v ∷ ws) b h k = (
       let c = k .0 in
       let same : p ≡ q =
       lines-tell p q 0 (root cs g) _ _ (rePath (b .number) (w .path)) (rePath (c .number) (v .path)) (b .succeeds) (c .succeeds)
-      (bare-re (b .number) (w .path) ∙ e ∙ sym (bare-re (c .number) (v .path))) in
+      (bare-lines (renumbered (b .number)) (w .path) ∙ e ∙ sym (bare-lines (renumbered (c .number)) (v .path))) in
       before-never q (subst (λ (x : Script). Before x q) same (h .0))),
   different cs g p w ps ws b (h .1) (k .1),
 )

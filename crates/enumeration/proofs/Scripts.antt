@@ -7,8 +7,11 @@ use native.Mathlib.Decide.{decLe}
 use native.Mathlib.Omega.{arith}
 use lib.ListN.{length}
 use Rattle.terms.specs.Lists.{All}
+use Rattle.terms.specs.Terms.{Term}
+use Rattle.terms.proofs.Lists.{map-map, map-agree}
+use Rattle.sequents.specs.Sequents.{Line, plain, Dsome, Dall, Dclause, putLine}
 use Rattle.search.specs.Configurations.{Configuration, take, try, match, done}
-use Rattle.enumeration.specs.Scripts.{Script, acts, Stands, LeadsTo, Before}
+use Rattle.enumeration.specs.Scripts.{Script, acts, Stands, LeadsTo, Before, bare}
 
 -- Walk order
 
@@ -125,3 +128,17 @@ leads-either (i ∷ p) (j ∷ q) u c d e x y h k = go (λ z. leads-either p q (s
         let s : j ≡ i = omega arith in
         same (sym s) (ih (subst (λ (z : Configuration). LeadsTo q (suc u) z e)
         (stands-once (acts u c) i (k .0) (h .0) (subst (λ (n : ℕ). Stands (acts u c) n (k .0)) s (k .1)) (h .1)) (k .2)))
+
+-- Lines without their terms
+
+-- Other terms for the leaves change nothing in a line without its terms.
+bare-put : {A B : Type 0} (θ : A → Term B) (x : Line A) → bare (putLine θ x) ≡ bare x
+unfolding bare putLine
+bare-put θ (plain w) = refl
+bare-put θ (Dsome t) = refl
+bare-put θ (Dall t) = refl
+bare-put θ (Dclause k ts) = refl
+
+-- So it is for all lines.
+pub bare-lines : {A B : Type 0} (θ : A → Term B) (ls : List (Line A)) → map bare (map (putLine θ) ls) ≡ map bare ls
+bare-lines θ ls = map-map (putLine θ) bare ls ∙ map-agree (λ x. bare (putLine θ x)) bare (bare-put θ) ls
