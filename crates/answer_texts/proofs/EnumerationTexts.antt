@@ -50,7 +50,7 @@ all-found s wanted budget few =
     (all-both (λ p. p .units ≤ budget) (EachProof (rulesOf s) (s .goal)) ps (c .units) (allSound (rulesOf s) (s .goal) wanted budget)))
 
 -- A property of each proof found, from what it is and what it shows.
-each-found : (s : Sheet) (ok : Arities) → All (λ c. FormedClause c ok) (s .clauses) × FormedGoal (s .goal) ok
+pub each-found : (s : Sheet) (ok : Arities) → All (λ c. FormedClause c ok) (s .clauses) × FormedGoal (s .goal) ok
     → (wanted budget : ℕ) → budget ≤ maxBudget → All (λ p. Found s p × FoundShows s ok p) (proofsOf s wanted budget)
 each-found s ok formed wanted budget few =
     all-both (Found s) (FoundShows s ok) (proofsOf s wanted budget) (all-found s wanted budget few)

@@ -9,4 +9,5 @@ pub mod TextSound
 pub mod Promises
 pub mod SpelledLines
 pub mod EnumerationTexts
+pub mod TextPaths
 pub mod Capitals
