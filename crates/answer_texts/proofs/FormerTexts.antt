@@ -15,7 +15,8 @@ use Rattle.search.proofs.FormedStores.{SymbolUpTo}
 use Rattle.search.proofs.Bounds.{ShownUpTo}
 use Rattle.sheet_format.specs.Nodes.{Declaration}
 use Rattle.sheet_format.specs.Sheets.{Sheet}
-use Rattle.sheet_format.proofs.Formed.{FormedTerm as SheetTerm, FormedTerms as SheetTerms, FormedGoal as SheetGoal, FormedClause as SheetClause}
+use Rattle.sheet_format.proofs.Formed.{FormedTerm as SheetTerm, FormedTerms as SheetTerms, FormedGoal as SheetGoal}
+use Rattle.sheet_format.proofs.Formed.{FormedClause as SheetClause}
 use Rattle.sheet_format.proofs.Good.{Good}
 use Rattle.sheet_format.proofs.Numberless.{NumberlessGoal, NumberlessClause}
 use Rattle.answer_texts.specs.TextLines.{TextLine, bindingLine, derivationLine, lineTerms, termsOf, answerLines}
@@ -93,7 +94,8 @@ unfolding answerLines termsOf
 answer-numberless n vs e ls h k = (
   tt,
   all-append NoNumbers (map (λ v. bindingLine v (e v)) vs) (map derivationLine ls)
-      (all-map (λ v. bindingLine v (e v)) SheetName NoNumbers (λ v l. (shown-numberless (SymbolUpTo n) (e v) (k .environment v l), tt)) vs h)
+      (all-map (λ v. bindingLine v (e v)) SheetName NoNumbers
+      (λ v l. (shown-numberless (SymbolUpTo n) (e v) (k .environment v l), tt)) vs h)
       (all-map derivationLine (FormedLine symbolic (SymbolUpTo n) (λ i. i ≤ n)) NoNumbers (line-numberless (SymbolUpTo n) (λ i. i ≤ n)) ls
       (k .lines)),
 )

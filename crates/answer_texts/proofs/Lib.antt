@@ -10,4 +10,5 @@ pub mod Promises
 pub mod SpelledLines
 pub mod EnumerationTexts
 pub mod TextPaths
+pub mod EnumerationPromises
 pub mod Capitals

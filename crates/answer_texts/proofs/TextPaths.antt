@@ -7,7 +7,7 @@ use mathlib.Core.Option.{Option, none, some, Option·map}
 use native.Mathlib.Omega.{arith}
 use Rattle.terms.specs.Lists.{All}
 use Rattle.terms.specs.Terms.{leaf}
-use Rattle.terms.proofs.Lists.{all-append, all-map, map-append}
+use Rattle.terms.proofs.Lists.{all-append, all-map}
 use Rattle.formulas.specs.Formulas.{freeVariables}
 use Rattle.sequents.specs.Symbols.{Symbol}
 use Rattle.sequents.specs.Sequents.{Environment, Dtrue, Dand, Dleft, Dright, Dassume, Line, plain, Dsome, Dall, Dclause, putLine}
@@ -22,15 +22,15 @@ use Rattle.enumeration.specs.Scripts.{bare}
 use Rattle.enumeration.specs.Promises.{Different}
 use Rattle.enumeration.proofs.Scripts.{bare-lines}
 use Rattle.enumeration.proofs.Promises.{allPaths}
-use Rattle.sheet_format.specs.Limits.{maxNumber, maxBudget}
-use Rattle.sheet_format.specs.Bytes.{ascii, linesOf, fields, number, decimal, sameBytes, SplitLines}
+use Rattle.sheet_format.specs.Limits.{maxNumber}
+use Rattle.sheet_format.specs.Bytes.{ascii, fields, number, sameBytes, SplitLines}
 use Rattle.sheet_format.specs.Nodes.{Declaration}
 use Rattle.sheet_format.specs.Sheets.{Sheet, rulesOf}
 use Rattle.sheet_format.proofs.Bytes.{Graphic}
 use Rattle.sheet_format.proofs.Numbers.{number-decimal}
 use Rattle.sheet_format.proofs.Names.{Names}
 use Rattle.sheet_format.proofs.Good.{good}
-use Rattle.answer_texts.specs.TextLines.{TextLine, resultLine, bindingLine, derivationLine, answerLines, renameTextLine}
+use Rattle.answer_texts.specs.TextLines.{TextLine, bindingLine, derivationLine, answerLines, renameTextLine}
 use Rattle.answer_texts.specs.Numbering.{shown, numberingOf, numbered}
 use Rattle.answer_texts.specs.Spelling.{join, spellWord, lineFields, textFields, proofText}
 use Rattle.answer_texts.specs.Promises.{searchText}
@@ -107,7 +107,7 @@ module _ (ds : List Declaration) (names : Names ds) where
   unfolding derivationsAmong textFields renameTextLine
   derivations-kept r [] = refl
   derivations-kept r (x ∷ ls) =
-      rw (starts-derivation (lineFields ds (putLine (renamed r) x))) 
+      rw (starts-derivation (lineFields ds (putLine (renamed r) x)))
       (ap (lineBytes ds (derivationLine (putLine (renamed r) x)) ∷_) (derivations-kept r ls))
 
   -- and the B lines before them are not.
@@ -196,9 +196,10 @@ map-reverse f (a ∷ l) r = map-reverse f l (a ∷ r)
 
 shown-bare : (s : Sheet) (p : Proof) → map bare (shownLines s p) ≡ reverse (map bare (p .path))
 unfolding finalLines
-shown-bare s p = bare-lines _ (finalLines (p .store) (p .path)) ∙ bare-lines (final (p .store)) (reverse (p .path)) ∙ map-reverse bare (p .path) []
+shown-bare s p =
+    bare-lines _ (finalLines (p .store) (p .path)) ∙ bare-lines (final (p .store)) (reverse (p .path)) ∙ map-reverse bare (p .path) []
 
--- So texts with the same D lines are of paths with the same lines, terms aside.
+-- Texts with the same D lines are of paths with the same lines, terms aside.
 same-path : (s : Sheet) → Names (s .symbols) → (p q : Proof) → Found s p × FoundShows s (declared (s .symbols)) p
     → Found s q × FoundShows s (declared (s .symbols)) q → derivationLinesOf (foundText s p) ≡ derivationLinesOf (foundText s q)
     → map bare (p .path) ≡ map bare (q .path)
@@ -208,7 +209,8 @@ same-path s names p q h k e =
     λ o i. all-map (putLine (renamed _)) (FormedLine (declared ds) (SymbolUpTo (o .units)) (λ j. j ≤ o .units)) (Fine ds)
     (renamed-fine ds names _ (o .units) (let l = i .0 .most in omega arith)) (finalLines (o .store) (o .path)) (i .1 .lines) in
     let bytes = sym (text-derivations s names p (h .1)) ∙ e ∙ text-derivations s names q (k .1) in
-    let reversed = sym (shown-bare s p) ∙ all-bare ds names (shownLines s p) (shownLines s q) (fine p h) (fine q k) bytes ∙ shown-bare s q in
+    let reversed =
+    sym (shown-bare s p) ∙ all-bare ds names (shownLines s p) (shownLines s q) (fine p h) (fine q k) bytes ∙ shown-bare s q in
     sym (reverse-reverse (map bare (p .path))) ∙ ap reverse reversed ∙ reverse-reverse (map bare (q .path))
 
 -- Paths that differ have texts that do.

@@ -43,8 +43,7 @@ searchLines s store path n = answerLines n (freeVariables (s .goal)) (finalEnvir
 pub sheet-formed : (s : Sheet) → Good s
     → All (λ c. FormedClause c (declared (s .symbols))) (s .clauses) × FormedGoal (s .goal) (declared (s .symbols))
 sheet-formed s well =
-    let ds = s .symbols in
-    (
+    let ds = s .symbols in (
       all-weaken (λ c. SheetClause c ds) (λ c. FormedClause c (declared ds)) (λ c. sheet-clause c ds) (s .clauses) (well .clausesFormed),
       sheet-goal (s .goal) ds (well .goalFormed),
     )
