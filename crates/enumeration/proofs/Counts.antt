@@ -14,7 +14,7 @@ use Rattle.enumeration.specs.Enumeration.{enumerateFrom, enumerate}
 use Rattle.enumeration.specs.Promises.{AllCounts}
 use Rattle.enumeration.proofs.Climbing.{climbing}
 
--- Between the acts u and the units b: units so far and units left are the budget.
+-- The next verdict comes after at least u acts, and units so far and units left are the budget b.
 unfoldable pub Between : ℕ → ℕ → Next → Type 0
 Between u b (finds f w ds) = (u ≤ w .units) × (w .units + f ≡ b)
 Between u b (noneLeft n) = (u ≤ n) × (n ≤ b)
@@ -42,7 +42,7 @@ next-between (suc left) u b ds e = go (verdictOf ds) (next-between left (suc u) 
     go (some noProof) ih = (omega arith, omega arith)
     go none ih = between-more u b (nextProof left (suc u) (advance u ds)) ih
 
--- What is promised, of what is told with a number and a budget.
+-- What is promised of an enumeration with a number and a budget.
 pub record Counted (wanted budget : ℕ) (r : Enumeration) : Type 0 where
   pub most : length (r .found) ≤ wanted
   pub reached : (r .end ≡ enough) ↔ (length (r .found) ≡ wanted)

@@ -1,5 +1,5 @@
 -- Each derivation of an instance has the lines, without their terms, of a path that succeeds: the lines say at each choice how to
--- go on, and every match on the proofOf comes to its end.
+-- go on, and every match on the way comes to its end.
 use Prim.Native.Nat.{ℕ, zero, suc, _≤_}
 use mathlib.Core.Path.{_≡_, refl, sym, _∙_, ap, ap₂, subst, subst₂}
 use mathlib.Core.Bool.{Bool, true, cond}
@@ -57,7 +57,7 @@ any-stands P [] h = absurd h
 any-stands P (c ∷ l) (inl h) = (0, (c, (refl, h)))
 any-stands P (c ∷ l) (inr h) = let r = any-stands P l h in (suc (r .0), (r .1 .0, (r .1 .1 .0, r .1 .1 .1)))
 
--- an act, and then a path from what it gives
+-- An act, and then a path from one of the configurations that it gives, is a path.
 act-ends : (bs : List (Line Leaf)) (u : ℕ) (c : Configuration) → Any (EndsWith bs (suc u)) (acts u c) → EndsWith bs u c
 unfolding LeadsTo
 act-ends bs u c h =
@@ -73,7 +73,7 @@ Low g = LowEnvironment (g .level) (g .environment) × LowProgram (g .level) (g .
 abbrev Written : List (Line Leaf) → List (Line Leaf) → List (Line Symbol) → Type 0
 Written bs path ls = reverseAux (map bare ls) (map bare path) ≡ bs
 
--- σ solves the store, and the lines derive the goals with its values.
+-- The valuation σ solves the store, and the lines derive the goals with its values.
 record SolvedBy (bs : List (Line Leaf)) (n : ℕ) (s : Store) (gs : List (Sequent Leaf)) (path : List (Line Leaf)) : Type 0 where
   σ : Valuation
   ls : List (Line Symbol)
@@ -99,7 +99,7 @@ record TriedBy (bs : List (Line Leaf)) (n : ℕ) (s : Store) (a : Atom) (ms : Li
       (λ new. Leads ls (new ++ goalsAt σ gs) [])
   written : Written bs path (line ∷ ls)
 
--- Of a match under proofOf, σ solves it.
+-- Of a match under way, σ solves it.
 record MatchedBy (bs : List (Line Leaf)) (n : ℕ) (m : Matching) (gs : List (Sequent Leaf)) (path : List (Line Leaf)) : Type 0 where
   σ : Valuation
   ls : List (Line Symbol)
@@ -115,7 +115,7 @@ Leading bs n (try s a m ms k b) = TriedBy bs n s a (m ∷ ms) k (b .goals) (b .p
 Leading bs n (match m b) = MatchedBy bs n m (b .goals) (b .path)
 Leading bs n (done s path) = map bare path ≡ bs
 
--- the acts: going on with the goals,
+-- Going on with the goals keeps what is to be written.
 proceed-leads : (bs : List (Line Leaf)) (n : ℕ) (s : Store) (gs : List (Sequent Leaf)) (path : List (Line Leaf)) → SolvedBy bs n s gs path
     → Any (Leading bs n) (proceed s gs path)
 unfolding proceed Leads
@@ -126,7 +126,7 @@ proceed-leads bs n s [] path h = inl (none-left (h .ls) (h .derives) (h .written
     none-left (x ∷ ls) d w = absurd d
 proceed-leads bs n s (g ∷ gs) path h = inl h
 
--- with the members left,
+-- Going on to the members left keeps it, one of them being used.
 tryFrom-leads : (bs : List (Line Leaf)) (n : ℕ) (s : Store) (a : Atom) (ms : List (Entry Leaf)) (k : ℕ) (b : Branch)
     → TriedBy bs n s a ms k (b .goals) (b .path)
     → Any (Leading bs n) (tryFrom s a ms k b)
@@ -160,20 +160,20 @@ uses-cases {x = x} {m = m} {l = l} {k = k} {p = p} {us = us} {P = P} {i = i} {K 
     go e m l (there h) a b c d f =
         inr (record { used = e; at = h; terms = u .terms; line = a; instantiates = b; predicate = c; arguments = d; premises = f })
 
--- one line more has been written
+-- With one line more written, one line less is to be written.
 written-next : (bs : List (Line Leaf)) (path : List (Line Leaf)) (x : Line Symbol) (y : Line Leaf) (ls : List (Line Symbol))
     → bare x ≡ bare y → Written bs path (x ∷ ls)
     → Written bs (y ∷ path) ls
 written-next bs path x y ls e w = ap (λ (z : Line Leaf). reverseAux (map bare ls) (z ∷ map bare path)) (sym e) ∙ w
 
--- a body is low
+-- A body has nothing above its level.
 body-low : (o : Option Goal) (e : Environment Symbol) (P : Program Symbol) (i : ℕ) → LowEnvironment i e → LowProgram i P
     → All Low (bodySequent o e P i)
 unfolding bodySequent
 body-low none e P i le lP = tt
 body-low (some g) e P i le lP = ((le, lP), tt)
 
--- what a try compares, what it leaves open, and what it has written
+-- What a try compares, what it leaves open, and what it has written.
 abbrev opened : Store → Entry Leaf → Environment Leaf
 opened s m = assign (m .member .prefix) (freshVariables (m .member .prefix) (s .next)) (m .environment)
 
@@ -187,7 +187,7 @@ onward s a m b = bodySequent (m .member .body) (opened s m) (a .program) (a .lev
 abbrev written-path : Store → Entry Leaf → ℕ → Branch → List (Line Leaf)
 written-path s m k b = Dclause k (freshVariables (m .member .prefix) (s .next)) ∷ b .path
 
--- with the member of a try that the line uses: its terms for the prefix are the values of the fresh variables,
+-- The member of a try that the line uses is matched: its terms for the prefix are the values of the fresh variables.
 tryMember-leads : (bs : List (Line Leaf)) (n : ℕ) (s : Store) (a : Atom) (m : Entry Leaf) (ms : List (Entry Leaf)) (k : ℕ) (b : Branch)
     → Good (TryBelow a (m ∷ ms) (b .goals)) s → (h : TriedBy bs n s a (m ∷ ms) k (b .goals) (b .path))
     → UsesThis (h .line) (putEntry (valued (h .σ)) m) k (a .predicate) (substitutes (a .arguments) (valued (h .σ)))
@@ -235,7 +235,7 @@ tryMember-leads bs n s a m ms k b o h x =
       written = written-next bs (b .path) (h .line) (Dclause k (freshVariables vs (s .next))) (h .ls) (ap bare (x .line)) (h .written);
     }
 
--- Another constant: lines of a derivation with n, then others, become lines of one with m, the same without their terms.
+-- Lines that derive a universal goal with the constant n, then others, become lines with the constant m, the same without their terms.
 
 forest-derives : (gs : List (Sequent Symbol)) (ls : List (Line Symbol)) → Forest gs ls → Derives ls gs
 unfolding Leads
@@ -281,7 +281,7 @@ same-many [] (y ∷ ks) e = absurd (let z : _≡_ {A = ℕ} 0 1 = cc in omega ar
 same-many (x ∷ ls) [] e = absurd (let z : _≡_ {A = ℕ} 0 1 = cc in omega arith)
 same-many (x ∷ ls) (y ∷ ks) e = let z = same-many ls ks (cc) in omega arith
 
--- taking a goal: the line says how to go on, a witness being the value of the fresh variable;
+-- Taking a goal keeps it: the line says how to go on, a witness being the value of the fresh variable.
 takeGoal-leads : (bs : List (Line Leaf)) (n u : ℕ) (s : Store) (g : Goal) (e : Environment Leaf) (P : Program Leaf) (i : ℕ) (b : Branch)
     (σ : Valuation) (x : Line Symbol) (ls : List (Line Symbol))
     → Good (GoalsBelow (sequent g e P i ∷ b .goals)) s → length ls ≤ n → Solution σ s → LowEnvironment i (putEnvironment (valued σ) e)
@@ -411,7 +411,7 @@ takeGoal-leads bs n u s (forall v g) e P i b σ x ls o few w le lP low h q =
           ∙ written-next bs (b .path) x (Dall (leaf (con u (suc i)))) ls (ap bare (h .1)) q;
     })
 
--- taking the front goal uses the first line,
+-- Taking the front goal uses the first line,
 take-leads : (bs : List (Line Leaf)) (n u : ℕ) (s : Store) (g : Sequent Leaf) (b : Branch) → Good (GoalsBelow (g ∷ b .goals)) s
     → SolvedBy bs (suc n) s (g ∷ b .goals) (b .path)
     → Any (Leading bs n) (acts u (take s g b))
@@ -455,7 +455,7 @@ try-leads bs n s a m ms k b o h = go (uses-cases (h .uses))
       written = h .written;
     })
 
--- To the end
+-- Paths to the end, those that begin with taking a goal being given for fewer lines.
 
 all-left : {A : Type 0} (P : A → Type 0) (x y : List A) → All P (x ++ y) → All P x
 all-left P [] y h = tt
@@ -569,7 +569,7 @@ module _ (bs : List (Line Leaf)) (n : ℕ)
   any-ends u (done s path ∷ l) o (inl h) = inl ([], (s, (path, (refl, h))))
   any-ends u (c ∷ l) o (inr h) = inr (any-ends u l (o .1) h)
 
--- by induction over the number of lines
+-- So there is a path that begins with taking a goal, by induction over the number of lines.
 take-ends : (bs : List (Line Leaf)) (n u : ℕ) (s : Store) (g : Sequent Leaf) (b : Branch) → Invariant (take s g b)
     → SolvedBy bs n s (g ∷ b .goals) (b .path) → EndsWith bs u (take s g b)
 unfolding Leads acts Invariant
@@ -586,7 +586,7 @@ take-ends bs (suc n) u s g b o h =
     good : Invariant (take s g b) → Good (GoalsBelow (g ∷ b .goals)) s
     good x = x
 
--- The start, with the terms of the instance.
+-- The start is such a goal, with the terms of the instance.
 pub derivation-path : (cs : Rules Clause) (g : Goal) (e : Environment Symbol) → All Closed (cs .clauses) → SheetNames g
     → (d : InstanceDerivation cs g e)
     → EndsWith (reverseAux (map bare (lines (d .derivation))) []) 0 (root cs g)

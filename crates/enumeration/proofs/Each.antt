@@ -26,7 +26,7 @@ use Rattle.enumeration.proofs.Paths.{LeadsBy, leads-keep}
 use Rattle.enumeration.proofs.Found.{Arrives}
 use Rattle.enumeration.proofs.PathsFound.{found-at-start}
 
--- where no goal is left no act is due
+-- What a step keeps is kept by what an act gives to choose from.
 pub acts-keep : (P : Configuration → Type 0) (u : ℕ) (c : Configuration) → All P (step u c) → All P (acts u c)
 unfolding acts
 acts-keep P u (take s g b) h = h
@@ -84,7 +84,7 @@ pub each-sound : AllSound
 each-sound cs g wanted budget =
     let t = found-at-start cs g wanted budget in each-all cs g (t .scripts) (enumerate wanted budget cs g .found) (t .arrive)
 
--- A path that succeeds by its own acts.
+-- The acts of a path by itself have rising numbers.
 own-acts : (is : Script) (u : ℕ) (c d : Configuration) → LeadsTo is u c d
     → (ns : List ℕ) × (LeadsBy ns is c d × Rising u ns (u + length is))
 unfolding LeadsTo LeadsBy Rising

@@ -42,24 +42,24 @@ pub record Told (cs : Rules Clause) (g : Goal) (ps : List Node) (r : Enumeration
   pub inside : All (λ q. Any (From q) ps) scripts
   pub covers : (q : Script) → Succeeds cs g q → Any (From q) ps → Mem q scripts ⊎ (Open (r .end) × All (λ p. Before p q) scripts)
 
--- nothing is left
+-- Where nothing is left nothing is found, and nothing is left out.
 told-none : (cs : Rules Clause) (g : Goal) (u : ℕ) → Told cs g [] (record { found = []; end = exhausted u })
 unfolding Paired Ascending
 told-none cs g u = record { scripts = []; arrive = tt; ascend = tt; inside = tt; covers = λ q s a. absurd a }
 
--- it ends before that
+-- Where it ends before that, nothing is found.
 told-open : (cs : Rules Clause) (g : Goal) (ps : List Node) (e : End) → Open e → Told cs g ps (record { found = []; end = e })
 unfolding Paired Ascending
 told-open cs g ps e o = record { scripts = []; arrive = tt; ascend = tt; inside = tt; covers = λ q s a. inr (o, tt) }
 
--- what is before all nodes is before all that goes on from one
+-- What is before all nodes is before all that goes on from one.
 before-any : (is q : Script) (ps : List Node) → All (λ p. Before is (script p)) ps → Any (From q) ps → Before is q
 before-any is q [] h a = absurd a
 before-any is q (p ∷ ps) h (inl a) =
     subst (λ (x : Script). Before x q) (append-nil is) (subst (Before (is ++ [])) (a .1) (before-longer is (script p) [] (a .0) (h .0)))
 before-any is q (p ∷ ps) h (inr a) = before-any is q ps (h .1) a
 
--- a proof is found
+-- A proof that is found is the path of its node, and it is before all others.
 told-found : (cs : Rules Clause) (g : Goal) (u : ℕ) (is : Script) (ns : List ℕ) (s : Store) (ls : List (Line Leaf)) (ps : List Node)
     (r : Enumeration) → Standing cs g u (node is ns (done s ls) ∷ ps)
     → Told cs g ps r → Told cs g (node is ns (done s ls) ∷ ps) (record { found = proofOf u s ls ∷ r .found; end = r .end })
@@ -93,7 +93,7 @@ told-found cs g u is ns s ls ps r h t = record {
     covered q k (inl a) = inl (here-only q k (a .0) (a .1))
     covered q k (inr a) = later q (before-any is q ps (h .ordered .0) a) (t .covers q k a)
 
--- what goes on from a child goes on from the node
+-- What goes on from a child goes on from the node.
 from-child : (q : Script) (is : Script) (ns ms : List ℕ) (c : Configuration) (f : ℕ → Script) (ds : List Configuration) (ps : List Node)
     → ((i : ℕ) → (x : Script) × (is ++ x ≡ f i))
     → Any (From q) (children f ms ds ++ ps) → Any (From q) (node is ns c ∷ ps)
@@ -103,7 +103,7 @@ from-child q is ns ms c f (d ∷ ds) ps h (inl a) =
     inl (h 0 .0 ++ a .0, sym (append-assoc is (h 0 .0) (a .0)) ∙ ap (λ (x : Script). x ++ a .0) (h 0 .1) ∙ a .1)
 from-child q is ns ms c f (d ∷ ds) ps h (inr a) = from-child q is ns ms c (λ i. f (suc i)) ds ps (λ i. h (suc i)) a
 
--- an act is done
+-- An act puts its children in the place of a node, and what goes on from the node goes on from one of them.
 told-act : (cs : Rules Clause) (g : Goal) (u : ℕ) (is : Script) (ns : List ℕ) (c : Configuration) (ps : List Node) (r : Enumeration)
     → (Finished c → ⊥) → Standing cs g u (node is ns c ∷ ps)
     → Told cs g (children (choices is) (ns ++ (u ∷ [])) (acts u c) ++ ps) r → Told cs g (node is ns c ∷ ps) r
@@ -134,14 +134,14 @@ told-act cs g u is ns c ps r f h t = record {
     covered q k (inl a) = child q k (a .0) (a .1)
     covered q k (inr a) = any-right (From q) (children (choices is) (ns ++ (u ∷ [])) (acts u c)) ps a
 
--- the state after an act
+-- These children are the state after the act.
 act-state : (is : Script) (ns : List ℕ) (u : ℕ) (c : Configuration) (ps : List Node)
     → map configuration (children (choices is) (ns ++ (u ∷ [])) (acts u c) ++ ps) ≡ acts u c ++ map configuration ps
 act-state is ns u c ps =
     map-append configuration (children (choices is) (ns ++ (u ∷ [])) (acts u c)) ps
     ∙ ap (λ (x : List Configuration). x ++ map configuration ps) (children-are (choices is) (ns ++ (u ∷ [])) (acts u c))
 
--- up to the next proof, if what follows it is told
+-- So it is up to the next proof, if it is so of what follows.
 next-told : (cs : Rules Clause) (g : Goal) (rest : ℕ → ℕ → List Configuration → Enumeration)
     → ((f u : ℕ) (ps : List Node) → Standing cs g u ps → Told cs g ps (rest f u (map configuration ps)))
     → (f u : ℕ) (ps : List Node) → Standing cs g u ps → Told cs g ps (goOn rest (nextProof f u (map configuration ps)))
@@ -176,7 +176,7 @@ next-told cs g rest k (suc f) u (node is ns (done s ls) ∷ ps) h =
     told-found cs g u is ns s ls ps (rest (suc f) u (map configuration ps)) h
     (k (suc f) u ps (record { reached = h .reached .1; ordered = h .ordered .1 }))
 
--- as many as are wanted
+-- So it is for as many proofs as are wanted.
 pub enumerate-told : (cs : Rules Clause) (g : Goal) (wanted f u : ℕ) (ps : List Node) → Standing cs g u ps
     → Told cs g ps (enumerateFrom wanted f u (map configuration ps))
 unfolding enumerateFrom Open

@@ -1,4 +1,4 @@
--- A larger number or budget.
+-- A smaller number or budget leaves what `specs/Smaller.antt` says, so that a larger one extends it.
 use Prim.Native.Nat.{ℕ, zero, suc, _+_, _≤_, _<_}
 use mathlib.Core.Path.{_≡_, refl, sym, _∙_, ap, ap₂}
 use mathlib.Core.Bool.{Bool, true, false, cond}
@@ -23,7 +23,7 @@ told ws e = record { found = ws; end = e }
 abbrev addProof : Proof → Enumeration → Enumeration
 addProof w r = record { found = w ∷ r .found; end = r .end }
 
--- A smaller number
+-- A smaller number leaves the first of the proofs.
 
 enumerate-firsts : (w v f u : ℕ) (ds : List Configuration) → w ≤ v
     → enumerateFrom w f u ds ≡ firsts w (enumerateFrom v f u ds .found) (enumerateFrom v f u ds .end)
@@ -39,8 +39,6 @@ enumerate-firsts (suc w) (suc v) f u ds l = go (λ e k cs. enumerate-firsts w v 
     go ih (finds e y cs) = ap (addProof y) (ih e (y .units) cs)
     go ih (noneLeft n) = refl
     go ih runsOut = refl
-
--- A smaller budget
 
 -- What the walk comes to with budget b and with the larger budget c.
 unfoldable Shorter : ℕ → ℕ → Next → Next → Type 0
@@ -90,7 +88,7 @@ next-shorter (suc left) (suc more) u b c ds p q l =
     go (some noProof) ih = (refl, omega arith)
     go none ih = ih
 
--- tests whose value is known
+-- The tests of `within` are known where the numbers are.
 kept : (n b : ℕ) → n ≤ b → leb n b ≡ true
 kept n b l = le-leb n b l
 
@@ -129,7 +127,7 @@ enumerate-within (suc w) f h u b c ds p q l =
     within-next b c (λ e v es. enumerateFrom w e v es) (omega arith) (λ e k v es x y z. enumerate-within w e k v b c es x y z)
     (nextProof f u ds) (nextProof h u ds) (next-shorter f h u b c ds p q l)
 
--- What is left out stands at the end
+-- What is left out stands at the end.
 
 firsts-prefix : (w : ℕ) (ws : List Proof) (e : End) → (more : List Proof) × (ws ≡ firsts w ws e .found ++ more)
 unfolding firsts
@@ -147,7 +145,7 @@ within-prefix b (x ∷ ws) e = go (leb (x .units) b) (within-prefix b ws e)
     go true r = (r .0, ap (x ∷_) (r .1))
     go false r = (x ∷ ws, refl)
 
--- and nothing is left out where it ended with no more
+-- Nothing is left out where it ended with no alternative left.
 
 firsts-settled : (w : ℕ) (ws : List Proof) (e : End) (n : ℕ) → firsts w ws e .end ≡ exhausted n → told ws e ≡ firsts w ws e
 unfolding firsts

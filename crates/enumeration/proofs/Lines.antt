@@ -19,7 +19,7 @@ use Rattle.search.specs.Steps.{proceed, settle, tryFrom, tryMember, takeGoal, s
 use Rattle.enumeration.specs.Scripts.{Script, acts, Stands, LeadsTo, Before, bare}
 use Rattle.enumeration.proofs.Scripts.{stands-all, stands-once, Finished, leads-either}
 
--- Lists with the same end
+-- Of two lists that are the same after a place, the elements at that place are the same.
 
 length-of : {A : Type 0} (a : List A) (x : A) (l : List A) → length (a ++ (x ∷ l)) ≡ length a + suc (length l)
 length-of [] x l = omega arith
@@ -38,7 +38,7 @@ same-at {A = A} a b x y l e =
     let q = length-of b y l in
     same-length a b x y l (omega arith) e
 
--- The lines of a configuration; they only grow.
+-- The lines of a configuration. They only grow.
 unfoldable pathOf : Configuration → List (Line Leaf)
 pathOf (take s g b) = b .path
 pathOf (try s a m ms k b) = b .path
@@ -65,13 +65,13 @@ unfolding tryFrom pathOf
 tryFrom-grown s a [] k b = tt
 tryFrom-grown s a (m ∷ ms) k b = (([], refl), tt)
 
--- the member of a try writes its place
+-- The member of a try writes its place.
 tryMember-grown : (s : Store) (a : Atom) (m : Entry Leaf) (k : ℕ) (b : Branch)
     → All (Grown (Dclause k (freshVariables (m .member .prefix) (s .next)) ∷ b .path)) (tryMember s a m k b)
 unfolding tryMember
 tryMember-grown s a m k b = settle-grown _ _
 
--- one line more is grown
+-- What grows from one line more grows.
 grown-one : (x : Line Leaf) (ls : List (Line Leaf)) (e : Configuration) → Grown (x ∷ ls) e → Grown ls e
 grown-one x ls e h = (h .0 ++ (x ∷ []), h .1 ∙ sym (append-assoc (h .0) (x ∷ []) ls))
 
@@ -129,7 +129,7 @@ unfolding tryFrom
 tryFrom-trying s a [] k b = tt
 tryFrom-trying s a (m ∷ ms) k b = ((m, (ms, refl)), tt)
 
--- what a try gives: its member, or the next try
+-- A try gives its member, or the next try.
 abbrev Tried : Store → Atom → Entry Leaf → ℕ → Branch → Configuration → Type 0
 Tried s a m k b e = Grown (Dclause k (freshVariables (m .member .prefix) (s .next)) ∷ b .path) e ⊎ Trying s a (suc k) b e
 
@@ -159,9 +159,7 @@ try-placed (i ∷ p) u s a m ms k b d f h =
         let r = ih (z .0) (z .1 .0) (subst (λ (e : Configuration). LeadsTo p (suc u) e d) (z .1 .1) (h .2)) in
         (r .0, (r .1 .0, ((let l = r .1 .1 .0 in omega arith), r .1 .1 .1)))
 
--- Two paths that part
-
--- At most one.
+-- A list of at most one configuration: there is no choice.
 unfoldable pub Single : List Configuration → Type 0
 Single [] = Unit {0}
 Single (c ∷ []) = Unit {0}
@@ -196,7 +194,7 @@ unfolding tryMember Single
 tried-single true s a m k b = settle-single _ _
 tried-single false s a m k b = tt
 
--- of two lists, the first with at most one
+-- Of two such lists, two different choices are the one of the first and the one of the second.
 two-lists : (x y : List Configuration) (i j : ℕ) (d e : Configuration) → Single x → Single y → i < j → Stands (x ++ y) i d
     → Stands (x ++ y) j e → Stands x 0 d × Stands y 0 e
 unfolding Single Stands
@@ -209,7 +207,7 @@ two-lists (c ∷ []) (b ∷ []) i (suc (suc j)) d e s t l h k = absurd k
 two-lists (c ∷ []) (b ∷ f ∷ y) i (suc j) d e s t l h k = absurd t
 two-lists (c ∷ b ∷ x) y i j d e s t l h k = absurd s
 
--- Lines that are the same up to a place, and not there.
+-- Lines that are the same up to a place, and differ there without their terms.
 record Apart (ls ks : List (Line Leaf)) : Type 0 where
   pub end : List (Line Leaf)
   pub left : Line Leaf
@@ -220,7 +218,7 @@ record Apart (ls ks : List (Line Leaf)) : Type 0 where
   pub second : ks ≡ rights ++ (right ∷ end)
   pub differ : bare left ≡ bare right → ⊥
 
--- where a goal is taken: the left and the right of an or
+-- Where a goal is taken, two choices are the left and the right of a disjunction.
 goal-parts : (u : ℕ) (s : Store) (g : Goal) (e : Environment Leaf) (P : Program Leaf) (l : ℕ) (b : Branch) (i j : ℕ) (c d : Configuration)
     → i < j
     → Stands (takeGoal u s g e P l b) i c → Stands (takeGoal u s g e P l b) j d

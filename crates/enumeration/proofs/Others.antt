@@ -1,4 +1,4 @@
--- Paths and derivations.
+-- Paths that succeed and derivations are the same, terms aside; so nothing is missed.
 use Prim.Native.Nat.{ℕ, zero, suc}
 use mathlib.Core.Path.{_≡_, sym, _∙_, ap}
 use mathlib.Core.List.{List, [], _∷_, map}
@@ -22,7 +22,7 @@ paths-derivations cs g c n = record {
   path = λ e d. let r = derivation-path cs g e c n d in (r .0, (r .1 .0, (r .1 .1 .0, (r .1 .1 .1 .0, r .1 .1 .1 .1))));
 }
 
--- the proof of a script that is found
+-- To what stands in the first list something in the second corresponds.
 paired-with : {A B : Type 0} (R : A → B → Type 0) (a : A) (x : List A) (y : List B) → Mem a x → Paired R x y → (b : B) × (Mem b y × R a b)
 unfolding Paired
 paired-with R a (c ∷ x) [] here p = absurd p

@@ -23,7 +23,7 @@ LeadsBy [] (i ∷ is) c d = ⊥
 LeadsBy (n ∷ ns) [] c d = ⊥
 LeadsBy (n ∷ ns) (i ∷ is) c d = (e : Configuration) × Stands (acts n c) i e × LeadsBy ns is e d
 
--- one act more
+-- A script with one act more leads to one of the configurations that the act gives.
 pub leads-next : (ns : List ℕ) (is : Script) (u i : ℕ) (c d e : Configuration) → LeadsBy ns is c d → Stands (acts u d) i e
     → LeadsBy (ns ++ (u ∷ [])) (is ++ (i ∷ [])) c e
 unfolding LeadsBy
@@ -39,7 +39,7 @@ leads-length [] (j ∷ is) c d h = absurd h
 leads-length (n ∷ ns) [] c d h = absurd h
 leads-length (n ∷ ns) (j ∷ is) c d h = let z = leads-length ns is (h .0) d (h .2) in omega arith
 
--- what acts keep is true where a script leads, the numbers rising
+-- What acts keep is true where a script leads, if the numbers rise.
 pub leads-keep : (P : ℕ → Configuration → Type 0) → ((u : ℕ) (c : Configuration) → P u c → All (P (suc u)) (acts u c))
     → ((u v : ℕ) (c : Configuration) → u ≤ v → P u c → P v c)
     → (ns : List ℕ) (is : Script) (k u : ℕ) (c d : Configuration) → Rising k ns u → LeadsBy ns is c d → P k c → P u d
@@ -51,7 +51,7 @@ leads-keep P act more (n ∷ ns) (i ∷ is) k u c d r h p =
     leads-keep P act more ns is (suc n) u (h .0) d (r .1) (h .2)
     (stands-all (P (suc n)) (acts n c) i (h .0) (act n c (more k n c (r .0) p)) (h .1))
 
--- Renumbered so that they count from k on, they are the script's own acts.
+-- With constants renumbered so that the numbers count from k on, the acts are the script's own.
 pub leads-own : (κ : ℕ → ℕ) → ((c d : ℕ) → κ c ≡ κ d → c ≡ d) → (ns : List ℕ) (is : Script) (k : ℕ) (c d : Configuration) → Counted κ k ns
     → LeadsBy ns is c d → LeadsTo is k (re κ c) (re κ d)
 unfolding LeadsBy LeadsTo Counted
@@ -79,12 +79,12 @@ configuration (node is ns c) = c
 unfoldable pub Reached : Rules Clause → Goal → ℕ → Node → Type 0
 Reached cs g u (node is ns c) = LeadsBy ns is (root cs g) c × Rising 0 ns u
 
--- In walk order.
+-- The nodes stand in walk order.
 unfoldable pub Ordered : List Node → Type 0
 Ordered [] = Unit {0}
 Ordered (p ∷ ps) = All (λ q. Before (script p) (script q)) ps × Ordered ps
 
--- What an act gives.
+-- What an act gives, with the scripts of the choices.
 unfoldable pub children : (ℕ → Script) → List ℕ → List Configuration → List Node
 children f ns [] = []
 children f ns (c ∷ cs) = node (f 0) ns c ∷ children (λ i. f (suc i)) ns cs
@@ -123,7 +123,7 @@ ordered-append [] qs h k a = k
 ordered-append (p ∷ ps) qs h k a =
     (all-append (λ q. Before (script p) (script q)) ps qs (h .0) (a .0), ordered-append ps qs (h .1) k (a .1))
 
--- The state after an act stands as the state before it.
+-- The nodes of a state, u acts having been done.
 pub record Standing (cs : Rules Clause) (g : Goal) (u : ℕ) (ps : List Node) : Type 0 where
   pub reached : All (Reached cs g u) ps
   pub ordered : Ordered ps

@@ -29,7 +29,7 @@ paired-weaken R S h [] (b ∷ y) k = k
 paired-weaken R S h (a ∷ x) [] k = k
 paired-weaken R S h (a ∷ x) (b ∷ y) k = (h a b (k .0), paired-weaken R S h x y (k .1))
 
--- where the walk arrives the script arrives by its own acts
+-- Where the walk arrives the script arrives by its own acts.
 belongs : (cs : Rules Clause) (g : Goal) (is : Script) (w : Proof) → Arrives cs g is w → Belongs cs g is w
 unfolding Reached SucceedsWith re rePath
 belongs cs g is w h =
@@ -61,7 +61,7 @@ all-different cs g [] (w ∷ ws) h k = absurd k
 all-different cs g (p ∷ ps) [] h k = absurd k
 all-different cs g (p ∷ ps) (w ∷ ws) h k = (different cs g p w ps ws (k .0) (h .0) (k .1), all-different cs g ps ws (h .1) (k .1))
 
--- the start
+-- The state at the start has one node.
 pub found-at-start : (cs : Rules Clause) (g : Goal) (wanted budget : ℕ)
     → Told cs g (node [] [] (root cs g) ∷ []) (enumerate wanted budget cs g)
 unfolding enumerate start root configuration Reached LeadsBy Rising Ordered

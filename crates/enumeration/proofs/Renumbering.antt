@@ -79,7 +79,7 @@ module _ (κ : ℕ → ℕ) where
   follow-re bs (leaf (con c k)) = refl
   follow-re bs (app f ts) = refl
 
-  -- lists of terms and pairs
+  -- Renumbering goes through lists of terms and of pairs.
   pushTerms-re : (ts : Terms Leaf) (ns : List (Term Leaf)) → map T (pushTerms ts ns) ≡ pushTerms (substitutes ts (renumbered κ)) (map T ns)
   unfolding pushTerms substitute
   pushTerms-re nil ns = refl
@@ -105,7 +105,7 @@ module _ (κ : ℕ → ℕ) where
   comparing-re s none = refl
   comparing-re s (some ps) = refl
 
-  -- range checks
+  -- Renumbering goes through a node of a range check, for which numbers do not matter.
   afterNode-re : (s : Store) (y : ℕ) (t : Term Leaf) (ns : List (Term Leaf)) (ps : List Pair)
       → reMatching (afterNode s y t ns ps) ≡ afterNode (RS s) y (T t) (map T ns) (map rePair ps)
   unfolding afterNode reMatching reStore bind reBinding
@@ -131,7 +131,7 @@ module _ (κ : ℕ → ℕ) where
       ∙ ap (λ (x : List (Term Leaf)). afterNode (RS s) y (T t) x (map rePair ps)) (pushTerms-re ts ns)
 
   module _ (differs : (c d : ℕ) → κ c ≡ κ d → c ≡ d) where
-    -- two made constants are the same, renumbered or not
+    -- Two made constants are the same after renumbering exactly if they were before.
     same-number : (c d k : ℕ) → eqb (renumber κ c k) (renumber κ d k) ≡ eqb c d
     unfolding renumber
     same-number c d zero = refl
@@ -307,7 +307,7 @@ module _ (κ : ℕ → ℕ) where
     acts-re u (match m b) = step-re u (match m b)
     acts-re u (done s ls) = refl
 
--- no made constant at the start
+-- There is no made constant at the start.
 start-environment : (κ : ℕ → ℕ) → putEnvironment (renumbered κ) startEnvironment ≡ startEnvironment
 unfolding startEnvironment substitute renumbered
 start-environment κ = fun-ext (λ v. go v (ltb v variableNames))

@@ -13,8 +13,7 @@ use Rattle.sequents.specs.Sequents.{Line, plain, Dsome, Dall, Dclause, putLine}
 use Rattle.search.specs.Configurations.{Configuration, take, try, match, done}
 use Rattle.enumeration.specs.Scripts.{Script, acts, Stands, LeadsTo, Before, bare}
 
--- Walk order
-
+-- Walk order is an order.
 pub before-never : (p : Script) → Before p p → ⊥
 unfolding Before
 before-never [] h = h
@@ -34,7 +33,7 @@ before-onward (i ∷ p) (j ∷ q) (l ∷ r) (inr a) (inr b) = inr (a .0 ∙ b .0
 pub before-not : (p q : Script) → Before p q → Before q p → ⊥
 before-not p q h k = before-never p (before-onward p q p h k)
 
--- what goes on from a script stands as the script
+-- What goes on from two scripts stands in their order.
 pub before-longer : (p q r t : Script) → Before p q → Before (p ++ r) (q ++ t)
 unfolding Before
 before-longer [] q r t h = absurd h
@@ -47,8 +46,7 @@ unfolding Before
 before-choices [] i j l = inl l
 before-choices (k ∷ p) i j l = inr (refl, before-choices p i j l)
 
--- Places
-
+-- Of places in a list.
 pub stands-once : {A : Type 0} (l : List A) (i : ℕ) (a b : A) → Stands l i a → Stands l i b → a ≡ b
 unfolding Stands
 stands-once [] i a b h k = absurd h
@@ -73,8 +71,7 @@ stands-all P [] i a h k = absurd k
 stands-all P (b ∷ l) zero a h k = subst P k (h .0)
 stands-all P (b ∷ l) (suc i) a h k = stands-all P l i a (h .1) k
 
--- Where a script leads
-
+-- A script leads to one configuration.
 pub leads-once : (p : Script) (u : ℕ) (c d e : Configuration) → LeadsTo p u c d → LeadsTo p u c e → d ≡ e
 unfolding LeadsTo
 leads-once [] u c d e h k = sym h ∙ k
@@ -98,7 +95,7 @@ Finished (try s a m ms k b) = ⊥
 Finished (match m b) = ⊥
 Finished (done s ls) = Unit {0}
 
--- where no goal is left no act is due
+-- Where no goal is left no act is due.
 pub finished-stops : (c : Configuration) (u i : ℕ) (e : Configuration) → Finished c → Stands (acts u c) i e → ⊥
 unfolding Finished acts Stands
 finished-stops (take s g b) u i e h k = h
@@ -106,7 +103,7 @@ finished-stops (try s a m ms l b) u i e h k = h
 finished-stops (match m b) u i e h k = h
 finished-stops (done s ls) u i e h k = k
 
--- two scripts that end where no goal is left are in one order or the same
+-- Two scripts that end where no goal is left are the same, or one is before the other.
 pub leads-either : (p q : Script) (u : ℕ) (c d e : Configuration) → Finished d → Finished e → LeadsTo p u c d → LeadsTo q u c e
     → (Before p q) ⊎ ((p ≡ q) ⊎ Before q p)
 unfolding LeadsTo Before
@@ -128,8 +125,6 @@ leads-either (i ∷ p) (j ∷ q) u c d e x y h k = go (λ z. leads-either p q (s
         let s : j ≡ i = omega arith in
         same (sym s) (ih (subst (λ (z : Configuration). LeadsTo q (suc u) z e)
         (stands-once (acts u c) i (k .0) (h .0) (subst (λ (n : ℕ). Stands (acts u c) n (k .0)) s (k .1)) (h .1)) (k .2)))
-
--- Lines without their terms
 
 -- Other terms for the leaves change nothing in a line without its terms.
 bare-put : {A B : Type 0} (θ : A → Term B) (x : Line A) → bare (putLine θ x) ≡ bare x

@@ -28,7 +28,7 @@ module _ (ok : Arities) (cs : Rules Clause) (g : Goal) (clauses : All (λ c. For
   step-bounded u c h zero l = absurd (omega arith)
   step-bounded u c h (suc n) l = step-formed ok (suc n) u c (h (suc n) (omega arith)) (room ok n c (h n (omega arith)))
 
-  -- a property of each at every bound
+  -- What holds of all configurations at every bound holds of each at every bound.
   each-bound : (l : List Configuration) (u : ℕ) → ((n : ℕ) → u ≤ n → All (ConfigurationUpTo ok n) l) → All (Bounded u) l
   each-bound [] u h = tt
   each-bound (c ∷ l) u h = ((λ n k. h n k .0), each-bound l u (λ n k. h n k .1))
