@@ -22,6 +22,7 @@ use Rattle.enumeration.specs.Promises.{Climbs}
 use Rattle.enumeration.proofs.Scripts.{Finished}
 use Rattle.enumeration.proofs.Lines.{Single, proceed-single, settle-single, tryFrom-single, tried-single}
 
+-- An act is due.
 abbrev Unfinished : Configuration → Type 0
 Unfinished c = Finished c → ⊥
 
@@ -30,27 +31,32 @@ unfoldable Front : List Configuration → Type 0
 Front [] = Unit {0}
 Front (c ∷ l) = All Unfinished l
 
+-- It is so if none of them is a proof,
 front-all : (l : List Configuration) → All Unfinished l → Front l
 unfolding Front
 front-all [] h = tt
 front-all (c ∷ l) h = h .1
 
+-- or if there is at most one.
 front-single : (l : List Configuration) → Single l → Front l
 unfolding Front Single
 front-single [] h = tt
 front-single (c ∷ []) h = tt
 front-single (c ∷ d ∷ l) h = absurd h
 
+-- Alternatives of which none is a proof may follow.
 front-append : (x y : List Configuration) → Front x → All Unfinished y → Front (x ++ y)
 unfolding Front
 front-append [] y h k = front-all y k
 front-append (c ∷ x) y h k = all-append Unfinished x y h k
 
+-- The members left are no proof.
 tryFrom-waits : (s : Store) (a : Atom) (ms : List (Entry Leaf)) (k : ℕ) (b : Branch) → All Unfinished (tryFrom s a ms k b)
 unfolding tryFrom Finished
 tryFrom-waits s a [] k b = tt
 tryFrom-waits s a (m ∷ ms) k b = ((λ h. h), tt)
 
+-- Taking a goal gives a proof in front only, since of two choices both have a goal left.
 takeGoal-front : (u : ℕ) (s : Store) (g : Goal) (e : Environment Leaf) (P : Program Leaf) (i : ℕ) (b : Branch)
     → Front (takeGoal u s g e P i b)
 unfolding takeGoal Front Finished
@@ -62,6 +68,7 @@ takeGoal-front u s (implies c g) e P i b = tt
 takeGoal-front u s (exists v g) e P i b = tt
 takeGoal-front u s (forall v g) e P i b = tt
 
+-- So does every act.
 step-front : (u : ℕ) (c : Configuration) → Front (step u c)
 unfolding step Front
 step-front u (take s g b) = takeGoal-front u s (g .goal) (g .environment) (g .program) (g .level) b
@@ -78,6 +85,7 @@ AtLeast u (finds f w ds) = (u ≤ w .units) × All Unfinished ds
 AtLeast u (noneLeft n) = Unit {0}
 AtLeast u runsOut = Unit {0}
 
+-- More units than u are at least u.
 at-least-less : (u : ℕ) (x : Next) → AtLeast (suc u) x → AtLeast u x
 unfolding AtLeast
 at-least-less u (finds f w ds) h = ((let z = h .0 in omega arith), h .1)
@@ -90,11 +98,13 @@ unfolding advance Front
 advance-front u [] h = tt
 advance-front u (c ∷ ds) h = front-append (step u c) ds (step-front u c) h
 
+-- So none of the open alternatives is a proof.
 front-waits : (ds : List Configuration) → Front ds → All Unfinished (alternatives ds)
 unfolding Front alternatives
 front-waits [] h = tt
 front-waits (c ∷ ds) h = h
 
+-- The next proof comes after no fewer acts than were done.
 next-front : (left u : ℕ) (ds : List Configuration) → Front ds → AtLeast u (nextProof left u ds)
 unfolding nextProof reaches AtLeast
 next-front zero u ds h = go (verdictOf ds)
@@ -137,6 +147,7 @@ next-more (suc left) u ds h = go (verdictOf ds) refl
     go (some noProof) e = tt
     go none e = next-front left (suc u) (advance u ds) (advance-front u ds (front-all ds h))
 
+-- So the units rise from one proof to the next,
 enumerate-climb : (wanted f u : ℕ) (ds : List Configuration) → All Unfinished ds → Climbs u (enumerateFrom wanted f u ds .found)
 unfolding enumerateFrom Climbs goOn AtLeast
 enumerate-climb zero f u ds h = tt
@@ -149,6 +160,7 @@ enumerate-climb (suc wanted) f u ds h = go (λ e v es k. enumerate-climb wanted 
     go ih (noneLeft n) k = tt
     go ih runsOut k = tt
 
+-- and the first proof has more than 0, since an act is due at the start.
 pub climbing : (cs : Rules Clause) (g : Goal) (wanted budget : ℕ) → Climbs 0 (enumerate wanted budget cs g .found)
 unfolding enumerate start Finished
 climbing cs g wanted budget = enumerate-climb wanted budget 0 (start cs g) ((λ h. h), tt)

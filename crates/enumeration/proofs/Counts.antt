@@ -20,12 +20,14 @@ Between u b (finds f w ds) = (u ≤ w .units) × (w .units + f ≡ b)
 Between u b (noneLeft n) = (u ≤ n) × (n ≤ b)
 Between u b runsOut = Unit {0}
 
+-- What comes after one act more comes after at least u acts.
 between-more : (u b : ℕ) (x : Next) → Between (suc u) b x → Between u b x
 unfolding Between
 between-more u b (finds f w ds) h = (let z = h .0 in omega arith, h .1)
 between-more u b (noneLeft n) h = (let z = h .0 in omega arith, h .1)
 between-more u b runsOut h = tt
 
+-- An act takes one of the units left.
 pub next-between : (left u b : ℕ) (ds : List Configuration) → u + left ≡ b → Between u b (nextProof left u ds)
 unfolding nextProof reaches Between
 next-between zero u b ds e = go (verdictOf ds)
@@ -49,6 +51,7 @@ pub record Counted (wanted budget : ℕ) (r : Enumeration) : Type 0 where
   pub units : All (λ w. w .units ≤ budget) (r .found)
   pub last : (n : ℕ) → r .end ≡ exhausted n → n ≤ budget
 
+-- One proof more keeps it so, with one more wanted.
 counted-next : (wanted b u : ℕ) (rest : ℕ → ℕ → List Configuration → Enumeration)
     → ((f v : ℕ) (ds : List Configuration) → v + f ≡ b → Counted wanted b (rest f v ds))
     → (x : Next) → Between u b x → Counted (suc wanted) b (goOn rest x)
@@ -74,6 +77,7 @@ counted-next wanted b u rest h runsOut k = record {
   last = λ m e. absurd (let z : _≡_ {A = ℕ} 0 1 = cc in omega arith);
 }
 
+-- So it is for every number, as long as units so far and units left are the budget.
 enumerate-counted : (wanted f u b : ℕ) (ds : List Configuration) → u + f ≡ b → Counted wanted b (enumerateFrom wanted f u ds)
 unfolding enumerateFrom
 enumerate-counted zero f u b ds e = record {
@@ -86,6 +90,7 @@ enumerate-counted (suc wanted) f u b ds e =
     counted-next wanted b u (λ h v cs. enumerateFrom wanted h v cs) (λ h v cs q. enumerate-counted wanted h v b cs q) (nextProof f u ds)
     (next-between f u b ds e)
 
+-- At the start all units are left.
 pub counts : AllCounts
 unfolding enumerate
 counts cs g wanted budget =

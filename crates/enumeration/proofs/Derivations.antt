@@ -51,6 +51,7 @@ use Rattle.enumeration.proofs.Scripts.{bare-lines}
 abbrev pub EndsWith : List (Line Leaf) → ℕ → Configuration → Type 0
 EndsWith bs u c = (is : Script) × ((s : Store) × ((path : List (Line Leaf)) × (LeadsTo is u c (done s path) × (map bare path ≡ bs))))
 
+-- A property of some element of a list holds at some place.
 any-stands : (P : Configuration → Type 0) (l : List Configuration) → Any P l → (i : ℕ) × ((e : Configuration) × (Stands l i e × P e))
 unfolding Stands
 any-stands P [] h = absurd h
@@ -109,6 +110,7 @@ record MatchedBy (bs : List (Line Leaf)) (n : ℕ) (m : Matching) (gs : List (Se
   derives : Derives ls (goalsAt σ gs)
   written : Written bs path ls
 
+-- The lines left lead from the configuration to the end: stated for each kind of configuration.
 abbrev Leading : List (Line Leaf) → ℕ → Configuration → Type 0
 Leading bs n (take s g b) = SolvedBy bs n s (g ∷ b .goals) (b .path)
 Leading bs n (try s a m ms k b) = TriedBy bs n s a (m ∷ ms) k (b .goals) (b .path)
@@ -144,6 +146,7 @@ record UsesThis (x : Line Symbol) (m : Entry Symbol) (k p : ℕ) (us : Terms Sym
   arguments : us ≡ substitutes (m .member .arguments) (assign (m .member .prefix) terms (m .environment))
   premises : K (bodySequent (m .member .body) (assign (m .member .prefix) terms (m .environment)) P i)
 
+-- A line uses the first of the members, or one of the others, whose places count on.
 uses-cases : {x : Line Symbol} {m : Entry Symbol} {l : List
     (Entry Symbol)} {k p : ℕ} {us : Terms Symbol} {P : Program Symbol} {i : ℕ} {K : List (Sequent Symbol) → Type 0}
     → Uses x (m ∷ l) k p us P i K → UsesThis x m k p us P i K ⊎ Uses x l (suc k) p us P i K
@@ -237,6 +240,7 @@ tryMember-leads bs n s a m ms k b o h x =
 
 -- Lines that derive a universal goal with the constant n, then others, become lines with the constant m, the same without their terms.
 
+-- The lines of derivations, one after the other, derive their sequents.
 forest-derives : (gs : List (Sequent Symbol)) (ls : List (Line Symbol)) → Forest gs ls → Derives ls gs
 unfolding Leads
 forest-derives [] ls f = subst (λ (ks : List (Line Symbol)). Derives ks []) (sym f) refl
@@ -249,6 +253,7 @@ record Other (ls : List (Line Symbol)) (gs : List (Sequent Symbol)) : Type 0 whe
   same : map bare ks ≡ map bare ls
   derives : Derives ks gs
 
+-- The constant is exchanged in the first derivation only: the waiting goals may have that level too.
 other-constant : (P : Program Symbol) (g : Goal) (e : Environment Symbol) (v i n m : ℕ) (gs : List (Sequent Symbol))
     (ls : List (Line Symbol)) → LowProgram i P → LowEnvironment i e
     → Derives ls (sequent g (update e v (leaf (made n (suc i)))) P (suc i) ∷ gs)
@@ -275,6 +280,7 @@ other-constant P g e v i n m gs ls lP le h =
           (forest-derives gs (f .1) (f .3));
     }
 
+-- Lines that are the same without their terms are as many.
 same-many : (ls ks : List (Line Symbol)) → map bare ks ≡ map bare ls → length ks ≡ length ls
 same-many [] [] e = refl
 same-many [] (y ∷ ks) e = absurd (let z : _≡_ {A = ℕ} 0 1 = cc in omega arith)
@@ -457,10 +463,12 @@ try-leads bs n s a m ms k b o h = go (uses-cases (h .uses))
 
 -- Paths to the end, those that begin with taking a goal being given for fewer lines.
 
+-- A property of all elements of two lists holds of those of the first,
 all-left : {A : Type 0} (P : A → Type 0) (x y : List A) → All P (x ++ y) → All P x
 all-left P [] y h = tt
 all-left P (a ∷ x) y h = (h .0, all-left P x y (h .1))
 
+-- and of those of the second.
 all-right : {A : Type 0} (P : A → Type 0) (x y : List A) → All P (x ++ y) → All P y
 all-right P [] y h = h
 all-right P (a ∷ x) y h = all-right P x y (h .1)
@@ -478,6 +486,7 @@ module _ (bs : List (Line Leaf)) (n : ℕ)
       none-left (x ∷ ls) d w = absurd d
   proceed-ends u s (g ∷ gs) path o h = inl (taken u s g (branch gs path) (o .0) h)
 
+  -- So there is one after an act of matching, if there is one from the match that goes on.
   settle-ends : (u : ℕ) (m : Matching) (b : Branch)
       → (Invariant (match m b) → MatchedBy bs n m (b .goals) (b .path) → EndsWith bs u (match m b)) → All Invariant (settle m b)
       → MatchedBy bs n m (b .goals) (b .path) → Any (EndsWith bs u) (settle m b)
@@ -489,6 +498,7 @@ module _ (bs : List (Line Leaf)) (n : ℕ)
   settle-ends u (check s y t m ms ps) b ih o h = inl (ih (o .0) h)
   settle-ends u fail b ih o h = absurd (h .keeps .0)
 
+  -- An act of matching keeps the valuation that solves the match.
   matched-next : (m : Matching) (b : Branch) → Invariant (match m b) → MatchedBy bs n m (b .goals) (b .path)
       → MatchedBy bs n (matchStep m) (b .goals) (b .path)
   unfolding Invariant
@@ -502,6 +512,7 @@ module _ (bs : List (Line Leaf)) (n : ℕ)
     written = h .written;
   }
 
+  -- A path from what an act of matching gives is a path from the match.
   match-act : (u : ℕ) (m : Matching) (b : Branch) → Invariant (match m b) → MatchedBy bs n m (b .goals) (b .path)
       → (Invariant (match (matchStep m) b) → MatchedBy bs n (matchStep m) (b .goals) (b .path)
       → EndsWith bs (suc u) (match (matchStep m) b)) → EndsWith bs u (match m b)
@@ -509,6 +520,7 @@ module _ (bs : List (Line Leaf)) (n : ℕ)
   match-act u m b o h ih =
       act-ends bs u (match m b) (settle-ends (suc u) (matchStep m) b ih (step-keeps u (match m b) o) (matched-next m b o h))
 
+  -- A match that ends after k acts leads to the end,
   match-ends : (k u : ℕ) (m : Matching) (b : Branch) → Ended (matchSteps k m) → Invariant (match m b)
       → MatchedBy bs n m (b .goals) (b .path) → EndsWith bs u (match m b)
   unfolding matchSteps Ended matchStep acts step settle SolvesMatching
@@ -521,11 +533,13 @@ module _ (bs : List (Line Leaf)) (n : ℕ)
   match-ends (suc k) u m b e o h =
       match-act u m b o h (λ i j. match-ends k (suc u) (matchStep m) b (subst Ended (sym (steps-after k m)) e) i j)
 
+  -- and every match ends.
   match-any : (u : ℕ) (m : Matching) (b : Branch) → Invariant (match m b) → MatchedBy bs n m (b .goals) (b .path)
       → EndsWith bs u (match m b)
   unfolding Invariant
   match-any u m b o h = let z = matching-ends (GoalsBelow (b .goals)) m o in match-ends (z .0) u m b (z .1) o h
 
+  -- A try leads to the end by its member or by the members left.
   try-act : (ms : List (Entry Leaf)) (u : ℕ) (s : Store) (a : Atom) (m : Entry Leaf) (k : ℕ) (b : Branch) → Invariant (try s a m ms k b)
       → TriedBy bs n s a (m ∷ ms) k (b .goals) (b .path)
       → (All Invariant (tryFrom s a ms (suc k) b) → TriedBy bs n s a ms (suc k) (b .goals) (b .path)
@@ -553,6 +567,7 @@ module _ (bs : List (Line Leaf)) (n : ℕ)
       go q (inr x) =
           any-right (EndsWith bs (suc u)) this (tryFrom s a ms (suc k) b) (next (all-right Invariant this (tryFrom s a ms (suc k) b) q) x)
 
+  -- So it does by induction over the members left.
   try-ends : (ms : List (Entry Leaf)) (u : ℕ) (s : Store) (a : Atom) (m : Entry Leaf) (k : ℕ) (b : Branch) → Invariant (try s a m ms k b)
       → TriedBy bs n s a (m ∷ ms) k (b .goals) (b .path)
       → EndsWith bs u (try s a m ms k b)
@@ -560,6 +575,7 @@ module _ (bs : List (Line Leaf)) (n : ℕ)
   try-ends [] u s a m k b o h = try-act [] u s a m k b o h (λ i j. absurd (mem-nil (j .uses .at)))
   try-ends (m′ ∷ ms) u s a m k b o h = try-act (m′ ∷ ms) u s a m k b o h (λ i j. inl (try-ends ms (suc u) s a m′ (suc k) b (i .0) j))
 
+  -- So there is a path from each configuration from which the lines lead on.
   any-ends : (u : ℕ) (l : List Configuration) → All Invariant l → Any (Leading bs n) l → Any (EndsWith bs u) l
   unfolding LeadsTo
   any-ends u [] o h = absurd h

@@ -48,19 +48,23 @@ module _ (cs : Rules Clause) (g : Goal) where
   abbrev Fine : ℕ → Configuration → Type 0
   Fine u c = Invariant c × (SoundConfiguration startStore (startGoal cs g) c × Known cs g u c)
 
+  -- An act carries it on,
   fine-acts : (u : ℕ) (c : Configuration) → Fine u c → All (Fine (suc u)) (acts u c)
   fine-acts u c h = acts-keep (Fine (suc u)) u c
       (all-both Invariant (λ d. SoundConfiguration startStore (startGoal cs g) d × Known cs g (suc u) d) (step u c) (step-keeps u c (h .0))
       (all-both (SoundConfiguration startStore (startGoal cs g)) (Known cs g (suc u)) (step u c)
       (step-sound startStore (startGoal cs g) u c (h .1 .0)) (step-known cs g u c (h .0) (h .1 .1))))
 
+  -- it stays while other acts are done,
   fine-waits : (u v : ℕ) (c : Configuration) → u ≤ v → Fine u c → Fine v c
   fine-waits u v c l h = (h .0, (h .1 .0, waits (λ n. Known cs g n c) (λ n k. known-more cs g n c k) v u l (h .1 .1)))
 
+  -- and it is so at the start.
   fine-start : Fine 0 (root cs g)
   unfolding root start
   fine-start = (start-invariant cs g .0, (start-sound cs g .0, start-known cs g .0))
 
+  -- So it is where a proof is found, and this is what is promised of it.
   each : (is : Script) (w : Proof) → Arrives cs g is w → EachProof cs g w
   unfolding FollowsSteps Invariant
   each is w h =
@@ -73,6 +77,7 @@ module _ (cs : Rules Clause) (g : Goal) where
         answer = follows-answer (w .store) [] (w .path) (f .0) follows;
       }
 
+  -- So it is for all proofs found.
   each-all : (x : List Script) (ws : List Proof) → Paired (Arrives cs g) x ws → All (EachProof cs g) ws
   unfolding Paired
   each-all [] [] h = tt
@@ -80,6 +85,7 @@ module _ (cs : Rules Clause) (g : Goal) where
   each-all (is ∷ x) [] h = tt
   each-all (is ∷ x) (w ∷ ws) h = (each is w (h .0), each-all x ws (h .1))
 
+-- The proofs found are those that paths from the start arrive at.
 pub each-sound : AllSound
 each-sound cs g wanted budget =
     let t = found-at-start cs g wanted budget in each-all cs g (t .scripts) (enumerate wanted budget cs g .found) (t .arrive)
@@ -94,6 +100,7 @@ own-acts (i ∷ is) u c d h =
     let q : suc u + length is ≡ u + length (i ∷ is) = omega arith in
     (u ∷ r .0, ((h .0, h .1, r .1 .0), (omega arith, subst (λ (v : ℕ). Rising (suc u) (r .0) v) q (r .1 .1))))
 
+-- A path that succeeds by itself arrives in the same way.
 pub path-sound : (cs : Rules Clause) (g : Goal) (p : Script) (s : Store) (ls : List (Line Leaf)) → SucceedsWith cs g p s ls
     → Sound cs g s ls
 unfolding SucceedsWith

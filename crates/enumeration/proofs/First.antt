@@ -22,6 +22,7 @@ told (finds f w ds) = ends (proved (w .store) (w .path)) (w .units)
 told (noneLeft u) = ends noProof u
 told runsOut = spent
 
+-- The search is the walk up to its next verdict, the alternatives being forgotten.
 next-search : (left u : ℕ) (ds : List Configuration) → searchFrom left u ds ≡ told (nextProof left u ds)
 unfolding nextProof reaches told searchFrom
 next-search zero u ds = go (verdictOf ds)
@@ -40,10 +41,12 @@ next-search (suc left) u ds = go (verdictOf ds) (next-search left (suc u) (advan
     go (some noProof) ih = refl
     go none ih = ih
 
+-- So it is from the start.
 search-told : (cs : Rules Clause) (g : Goal) (budget : ℕ) → search budget cs g ≡ told (nextProof budget 0 (start cs g))
 unfolding search
 search-told cs g budget = next-search budget 0 (start cs g)
 
+-- Proofs with equal parts are equal.
 same-proof : (u v : ℕ) (s t : Store) (ls ks : List (Line Leaf)) → u ≡ v → s ≡ t → ls ≡ ks → proofOf u s ls ≡ proofOf v t ks
 same-proof u v s t ls ks p q r = ap₂ (λ (x : ℕ) (y : Store). proofOf x y ls) p q ∙ ap (proofOf v t) r
 
@@ -68,6 +71,7 @@ module _ (rest : ℕ → ℕ → List Configuration → Enumeration) where
     (λ h. absurd (let e = h .1 in let z : _≡_ {A = ℕ} 0 1 = cc in omega arith)),
   )
 
+  -- It tells no exactly if nothing is found and no alternative is left.
   told-denies : (x : Next) (n : ℕ) → (told x ≡ ends noProof n) ↔ ((goOn rest x .found ≡ []) × (goOn rest x .end ≡ exhausted n))
   unfolding told goOn
   told-denies (finds f w ds) n = (
@@ -81,6 +85,7 @@ module _ (rest : ℕ → ℕ → List Configuration → Enumeration) where
     (λ h. absurd (let e = h .1 in let z : _≡_ {A = ℕ} 0 1 = cc in omega arith)),
   )
 
+  -- It tells spent exactly if nothing is found and the units are spent.
   told-spends : (x : Next) → (told x ≡ spent) ↔ ((goOn rest x .found ≡ []) × (goOn rest x .end ≡ unitsSpent))
   unfolding told goOn
   told-spends (finds f w ds) = (
@@ -93,6 +98,7 @@ module _ (rest : ℕ → ℕ → List Configuration → Enumeration) where
   )
   told-spends runsOut = ((λ e. (refl, refl)), (λ h. refl))
 
+-- So it is of the search and the enumeration, whatever is done after the first proof.
 pub first-proof : AllFirst
 unfolding enumerate enumerateFrom
 first-proof cs g wanted budget =
@@ -110,12 +116,14 @@ first-proof cs g wanted budget =
           subst (λ (o : SearchOutcome). (o ≡ spent) ↔ ((goOn rest x .found ≡ []) × (goOn rest x .end ≡ unitsSpent))) q (told-spends rest x);
     }
 
+-- With number 1 nothing is done after the first proof.
 one : (x : Next) → goOn (λ e v ds. enumerateFrom 0 e v ds) x ≡ oneProof (told x)
 unfolding goOn enumerateFrom oneProof told
 one (finds f w ds) = refl
 one (noneLeft u) = refl
 one runsOut = refl
 
+-- So it is the search.
 pub one-proof : OneProof
 unfolding enumerate enumerateFrom
 one-proof cs g budget = one (nextProof budget 0 (start cs g)) ∙ ap oneProof (sym (search-told cs g budget))

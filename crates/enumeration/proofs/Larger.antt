@@ -17,9 +17,11 @@ use Rattle.enumeration.specs.Smaller.{firsts, endWithin, within}
 use Rattle.enumeration.specs.Promises.{AllLarger}
 use Rattle.enumeration.proofs.Counts.{Between, next-between}
 
+-- An enumeration by its parts.
 abbrev told : List Proof → End → Enumeration
 told ws e = record { found = ws; end = e }
 
+-- One proof more in front.
 abbrev addProof : Proof → Enumeration → Enumeration
 addProof w r = record { found = w ∷ r .found; end = r .end }
 
@@ -52,12 +54,14 @@ Shorter b c runsOut (finds h v es) = b < v .units
 Shorter b c runsOut (noneLeft m) = b < m
 Shorter b c runsOut runsOut = Unit {0}
 
+-- What comes after more acts than the smaller budget is left out by it.
 shorter-out : (b c u : ℕ) (x : Next) → b < u → Between u c x → Shorter b c runsOut x
 unfolding Shorter Between
 shorter-out b c u (finds f w ds) l h = let z = h .0 in omega arith
 shorter-out b c u (noneLeft n) l h = let z = h .0 in omega arith
 shorter-out b c u runsOut l h = tt
 
+-- Both walks do the same acts as long as both have units.
 next-shorter : (left more u b c : ℕ) (ds : List Configuration) → u + left ≡ b → u + more ≡ c → left ≤ more
     → Shorter b c (nextProof left u ds) (nextProof more u ds)
 unfolding nextProof reaches Shorter
@@ -92,6 +96,7 @@ next-shorter (suc left) (suc more) u b c ds p q l =
 kept : (n b : ℕ) → n ≤ b → leb n b ≡ true
 kept n b l = le-leb n b l
 
+-- A number above the budget is left out.
 dropped : (n b : ℕ) → b < n → leb n b ≡ false
 dropped n b l = go (leb n b) refl
   where
@@ -99,6 +104,7 @@ dropped n b l = go (leb n b) refl
     go true e = absurd (let z = leb-true n b e in omega arith)
     go false e = refl
 
+-- One proof more keeps it so.
 within-next : (b c : ℕ) (rest : ℕ → ℕ → List Configuration → Enumeration) → b ≤ c
     → ((f h u : ℕ) (ds : List Configuration) → u + f ≡ b → u + h ≡ c → f ≤ h
     → rest f u ds ≡ within b (rest h u ds .found) (rest h u ds .end))
@@ -119,6 +125,7 @@ within-next b c rest l ih runsOut (finds h v es) k = rw (dropped (v .units) b k)
 within-next b c rest l ih runsOut (noneLeft m) k = rw (dropped m b k) refl
 within-next b c rest l ih runsOut runsOut k = refl
 
+-- So a smaller budget leaves what is within it.
 enumerate-within : (w f h u b c : ℕ) (ds : List Configuration) → u + f ≡ b → u + h ≡ c → f ≤ h
     → enumerateFrom w f u ds ≡ within b (enumerateFrom w h u ds .found) (enumerateFrom w h u ds .end)
 unfolding enumerateFrom within endWithin
@@ -135,6 +142,7 @@ firsts-prefix zero ws e = (ws, refl)
 firsts-prefix (suc w) [] e = ([], refl)
 firsts-prefix (suc w) (x ∷ ws) e = let r = firsts-prefix w ws e in (r .0, ap (x ∷_) (r .1))
 
+-- A smaller budget leaves the first of the proofs, too.
 within-prefix : (b : ℕ) (ws : List Proof) (e : End) → (more : List Proof) × (ws ≡ within b ws e .found ++ more)
 unfolding within
 within-prefix b [] e = ([], refl)
@@ -153,6 +161,7 @@ firsts-settled zero ws e n h = absurd (let z : _≡_ {A = ℕ} 0 1 = cc in omega
 firsts-settled (suc w) [] e n h = refl
 firsts-settled (suc w) (x ∷ ws) e n h = ap (addProof x) (firsts-settled w ws e n h)
 
+-- A smaller budget leaves out nothing there either.
 within-settled : (b : ℕ) (ws : List Proof) (e : End) (n : ℕ) → within b ws e .end ≡ exhausted n → told ws e ≡ within b ws e
 unfolding within endWithin
 within-settled b [] enough n h = refl
@@ -175,10 +184,12 @@ module _ (cs : Rules Clause) (g : Goal) where
   unfolding enumerate
   number w v budget l = enumerate-firsts w v budget 0 (start cs g) l
 
+  -- The same for budgets.
   budgets : (wanted b c : ℕ) → b ≤ c → enumerate wanted b cs g ≡ within b (enumerate wanted c cs g .found) (enumerate wanted c cs g .end)
   unfolding enumerate
   budgets wanted b c l = enumerate-within wanted b c 0 b c (start cs g) (omega arith) (omega arith) l
 
+  -- So a larger number or budget puts proofs after those found,
   extends : (w v b c : ℕ) → w ≤ v → b ≤ c → (more : List Proof) × (enumerate v c cs g .found ≡ enumerate w b cs g .found ++ more)
   extends w v b c l m =
       let r = within-prefix b (enumerate v c cs g .found) (enumerate v c cs g .end) in
@@ -192,10 +203,12 @@ module _ (cs : Rules Clause) (g : Goal) where
             ∙ append-assoc (enumerate w b cs g .found) (s .0) (r .0),
       )
 
+  -- the first stays,
   first : (w v b c : ℕ) → w ≤ v → b ≤ c → (x : Proof) (rest : List Proof) → enumerate w b cs g .found ≡ x ∷ rest
       → (more : List Proof) × (enumerate v c cs g .found ≡ x ∷ more)
   first w v b c l m x rest h = let r = extends w v b c l m in (rest ++ r .0, r .1 ∙ ap (λ (y : List Proof). y ++ r .0) h)
 
+  -- and nothing changes where no alternative was left.
   settled : (w v b c n : ℕ) → w ≤ v → b ≤ c → enumerate w b cs g .end ≡ exhausted n → enumerate v c cs g ≡ enumerate w b cs g
   settled w v b c n l m h =
       let p = number w v b l in
@@ -205,5 +218,6 @@ module _ (cs : Rules Clause) (g : Goal) where
       within-settled b (enumerate v c cs g .found) (enumerate v c cs g .end) n (ap (λ (x : Enumeration). x .end) (sym q ∙ one) ∙ h) ∙ sym q
       ∙ one
 
+-- That is what is promised of larger numbers and budgets.
 pub larger : AllLarger
 larger cs g = record { number = number cs g; budgets = budgets cs g; extends = extends cs g; first = first cs g; settled = settled cs g }

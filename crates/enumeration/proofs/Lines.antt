@@ -25,12 +25,14 @@ length-of : {A : Type 0} (a : List A) (x : A) (l : List A) → length (a ++ (x �
 length-of [] x l = omega arith
 length-of (b ∷ a) x l = let z = length-of a x l in omega arith
 
+-- The lists before that place are equally long,
 same-length : {A : Type 0} (a b : List A) (x y : A) (l : List A) → length a ≡ length b → a ++ (x ∷ l) ≡ b ++ (y ∷ l) → x ≡ y
 same-length [] [] x y l n e = cc
 same-length [] (d ∷ b) x y l n e = absurd (omega arith)
 same-length (c ∷ a) [] x y l n e = absurd (omega arith)
 same-length (c ∷ a) (d ∷ b) x y l n e = same-length a b x y l (omega arith) (cc)
 
+-- since the whole lists are.
 same-at : {A : Type 0} (a b : List A) (x y : A) (l : List A) → a ++ (x ∷ l) ≡ b ++ (y ∷ l) → x ≡ y
 same-at {A = A} a b x y l e =
     let n = ap (λ (z : List A). length z) e in
@@ -45,14 +47,17 @@ pathOf (try s a m ms k b) = b .path
 pathOf (match m b) = b .path
 pathOf (done s ls) = ls
 
+-- The lines of the configuration are ls with others put before them, being later.
 abbrev Grown : List (Line Leaf) → Configuration → Type 0
 Grown ls e = (more : List (Line Leaf)) × (pathOf e ≡ more ++ ls)
 
+-- Going on with the goals writes no line,
 proceed-grown : (s : Store) (gs : List (Sequent Leaf)) (ls : List (Line Leaf)) → All (Grown ls) (proceed s gs ls)
 unfolding proceed pathOf
 proceed-grown s [] ls = (([], refl), tt)
 proceed-grown s (g ∷ gs) ls = (([], refl), tt)
 
+-- nor does an act of matching,
 settle-grown : (m : Matching) (b : Branch) → All (Grown (b .path)) (settle m b)
 unfolding settle pathOf
 settle-grown (pairs s []) b = proceed-grown s (b .goals) (b .path)
@@ -60,6 +65,7 @@ settle-grown (pairs s (p ∷ ps)) b = (([], refl), tt)
 settle-grown (check s y t n ns ps) b = (([], refl), tt)
 settle-grown fail b = tt
 
+-- nor going on to the members left.
 tryFrom-grown : (s : Store) (a : Atom) (ms : List (Entry Leaf)) (k : ℕ) (b : Branch) → All (Grown (b .path)) (tryFrom s a ms k b)
 unfolding tryFrom pathOf
 tryFrom-grown s a [] k b = tt
@@ -75,6 +81,7 @@ tryMember-grown s a m k b = settle-grown _ _
 grown-one : (x : Line Leaf) (ls : List (Line Leaf)) (e : Configuration) → Grown (x ∷ ls) e → Grown ls e
 grown-one x ls e h = (h .0 ++ (x ∷ []), h .1 ∙ sym (append-assoc (h .0) (x ∷ []) ls))
 
+-- Taking a goal writes at most one line.
 takeGoal-grown : (u : ℕ) (s : Store) (g : Goal) (e : Environment Leaf) (P : Program Leaf) (i : ℕ) (b : Branch)
     → All (Grown (b .path)) (takeGoal u s g e P i b)
 unfolding takeGoal pathOf
@@ -89,11 +96,13 @@ takeGoal-grown u s (implies c g) e P i b = ((_ ∷ [], refl), tt)
 takeGoal-grown u s (exists v g) e P i b = ((_ ∷ [], refl), tt)
 takeGoal-grown u s (forall v g) e P i b = ((_ ∷ [], refl), tt)
 
+-- A member whose predicate differs gives nothing.
 tried-grown : (same : Bool) (s : Store) (a : Atom) (m : Entry Leaf) (k : ℕ) (b : Branch)
     → All (Grown (Dclause k (freshVariables (m .member .prefix) (s .next)) ∷ b .path)) (cond same (tryMember s a m k b) [])
 tried-grown true s a m k b = tryMember-grown s a m k b
 tried-grown false s a m k b = tt
 
+-- So lines grow by every act,
 acts-grown : (u : ℕ) (c : Configuration) → All (Grown (pathOf c)) (acts u c)
 unfolding acts step pathOf
 acts-grown u (take s g b) = takeGoal-grown u s (g .goal) (g .environment) (g .program) (g .level) b
@@ -107,9 +116,11 @@ acts-grown u (try s a m ms k b) =
 acts-grown u (match m b) = settle-grown (matchStep m) b
 acts-grown u (done s ls) = tt
 
+-- and by one act after the other.
 grown-on : (ls : List (Line Leaf)) (c d : Configuration) → Grown ls c → Grown (pathOf c) d → Grown ls d
 grown-on ls c d h k = (k .0 ++ h .0, k .1 ∙ ap (λ (x : List (Line Leaf)). k .0 ++ x) (h .1) ∙ sym (append-assoc (k .0) (h .0) ls))
 
+-- So they grow along a path.
 leads-grown : (p : Script) (u : ℕ) (c d : Configuration) → LeadsTo p u c d → Grown (pathOf c) d
 unfolding LeadsTo
 leads-grown [] u c d h = ([], ap pathOf (sym h))
@@ -121,9 +132,11 @@ leads-grown (i ∷ p) u c d h =
 abbrev Placed : ℕ → List (Line Leaf) → Configuration → Type 0
 Placed k ls d = (j : ℕ) × ((xs : List (Term Leaf)) × ((k ≤ j) × Grown (Dclause j xs ∷ ls) d))
 
+-- The configuration is a try of one of the members left, at place k.
 abbrev Trying : Store → Atom → ℕ → Branch → Configuration → Type 0
 Trying s a k b e = (m : Entry Leaf) × ((ms : List (Entry Leaf)) × (e ≡ try s a m ms k b))
 
+-- Going on to the members left gives a try.
 tryFrom-trying : (s : Store) (a : Atom) (ms : List (Entry Leaf)) (k : ℕ) (b : Branch) → All (Trying s a k b) (tryFrom s a ms k b)
 unfolding tryFrom
 tryFrom-trying s a [] k b = tt
@@ -133,6 +146,7 @@ tryFrom-trying s a (m ∷ ms) k b = ((m, (ms, refl)), tt)
 abbrev Tried : Store → Atom → Entry Leaf → ℕ → Branch → Configuration → Type 0
 Tried s a m k b e = Grown (Dclause k (freshVariables (m .member .prefix) (s .next)) ∷ b .path) e ⊎ Trying s a (suc k) b e
 
+-- This is what a try gives to choose from.
 try-tried : (u : ℕ) (s : Store) (a : Atom) (m : Entry Leaf) (ms : List (Entry Leaf)) (k : ℕ) (b : Branch)
     → All (Tried s a m k b) (acts u (try s a m ms k b))
 unfolding acts step
@@ -143,6 +157,7 @@ try-tried u s a m ms k b =
     (all-weaken (Grown ls) (Tried s a m k b) (λ e h. inl h) (cond same (tryMember s a m k b) []) (tried-grown same s a m k b))
     (all-weaken (Trying s a (suc k) b) (Tried s a m k b) (λ e h. inr h) (tryFrom s a ms (suc k) b) (tryFrom-trying s a ms (suc k) b))
 
+-- A path from a try to an end writes a place from that of the try on.
 try-placed : (p : Script) (u : ℕ) (s : Store) (a : Atom) (m : Entry Leaf) (ms : List (Entry Leaf)) (k : ℕ) (b : Branch) (d : Configuration)
     → Finished d
     → LeadsTo p u (try s a m ms k b) d → Placed k (b .path) d
@@ -165,6 +180,7 @@ Single [] = Unit {0}
 Single (c ∷ []) = Unit {0}
 Single (c ∷ d ∷ l) = ⊥
 
+-- There are no two different choices in it.
 single-one : (l : List Configuration) (i j : ℕ) (d e : Configuration) → Single l → i < j → Stands l i d → Stands l j e → ⊥
 unfolding Single Stands
 single-one [] i j d e s l h k = h
@@ -172,11 +188,13 @@ single-one (c ∷ []) i zero d e s l h k = omega arith
 single-one (c ∷ []) i (suc j) d e s l h k = k
 single-one (c ∷ b ∷ cs) i j d e s l h k = s
 
+-- Going on with the goals gives at most one,
 pub proceed-single : (s : Store) (gs : List (Sequent Leaf)) (ls : List (Line Leaf)) → Single (proceed s gs ls)
 unfolding proceed Single
 proceed-single s [] ls = tt
 proceed-single s (g ∷ gs) ls = tt
 
+-- so does an act of matching,
 pub settle-single : (m : Matching) (b : Branch) → Single (settle m b)
 unfolding settle Single
 settle-single (pairs s []) b = proceed-single s (b .goals) (b .path)
@@ -184,11 +202,13 @@ settle-single (pairs s (p ∷ ps)) b = tt
 settle-single (check s y t n ns ps) b = tt
 settle-single fail b = tt
 
+-- so does going on to the members left,
 pub tryFrom-single : (s : Store) (a : Atom) (ms : List (Entry Leaf)) (k : ℕ) (b : Branch) → Single (tryFrom s a ms k b)
 unfolding tryFrom Single
 tryFrom-single s a [] k b = tt
 tryFrom-single s a (m ∷ ms) k b = tt
 
+-- and so does trying a member.
 pub tried-single : (same : Bool) (s : Store) (a : Atom) (m : Entry Leaf) (k : ℕ) (b : Branch) → Single (cond same (tryMember s a m k b) [])
 unfolding tryMember Single
 tried-single true s a m k b = settle-single _ _
@@ -237,14 +257,17 @@ goal-parts u s (implies q g) e P l b i j c d n h k = absurd (single-one (_ ∷ [
 goal-parts u s (exists v g) e P l b i j c d n h k = absurd (single-one (_ ∷ []) i j c d tt n h k)
 goal-parts u s (forall v g) e P l b i j c d n h k = absurd (single-one (_ ∷ []) i j c d tt n h k)
 
+-- The lines of the two sides of a disjunction differ.
 left-right : bare {A = Leaf} (plain Dleft) ≡ bare {A = Leaf} (plain Dright) → ⊥
 unfolding bare
 left-right e = let z : _≡_ {A = ℕ} 0 1 = cc in omega arith
 
+-- The lines of two places differ.
 other-place : (k j : ℕ) (xs ys : List (Term Leaf)) → suc k ≤ j → bare (Dclause k xs) ≡ bare (Dclause j ys) → ⊥
 unfolding bare
 other-place k j xs ys l e = let z : k ≡ j = cc in omega arith
 
+-- Paths that part at an act write lines that differ there.
 parts : (p q : Script) (u : ℕ) (c : Configuration) (i j : ℕ) (x y d e : Configuration) → i < j → Stands (acts u c) i x
     → Stands (acts u c) j y
     → LeadsTo p (suc u) x d → LeadsTo q (suc u) y e → Finished e → Apart (pathOf d) (pathOf e)
@@ -288,6 +311,7 @@ parts p q u (try s a m ms k b) i j x y d e n h l v w f =
 parts p q u (match m b) i j x y d e n h k v w f = absurd (single-one (settle (matchStep m) b) i j x y (settle-single (matchStep m) b) n h k)
 parts p q u (done s ls) i j x y d e n h k v w f = absurd h
 
+-- So do two paths of which one is before the other, where they part.
 before-apart : (p q : Script) (u : ℕ) (c d e : Configuration) → Finished e → Before p q → LeadsTo p u c d → LeadsTo q u c e
     → Apart (pathOf d) (pathOf e)
 unfolding Before LeadsTo
@@ -299,6 +323,7 @@ before-apart (i ∷ p) (j ∷ q) u c d e f (inr b) h k =
     (subst (λ (z : Configuration). LeadsTo q (suc u) z e)
     (stands-once (acts u c) i (k .0) (h .0) (subst (λ (n : ℕ). Stands (acts u c) n (k .0)) (sym (b .0)) (k .1)) (h .1)) (k .2))
 
+-- Lines that differ at a place are not the same without their terms.
 apart-not : (ls ks : List (Line Leaf)) → Apart ls ks → map bare ls ≡ map bare ks → ⊥
 apart-not ls ks a e =
     a .differ (same-at (map bare (a .lefts)) (map bare (a .rights)) (bare (a .left)) (bare (a .right)) (map bare (a .end))

@@ -15,6 +15,7 @@ use Rattle.enumeration.proofs.PathsFound.{paths-found, walk-order}
 use Rattle.enumeration.proofs.First.{first-proof}
 use Rattle.enumeration.proofs.Each.{path-sound}
 
+-- Each is the other, terms aside.
 pub paths-derivations : AllDerivations
 unfolding SucceedsWith
 paths-derivations cs g c n = record {
@@ -30,6 +31,7 @@ paired-with R a (c ∷ x) (b ∷ y) here p = (b, (here, p .0))
 paired-with R a (c ∷ x) [] (there h) p = absurd p
 paired-with R a (c ∷ x) (b ∷ y) (there h) p = let r = paired-with R a x y h (p .1) in (r .0, (there (r .1 .0), r .1 .1))
 
+-- Where no alternative is left the path of a derivation is found, and its proof has the same lines.
 pub no-other : NoOther
 unfolding SucceedsWith rePath
 no-other cs g e c n d wanted budget m q =

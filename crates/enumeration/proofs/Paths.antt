@@ -32,6 +32,7 @@ leads-next [] (j ∷ is) u i c d e h k = absurd h
 leads-next (n ∷ ns) [] u i c d e h k = absurd h
 leads-next (n ∷ ns) (j ∷ is) u i c d e h k = (h .0, h .1, leads-next ns is u i (h .0) d e (h .2) k)
 
+-- There are as many numbers as choices.
 leads-length : (ns : List ℕ) (is : Script) (c d : Configuration) → LeadsBy ns is c d → length ns ≡ length is
 unfolding LeadsBy
 leads-length [] [] c d h = refl
@@ -89,17 +90,20 @@ unfoldable pub children : (ℕ → Script) → List ℕ → List Configuration �
 children f ns [] = []
 children f ns (c ∷ cs) = node (f 0) ns c ∷ children (λ i. f (suc i)) ns cs
 
+-- The configurations of the children are those that the act gives.
 pub children-are : (f : ℕ → Script) (ns : List ℕ) (cs : List Configuration) → map configuration (children f ns cs) ≡ cs
 unfolding children configuration
 children-are f ns [] = refl
 children-are f ns (c ∷ cs) = ap (c ∷_) (children-are (λ i. f (suc i)) ns cs)
 
+-- What holds of every choice holds of every child,
 pub children-all : (P : Node → Type 0) (f : ℕ → Script) (ns : List ℕ) (cs : List Configuration)
     → ((i : ℕ) (e : Configuration) → Stands cs i e → P (node (f i) ns e)) → All P (children f ns cs)
 unfolding children Stands
 children-all P f ns [] h = tt
 children-all P f ns (c ∷ cs) h = (h 0 c refl, children-all P (λ i. f (suc i)) ns cs (λ i e k. h (suc i) e k))
 
+-- and what holds of one choice holds of one child.
 pub children-any : (P : Node → Type 0) (f : ℕ → Script) (ns : List ℕ) (cs : List Configuration) (i : ℕ) (e : Configuration) → Stands cs i e
     → P (node (f i) ns e) → Any P (children f ns cs)
 unfolding children Stands
@@ -107,6 +111,7 @@ children-any P f ns [] i e h k = absurd h
 children-any P f ns (c ∷ cs) zero e h k = inl (subst (λ (x : Configuration). P (node (f 0) ns x)) (sym h) k)
 children-any P f ns (c ∷ cs) (suc i) e h k = inr (children-any P (λ j. f (suc j)) ns cs i e h k)
 
+-- Children stand in walk order,
 children-ordered : (f : ℕ → Script) (ns : List ℕ) (cs : List Configuration) → ((i j : ℕ) → i < j → Before (f i) (f j))
     → Ordered (children f ns cs)
 unfolding children Ordered script
@@ -116,6 +121,7 @@ children-ordered f ns (c ∷ cs) h = (
   children-ordered (λ i. f (suc i)) ns cs (λ i j l. h (suc i) (suc j) (omega arith)),
 )
 
+-- and so do they before nodes that are after them.
 ordered-append : (ps qs : List Node) → Ordered ps → Ordered qs → All (λ p. All (λ q. Before (script p) (script q)) qs) ps
     → Ordered (ps ++ qs)
 unfolding Ordered
@@ -128,9 +134,11 @@ pub record Standing (cs : Rules Clause) (g : Goal) (u : ℕ) (ps : List Node) : 
   pub reached : All (Reached cs g u) ps
   pub ordered : Ordered ps
 
+-- The script that goes on with choice i.
 abbrev pub choices : Script → ℕ → Script
 choices is i = is ++ (i ∷ [])
 
+-- An act keeps it so.
 pub standing-act : (cs : Rules Clause) (g : Goal) (u : ℕ) (is : Script) (ns : List ℕ) (c : Configuration) (ps : List Node)
     → Standing cs g u (node is ns c ∷ ps)
     → Standing cs g (suc u) (children (choices is) (ns ++ (u ∷ [])) (acts u c) ++ ps)
@@ -163,6 +171,7 @@ pub record Own (cs : Rules Clause) (g : Goal) (u : ℕ) (is : Script) (c : Confi
   pub leads : LeadsTo is 0 (root cs g) (re number c)
   pub next : number u ≡ length is
 
+-- Rising numbers are counted by their places, the number u of the act that is due included.
 pub own : (cs : Rules Clause) (g : Goal) (u : ℕ) (is : Script) (ns : List ℕ) (c : Configuration) → Reached cs g u (node is ns c)
     → Own cs g u is c
 unfolding Reached
@@ -196,6 +205,7 @@ goes-on cs g u is ns c i r d h k =
     stands-unmap (re (o .number)) (acts u c) i (w .0)
     (subst (λ (l : List Configuration). Stands l i (w .0)) (sym (acts-re (o .number) (o .differs) u c)) there)
 
+-- Renumbering does not bring a path to its end.
 finished-re : (κ : ℕ → ℕ) (c : Configuration) → Finished (re κ c) → Finished c
 unfolding Finished re
 finished-re κ (take s g b) h = h

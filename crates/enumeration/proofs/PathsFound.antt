@@ -21,6 +21,7 @@ use Rattle.enumeration.proofs.Lines.{lines-tell}
 use Rattle.enumeration.proofs.Paths.{LeadsBy, node, script, configuration, Reached, Ordered, own}
 use Rattle.enumeration.proofs.Found.{Arrives, Open, Told, enumerate-told}
 
+-- A weaker relation keeps the correspondence.
 pub paired-weaken : {A B : Type 0} (R S : A → B → Type 0) → ((a : A) (b : B) → R a b → S a b) → (x : List A) (y : List B) → Paired R x y
     → Paired S x y
 unfolding Paired
@@ -36,6 +37,7 @@ belongs cs g is w h =
     let o = own cs g (w .units) is (h .0) (done (w .store) (w .path)) (h .1, h .2) in
     record { number = o .number; differs = o .differs; succeeds = o .leads }
 
+-- A proof has other lines than those whose scripts are after its own, since lines tell the script.
 different : (cs : Rules Clause) (g : Goal) (p : Script) (w : Proof) (ps : List Script) (ws : List Proof) → Belongs cs g p w
     → All (Before p) ps → Paired (Belongs cs g) ps ws
     → All (λ v. map bare (w .path) ≡ map bare (v .path) → ⊥) ws
@@ -53,6 +55,7 @@ different cs g p w (q ∷ ps) (v ∷ ws) b h k = (
   different cs g p w ps ws b (h .1) (k .1),
 )
 
+-- So no two proofs whose scripts ascend have the same lines.
 all-different : (cs : Rules Clause) (g : Goal) (ps : List Script) (ws : List Proof) → Ascending ps → Paired (Belongs cs g) ps ws
     → Different ws
 unfolding Paired Ascending Different
@@ -68,6 +71,7 @@ unfolding enumerate start root configuration Reached LeadsBy Rising Ordered
 found-at-start cs g wanted budget =
     enumerate-told cs g wanted budget 0 (node [] [] (root cs g) ∷ []) (record { reached = ((refl, omega arith), tt); ordered = (tt, tt) })
 
+-- All that is promised of the paths follows from what is told of the state at the start.
 pub paths-found : AllPaths
 unfolding script Open
 paths-found cs g wanted budget = record {
@@ -103,6 +107,7 @@ paths-found cs g wanted budget = record {
     closed n e (inl m) = m
     closed n e (inr a) = absurd (subst Open e (a .0))
 
+-- Walk order is an order of the paths that succeed, and their lines tell them apart.
 pub walk-order : AllOrdered
 unfolding SucceedsWith Finished
 walk-order cs g = record {

@@ -34,6 +34,7 @@ module _ (κ : ℕ → ℕ) where
   abbrev pub RS : Store → Store
   RS s = reStore κ s
 
+  -- The same for what a search holds, up to a configuration.
   unfoldable pub rePair : Pair → Pair
   rePair p = record { goal = T (p .goal); clause = T (p .clause) }
 
@@ -85,6 +86,7 @@ module _ (κ : ℕ → ℕ) where
   pushTerms-re nil ns = refl
   pushTerms-re (cons t ts) ns = ap (T t ∷_) (pushTerms-re ts ns)
 
+  -- So it does through pairs of arguments,
   pushPairs-re : (ts us : Terms Leaf) (ps : List Pair)
       → Option·map (map rePair) (pushPairs ts us ps)
       ≡ pushPairs (substitutes ts (renumbered κ)) (substitutes us (renumbered κ)) (map rePair ps)
@@ -100,6 +102,7 @@ module _ (κ : ℕ → ℕ) where
       go none = refl
       go (some qs) = refl
 
+  -- and through what is compared.
   comparing-re : (s : Store) (o : Option (List Pair)) → reMatching (comparing s o) ≡ comparing (RS s) (Option·map (map rePair) o)
   unfolding comparing reMatching
   comparing-re s none = refl
@@ -112,6 +115,7 @@ module _ (κ : ℕ → ℕ) where
   afterNode-re s y t [] ps = refl
   afterNode-re s y t (n ∷ ns) ps = refl
 
+  -- The levels decide, and they stay.
   visit-re : (s : Store) (y : ℕ) (t n : Term Leaf) (ns : List (Term Leaf)) (ps : List Pair)
       → reMatching (visit s y t n ns ps) ≡ visit (RS s) y (T t) (T n) (map T ns) (map rePair ps)
   unfolding visit substitute renumbered reMatching reStore lower
@@ -141,6 +145,7 @@ module _ (κ : ℕ → ℕ) where
         go true q = eq-eqb (κ c) (κ d) (ap κ (eqb-true c d q))
         go false q = ne-eqb (κ c) (κ d) (λ z. eqb-false c d q (differs c d z))
 
+    -- So it is with their levels.
     same-constant : (c k d j : ℕ) → (eqb (renumber κ c k) (renumber κ d j) && eqb k j) ≡ (eqb c d && eqb k j)
     same-constant c k d j = go (eqb k j) refl
       where
@@ -154,6 +159,7 @@ module _ (κ : ℕ → ℕ) where
             (subst (λ (i : ℕ). eqb (renumber κ c k) (renumber κ d i) ≡ eqb c d) (eqb-true k j q) (same-number c d k))
         go false q = end (eqb (renumber κ c k) (renumber κ d j)) ∙ sym (end (eqb c d))
 
+    -- So comparing two terms comes to the same.
     compareTerms-re : (s : Store) (t u : Term Leaf) (ps : List Pair)
         → reMatching (compareTerms s t u ps) ≡ compareTerms (RS s) (T t) (T u) (map rePair ps)
     unfolding compareTerms substitute renumbered reMatching
@@ -237,6 +243,7 @@ module _ (κ : ℕ → ℕ) where
     freshVariables-re [] n = refl
     freshVariables-re (v ∷ vs) n = ap (leaf (var n) ∷_) (freshVariables-re vs (suc n))
 
+    -- Renumbering goes through a try of a member.
     tryMember-re : (s : Store) (a : Atom) (m : Entry Leaf) (k : ℕ) (b : Branch)
         → map re (tryMember s a m k b) ≡ tryMember (RS s) (reAtom a) (putEntry (renumbered κ) m) k (reBranch b)
     unfolding tryMember reStore reAtom reBranch fresh putLine
@@ -262,6 +269,7 @@ module _ (κ : ℕ → ℕ) where
         ∙ ap (λ (x : Environment Leaf). bodySequent (m .member .body) x (putProgram θ (a .program)) (a .level)) same))
         (ap (λ (ts : List (Term Leaf)). Dclause k ts ∷ map (putLine θ) (b .path)) (freshVariables-re vs (s .next))))
 
+    -- Renumbering goes through taking a goal, the constant that is made getting its new number.
     takeGoal-re : (u : ℕ) (s : Store) (g : Goal) (e : Environment Leaf) (P : Program Leaf) (i : ℕ) (b : Branch)
         → map re (takeGoal u s g e P i b)
         ≡ takeGoal (κ u) (RS s) g (putEnvironment (renumbered κ) e) (putProgram (renumbered κ) P) i (reBranch b)
@@ -286,6 +294,7 @@ module _ (κ : ℕ → ℕ) where
         (Dall (leaf (con (κ u) (suc i))) ∷ map (putLine (renumbered κ)) (b .path))) ∷ [])
         (update-put (renumbered κ) e v (leaf (con u (suc i))))
 
+    -- So it goes through every step,
     step-re : (u : ℕ) (c : Configuration) → map re (step u c) ≡ step (κ u) (re c)
     unfolding step re reAtom
     step-re u (take s g b) = takeGoal-re u s (g .goal) (g .environment) (g .program) (g .level) b
@@ -300,6 +309,7 @@ module _ (κ : ℕ → ℕ) where
     step-re u (match m b) = settle-re (matchStep m) b ∙ ap (λ (x : Matching). settle x (reBranch b)) (matchStep-re m)
     step-re u (done s ls) = refl
 
+    -- and through what an act gives to choose from.
     pub acts-re : (u : ℕ) (c : Configuration) → map re (acts u c) ≡ acts (κ u) (re c)
     unfolding acts re
     acts-re u (take s g b) = step-re u (take s g b)
@@ -317,6 +327,7 @@ start-environment κ = fun-ext (λ v. go v (ltb v variableNames))
     go v true = refl
     go v false = refl
 
+-- So the start stays as it is.
 pub root-re : (κ : ℕ → ℕ) (cs : Rules Clause) (g : Goal) → re κ (root cs g) ≡ root cs g
 unfolding root startGoal startStore re reStore reBranch
 root-re κ cs g =

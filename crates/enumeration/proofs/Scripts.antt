@@ -41,6 +41,7 @@ before-longer (i ∷ p) [] r t h = absurd h
 before-longer (i ∷ p) (j ∷ q) r t (inl l) = inl l
 before-longer (i ∷ p) (j ∷ q) r t (inr h) = inr (h .0, before-longer p q r t (h .1))
 
+-- Two choices after one script stand in their order.
 pub before-choices : (p : Script) (i j : ℕ) → i < j → Before (p ++ (i ∷ [])) (p ++ (j ∷ []))
 unfolding Before
 before-choices [] i j l = inl l
@@ -79,6 +80,7 @@ leads-once (i ∷ p) u c d e h k =
     leads-once p (suc u) (h .0) d e (h .2)
     (subst (λ (x : Configuration). LeadsTo p (suc u) x e) (stands-once (acts u c) i (k .0) (h .0) (k .1) (h .1)) (k .2))
 
+-- A script leads by way of the configuration to which its first part leads.
 pub leads-split : (p r : Script) (u : ℕ) (c d : Configuration) → LeadsTo (p ++ r) u c d
     → (e : Configuration) × LeadsTo p u c e × LeadsTo r (u + length p) e d
 unfolding LeadsTo

@@ -24,6 +24,7 @@ module _ (ok : Arities) (cs : Rules Clause) (g : Goal) (clauses : All (λ c. For
   abbrev Bounded : ℕ → Configuration → Type 0
   Bounded u c = (n : ℕ) → u ≤ n → ConfigurationUpTo ok n c
 
+  -- A step leaves room for what it makes.
   step-bounded : (u : ℕ) (c : Configuration) → Bounded u c → (n : ℕ) → suc u ≤ n → All (ConfigurationUpTo ok n) (step u c)
   step-bounded u c h zero l = absurd (omega arith)
   step-bounded u c h (suc n) l = step-formed ok (suc n) u c (h (suc n) (omega arith)) (room ok n c (h n (omega arith)))
@@ -33,6 +34,7 @@ module _ (ok : Arities) (cs : Rules Clause) (g : Goal) (clauses : All (λ c. For
   each-bound [] u h = tt
   each-bound (c ∷ l) u h = ((λ n k. h n k .0), each-bound l u (λ n k. h n k .1))
 
+  -- So it is where a proof is found,
   shown : (is : Script) (w : Proof) → Arrives cs g is w
       → ShownUpTo ok (w .units) (finalEnvironment (w .store)) (finalLines (w .store) (w .path))
   unfolding root start
@@ -44,6 +46,7 @@ module _ (ok : Arities) (cs : Rules Clause) (g : Goal) (clauses : All (λ c. For
       (λ n l. start-formed ok n cs g clauses goal .0) in
       bounds-end ok (w .units) (w .store) (w .path) (b (w .units) (omega arith))
 
+  -- and so for all proofs,
   shown-all : (x : List Script) (ws : List Proof) → Paired (Arrives cs g) x ws
       → All (λ w. ShownUpTo ok (w .units) (finalEnvironment (w .store)) (finalLines (w .store) (w .path))) ws
   unfolding Paired
@@ -52,6 +55,7 @@ module _ (ok : Arities) (cs : Rules Clause) (g : Goal) (clauses : All (λ c. For
   shown-all (is ∷ x) [] h = tt
   shown-all (is ∷ x) (w ∷ ws) h = (shown is w (h .0), shown-all x ws (h .1))
 
+  -- in particular for those found from the start.
   pub proofs-shown : (wanted budget : ℕ)
       → All (λ w. ShownUpTo ok (w .units) (finalEnvironment (w .store)) (finalLines (w .store) (w .path)))
       (enumerate wanted budget cs g .found)
