@@ -238,8 +238,6 @@ tryMember-leads bs n s a m ms k b o h x =
       written = written-next bs (b .path) (h .line) (Dclause k (freshVariables vs (s .next))) (h .ls) (ap bare (x .line)) (h .written);
     }
 
--- Lines that derive a universal goal with the constant n, then others, become lines with the constant m, the same without their terms.
-
 -- The lines of derivations, one after the other, derive their sequents.
 forest-derives : (gs : List (Sequent Symbol)) (ls : List (Line Symbol)) → Forest gs ls → Derives ls gs
 unfolding Leads
@@ -253,6 +251,7 @@ record Other (ls : List (Line Symbol)) (gs : List (Sequent Symbol)) : Type 0 whe
   same : map bare ks ≡ map bare ls
   derives : Derives ks gs
 
+-- Lines that derive a universal goal with the constant n, then others, become lines with the constant m, the same without their terms.
 -- The constant is exchanged in the first derivation only: the waiting goals may have that level too.
 other-constant : (P : Program Symbol) (g : Goal) (e : Environment Symbol) (v i n m : ℕ) (gs : List (Sequent Symbol))
     (ls : List (Line Symbol)) → LowProgram i P → LowEnvironment i e
@@ -461,8 +460,6 @@ try-leads bs n s a m ms k b o h = go (uses-cases (h .uses))
       written = h .written;
     })
 
--- Paths to the end, those that begin with taking a goal being given for fewer lines.
-
 -- A property of all elements of two lists holds of those of the first,
 all-left : {A : Type 0} (P : A → Type 0) (x y : List A) → All P (x ++ y) → All P x
 all-left P [] y h = tt
@@ -473,6 +470,7 @@ all-right : {A : Type 0} (P : A → Type 0) (x y : List A) → All P (x ++ y) �
 all-right P [] y h = h
 all-right P (a ∷ x) y h = all-right P x y (h .1)
 
+-- Paths to the end, those that begin with taking a goal being given.
 module _ (bs : List (Line Leaf)) (n : ℕ)
     (taken : (u : ℕ) (s : Store) (g : Sequent Leaf) (b : Branch) → Invariant (take s g b) → SolvedBy bs n s (g ∷ b .goals) (b .path)
     → EndsWith bs u (take s g b)) where

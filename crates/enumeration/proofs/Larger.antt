@@ -26,7 +26,6 @@ abbrev addProof : Proof → Enumeration → Enumeration
 addProof w r = record { found = w ∷ r .found; end = r .end }
 
 -- A smaller number leaves the first of the proofs.
-
 enumerate-firsts : (w v f u : ℕ) (ds : List Configuration) → w ≤ v
     → enumerateFrom w f u ds ≡ firsts w (enumerateFrom v f u ds .found) (enumerateFrom v f u ds .end)
 unfolding enumerateFrom firsts goOn
@@ -135,7 +134,6 @@ enumerate-within (suc w) f h u b c ds p q l =
     (nextProof f u ds) (nextProof h u ds) (next-shorter f h u b c ds p q l)
 
 -- What is left out stands at the end.
-
 firsts-prefix : (w : ℕ) (ws : List Proof) (e : End) → (more : List Proof) × (ws ≡ firsts w ws e .found ++ more)
 unfolding firsts
 firsts-prefix zero ws e = (ws, refl)
@@ -154,7 +152,6 @@ within-prefix b (x ∷ ws) e = go (leb (x .units) b) (within-prefix b ws e)
     go false r = (x ∷ ws, refl)
 
 -- Nothing is left out where it ended with no alternative left.
-
 firsts-settled : (w : ℕ) (ws : List Proof) (e : End) (n : ℕ) → firsts w ws e .end ≡ exhausted n → told ws e ≡ firsts w ws e
 unfolding firsts
 firsts-settled zero ws e n h = absurd (let z : _≡_ {A = ℕ} 0 1 = cc in omega arith)

@@ -19,20 +19,19 @@ use Rattle.search.specs.Steps.{proceed, settle, tryFrom, tryMember, takeGoal, s
 use Rattle.enumeration.specs.Scripts.{Script, acts, Stands, LeadsTo, Before, bare}
 use Rattle.enumeration.proofs.Scripts.{stands-all, stands-once, Finished, leads-either}
 
--- Of two lists that are the same after a place, the elements at that place are the same.
-
+-- The length of a list with the element x within it.
 length-of : {A : Type 0} (a : List A) (x : A) (l : List A) → length (a ++ (x ∷ l)) ≡ length a + suc (length l)
 length-of [] x l = omega arith
 length-of (b ∷ a) x l = let z = length-of a x l in omega arith
 
--- The lists before that place are equally long,
+-- Of two lists that are the same after a place, the elements at that place are the same: if the lists before are equally long,
 same-length : {A : Type 0} (a b : List A) (x y : A) (l : List A) → length a ≡ length b → a ++ (x ∷ l) ≡ b ++ (y ∷ l) → x ≡ y
 same-length [] [] x y l n e = cc
 same-length [] (d ∷ b) x y l n e = absurd (omega arith)
 same-length (c ∷ a) [] x y l n e = absurd (omega arith)
 same-length (c ∷ a) (d ∷ b) x y l n e = same-length a b x y l (omega arith) (cc)
 
--- since the whole lists are.
+-- and they are, since the whole lists are.
 same-at : {A : Type 0} (a b : List A) (x y : A) (l : List A) → a ++ (x ∷ l) ≡ b ++ (y ∷ l) → x ≡ y
 same-at {A = A} a b x y l e =
     let n = ap (λ (z : List A). length z) e in

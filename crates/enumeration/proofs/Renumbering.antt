@@ -217,8 +217,7 @@ module _ (κ : ℕ → ℕ) where
         ∙ ap (λ (o : Option (Term Leaf)). onNode (RS s) y (T t) (T n) (map T ns) (map rePair ps) o) (follow-re (s .bindings) n)
     matchStep-re fail = refl
 
-    -- the acts
-
+    -- Renumbering goes through what follows an act.
     proceed-re : (s : Store) (gs : List (Sequent Leaf)) (ls : List (Line Leaf))
         → map re (proceed s gs ls) ≡ proceed (RS s) (map (putSequent (renumbered κ)) gs) (map (putLine (renumbered κ)) ls)
     unfolding proceed re reBranch

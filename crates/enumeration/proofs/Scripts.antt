@@ -13,13 +13,14 @@ use Rattle.sequents.specs.Sequents.{Line, plain, Dsome, Dall, Dclause, putLine}
 use Rattle.search.specs.Configurations.{Configuration, take, try, match, done}
 use Rattle.enumeration.specs.Scripts.{Script, acts, Stands, LeadsTo, Before, bare}
 
--- Walk order is an order.
+-- No script is before itself,
 pub before-never : (p : Script) → Before p p → ⊥
 unfolding Before
 before-never [] h = h
 before-never (i ∷ p) (inl l) = omega arith
 before-never (i ∷ p) (inr h) = before-never p (h .1)
 
+-- and what is before a script is before all that are after it.
 pub before-onward : (p q r : Script) → Before p q → Before q r → Before p r
 unfolding Before
 before-onward [] q r h k = absurd h
@@ -30,6 +31,7 @@ before-onward (i ∷ p) (j ∷ q) (l ∷ r) (inl a) (inr b) = inl (let z = b .0 
 before-onward (i ∷ p) (j ∷ q) (l ∷ r) (inr a) (inl b) = inl (let z = a .0 in omega arith)
 before-onward (i ∷ p) (j ∷ q) (l ∷ r) (inr a) (inr b) = inr (a .0 ∙ b .0, before-onward p q r (a .1) (b .1))
 
+-- So no two scripts are each before the other.
 pub before-not : (p q : Script) → Before p q → Before q p → ⊥
 before-not p q h k = before-never p (before-onward p q p h k)
 
@@ -47,25 +49,28 @@ unfolding Before
 before-choices [] i j l = inl l
 before-choices (k ∷ p) i j l = inr (refl, before-choices p i j l)
 
--- Of places in a list.
+-- One element stands at a place.
 pub stands-once : {A : Type 0} (l : List A) (i : ℕ) (a b : A) → Stands l i a → Stands l i b → a ≡ b
 unfolding Stands
 stands-once [] i a b h k = absurd h
 stands-once (c ∷ l) zero a b h k = sym h ∙ k
 stands-once (c ∷ l) (suc i) a b h k = stands-once l i a b h k
 
+-- Mapping keeps places,
 pub stands-map : {A B : Type 0} (f : A → B) (l : List A) (i : ℕ) (a : A) → Stands l i a → Stands (map f l) i (f a)
 unfolding Stands
 stands-map f [] i a h = h
 stands-map f (b ∷ l) zero a h = ap f h
 stands-map f (b ∷ l) (suc i) a h = stands-map f l i a h
 
+-- and gives nothing that does not come from the same place.
 pub stands-unmap : {A B : Type 0} (f : A → B) (l : List A) (i : ℕ) (b : B) → Stands (map f l) i b → (a : A) × Stands l i a
 unfolding Stands
 stands-unmap f [] i b h = absurd h
 stands-unmap f (a ∷ l) zero b h = (a, refl)
 stands-unmap f (a ∷ l) (suc i) b h = stands-unmap f l i b h
 
+-- A property of all holds at every place.
 pub stands-all : {A : Type 0} (P : A → Type 0) (l : List A) (i : ℕ) (a : A) → All P l → Stands l i a → P a
 unfolding Stands
 stands-all P [] i a h k = absurd k
