@@ -141,6 +141,17 @@ act-state is ns u c ps =
     map-append configuration (children (choices is) (ns ++ (u ∷ [])) (acts u c)) ps
     ∙ ap (λ (x : List Configuration). x ++ map configuration ps) (children-are (choices is) (ns ++ (u ∷ [])) (acts u c))
 
+-- So what is told of the state after an act is told of the state before it.
+next-act : (cs : Rules Clause) (g : Goal) (u : ℕ) (is : Script) (ns : List ℕ) (c : Configuration) (ps : List Node)
+    (next : List Configuration → Enumeration)
+    → (Finished c → ⊥) → Standing cs g u (node is ns c ∷ ps) → ((qs : List Node) → Standing cs g (suc u) qs
+    → Told cs g qs (next (map configuration qs)))
+    → Told cs g (node is ns c ∷ ps) (next (acts u c ++ map configuration ps))
+next-act cs g u is ns c ps next due h ih =
+    let qs = children (choices is) (ns ++ (u ∷ [])) (acts u c) ++ ps in
+    told-act cs g u is ns c ps (next (acts u c ++ map configuration ps)) due h
+    (subst (λ (x : List Configuration). Told cs g qs (next x)) (act-state is ns u c ps) (ih qs (standing-act cs g u is ns c ps h)))
+
 -- So it is up to the next proof, if it is so of what follows.
 next-told : (cs : Rules Clause) (g : Goal) (rest : ℕ → ℕ → List Configuration → Enumeration)
     → ((f u : ℕ) (ps : List Node) → Standing cs g u ps → Told cs g ps (rest f u (map configuration ps)))
@@ -155,23 +166,11 @@ next-told cs g rest k zero u (node is ns (done s ls) ∷ ps) h =
     (k zero u ps (record { reached = h .reached .1; ordered = h .ordered .1 }))
 next-told cs g rest k (suc f) u [] h = told-none cs g u
 next-told cs g rest k (suc f) u (node is ns (take s q b) ∷ ps) h =
-    let c = take s q b in
-    told-act cs g u is ns c ps (goOn rest (nextProof f (suc u) (acts u c ++ map configuration ps))) (λ z. z) h
-    (subst (λ (x : List Configuration). Told cs g (children (choices is) (ns ++ (u ∷ [])) (acts u c) ++ ps)
-    (goOn rest (nextProof f (suc u) x))) (act-state is ns u c ps)
-    (next-told cs g rest k f (suc u) (children (choices is) (ns ++ (u ∷ [])) (acts u c) ++ ps) (standing-act cs g u is ns c ps h)))
+    next-act cs g u is ns (take s q b) ps (λ ds. goOn rest (nextProof f (suc u) ds)) (λ z. z) h (next-told cs g rest k f (suc u))
 next-told cs g rest k (suc f) u (node is ns (try s a m ms j b) ∷ ps) h =
-    let c = try s a m ms j b in
-    told-act cs g u is ns c ps (goOn rest (nextProof f (suc u) (acts u c ++ map configuration ps))) (λ z. z) h
-    (subst (λ (x : List Configuration). Told cs g (children (choices is) (ns ++ (u ∷ [])) (acts u c) ++ ps)
-    (goOn rest (nextProof f (suc u) x))) (act-state is ns u c ps)
-    (next-told cs g rest k f (suc u) (children (choices is) (ns ++ (u ∷ [])) (acts u c) ++ ps) (standing-act cs g u is ns c ps h)))
+    next-act cs g u is ns (try s a m ms j b) ps (λ ds. goOn rest (nextProof f (suc u) ds)) (λ z. z) h (next-told cs g rest k f (suc u))
 next-told cs g rest k (suc f) u (node is ns (match m b) ∷ ps) h =
-    let c = match m b in
-    told-act cs g u is ns c ps (goOn rest (nextProof f (suc u) (acts u c ++ map configuration ps))) (λ z. z) h
-    (subst (λ (x : List Configuration). Told cs g (children (choices is) (ns ++ (u ∷ [])) (acts u c) ++ ps)
-    (goOn rest (nextProof f (suc u) x))) (act-state is ns u c ps)
-    (next-told cs g rest k f (suc u) (children (choices is) (ns ++ (u ∷ [])) (acts u c) ++ ps) (standing-act cs g u is ns c ps h)))
+    next-act cs g u is ns (match m b) ps (λ ds. goOn rest (nextProof f (suc u) ds)) (λ z. z) h (next-told cs g rest k f (suc u))
 next-told cs g rest k (suc f) u (node is ns (done s ls) ∷ ps) h =
     told-found cs g u is ns s ls ps (rest (suc f) u (map configuration ps)) h
     (k (suc f) u ps (record { reached = h .reached .1; ordered = h .ordered .1 }))
