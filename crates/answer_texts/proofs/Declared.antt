@@ -53,3 +53,9 @@ pub takes-writable : (ds : List Declaration) (g : Functor) (n : ℕ) → Takes d
 unfolding Takes WritableFunctor
 takes-writable ds (sheetSymbol g) n h = arity-has ds g n h
 takes-writable ds (numeral m) n h = h
+
+-- Nothing else can.
+pub writable-takes : (ds : List Declaration) (g : Functor) (n : ℕ) → WritableFunctor ds g n → Takes ds g n
+unfolding Takes WritableFunctor
+writable-takes ds (sheetSymbol g) n h = has-arity ds g n h
+writable-takes ds (numeral m) n h = h

@@ -21,7 +21,7 @@ use Rattle.sheet_format.proofs.Formed.{Takes, FormedTerm as SheetTerm, FormedTe
 use Rattle.sheet_format.proofs.Formed.{FormedClause as SheetClause}
 use Rattle.answer_texts.specs.TextLines.{TextLine, bindingLine, derivationLine, answerLines, renameTextLine}
 use Rattle.answer_texts.specs.Spelled.{SmallSymbol, WritableTerm, WritableTerms, WritableLine, Writable}
-use Rattle.answer_texts.proofs.Declared.{takes-writable}
+use Rattle.answer_texts.proofs.Declared.{takes-writable, writable-takes}
 use Rattle.answer_texts.proofs.SoundNumbers.{NumbersUpTo}
 
 -- What the sheet lets stand before arguments, with their number.
@@ -74,6 +74,28 @@ mutual
   writable-terms : (ts : Terms Symbol) (ds : List Declaration) → FormedTerms ts (declared ds) SmallSymbol → WritableTerms ts ds
   writable-terms nil ds h = tt
   writable-terms (cons t ts) ds h = (writable-term t ds (h .0), writable-terms ts ds (h .1))
+
+-- What can be written is well-formed, with small symbols.
+mutual
+  unfolding FormedTerm WritableTerm
+
+  pub formed-term : (t : Ground) (ds : List Declaration) → WritableTerm t ds → FormedTerm t (declared ds) SmallSymbol
+  formed-term (leaf s) ds h = h
+  formed-term (app f ts) ds h = (writable-takes ds f (count ts) (h .0), formed-terms ts ds (h .1))
+
+  formed-terms : (ts : Terms Symbol) (ds : List Declaration) → WritableTerms ts ds → FormedTerms ts (declared ds) SmallSymbol
+  formed-terms nil ds h = tt
+  formed-terms (cons t ts) ds h = (formed-term t ds (h .0), formed-terms ts ds (h .1))
+
+-- So it is for lines.
+pub formed-line : (x : Line Symbol) (ds : List Declaration) → WritableLine ds x
+    → FormedLine (declared ds) SmallSymbol (λ k. k ≤ maxNumber) x
+unfolding FormedLine WritableLine
+formed-line (plain w) ds h = tt
+formed-line (Dsome t) ds h = formed-term t ds h
+formed-line (Dall t) ds h = formed-term t ds h
+formed-line (Dclause k ts) ds h =
+    (h .0, all-weaken (λ t. WritableTerm t ds) (λ t. FormedTerm t (declared ds) SmallSymbol) (λ t. formed-term t ds) ts (h .1))
 
 -- Well-formed lines with small symbols and places up to n can be written.
 writable-line : (x : Line Symbol) (ds : List Declaration) (n : ℕ) → n ≤ maxNumber → FormedLine (declared ds) SmallSymbol (λ k. k ≤ n) x

@@ -1,6 +1,6 @@
 -- What stands before the arguments of a written term, a name or a number: its bytes, and that `findHead` finds what is so spelled, and only
 -- that.
-use Prim.Native.Nat.{ℕ, _≤_, _<_}
+use Prim.Native.Nat.{ℕ, _≤_}
 use Prim.Native.Char.{code}
 use mathlib.Core.Path.{_≡_, refl, sym, _∙_, ap, ap₂, subst}
 use mathlib.Core.Bool.{true, false}
@@ -16,7 +16,7 @@ use Rattle.sheet_format.specs.Limits.{maxNumber}
 use Rattle.sheet_format.specs.Bytes.{isDigit, isNameByte, number, decimal, isName}
 use Rattle.sheet_format.specs.Nodes.{Declaration}
 use Rattle.sheet_format.proofs.Options.{OnSome}
-use Rattle.sheet_format.proofs.Bytes.{Every, Graphic, digit-bounds, letter-bounds, digit-name, name-graphic, name-nonempty, name-letter, name-kinds}
+use Rattle.sheet_format.proofs.Bytes.{Every, digit-bounds, letter-bounds, digit-name, name-nonempty, name-letter, name-kinds}
 use Rattle.sheet_format.proofs.Numbers.{decimal-digits, decimal-first, number-decimal, number-some, number-name}
 use Rattle.sheet_format.proofs.Names.{Names}
 use Rattle.sheet_format.proofs.Formed.{Declares}
@@ -75,11 +75,7 @@ findHead-some ds b = go (number b) (number-some b) (findName 0 ds b) (findName-s
     go none h none k = tt
     go none h (some f) k = (k .0, arity-has ds (f .symbol) (f .arity) (k .1))
 
--- The bytes that start a term are graphic characters, and there is one.
-pub starts-graphic : (b : List ℕ) → Starts b → Graphic b
-starts-graphic [] h = absurd h
-starts-graphic (c ∷ cs) h = all-weaken (λ d. isNameByte d ≡ true) (λ d. 32 < d) name-graphic (c ∷ cs) (h .2)
-
+-- There is at least one byte that starts a term.
 pub starts-length : (b : List ℕ) → Starts b → 1 ≤ length b
 starts-length [] h = absurd h
 starts-length (c ∷ cs) h = omega arith

@@ -1,5 +1,5 @@
 -- Terms: `readTerm` reads back what `spellTerm` writes, and only that.
-use Prim.Native.Nat.{ℕ, zero, suc, _≤_, _<_}
+use Prim.Native.Nat.{ℕ, zero, suc, _≤_}
 use Prim.Native.Char.{code}
 use mathlib.Core.Path.{_≡_, refl, sym, _∙_, ap, ap₂, subst}
 use mathlib.Core.Bool.{Bool, true, false}
@@ -10,14 +10,12 @@ use lib.ListN.{length, length-append}
 use borrow.Author.Tests.{eqb-true}
 use native.Mathlib.Omega.{arith}
 use Rattle.terms.specs.Terms.{Functor, leaf, app, Terms, nil, cons, count}
-use Rattle.terms.proofs.Lists.{all-append}
 use Rattle.sequents.specs.Symbols.{Symbol, made, leftover, Ground}
 use Rattle.sheet_format.specs.Limits.{maxNumber}
-use Rattle.sheet_format.specs.Bytes.{isDigit, isSmall, isCapital, isLetter, isNameByte, decimal}
+use Rattle.sheet_format.specs.Bytes.{isDigit, isSmall, isCapital, isLetter, isNameByte}
 use Rattle.sheet_format.specs.Nodes.{Declaration}
 use Rattle.sheet_format.proofs.Options.{OnSome, some-weaken}
 use Rattle.sheet_format.proofs.Bytes.{Graphic}
-use Rattle.sheet_format.proofs.Numbers.{decimal-graphic}
 use Rattle.sheet_format.proofs.Names.{Names}
 use Rattle.answer_texts.specs.Spelling.{spellFunctor, spellSymbol, spellTerm, spellArguments, spellMore}
 use Rattle.answer_texts.specs.Spelled.{WritableFunctor, SmallSymbol, WritableTerm, WritableTerms}
@@ -25,8 +23,10 @@ use Rattle.text_judging.specs.Reading.{Span, span, Parsed, parsed, readS
 use Rattle.text_judging.specs.Reading.{findHead, applyTo, readApplication, readTerm, wholeTerm, termField}
 use Rattle.text_judging.proofs.Spans.{Stops, stops-digit, span-append, span-split, after-some}
 use Rattle.answer_texts.proofs.Declared.{marked}
+use Rattle.answer_texts.proofs.SoundWritable.{formed-term}
+use Rattle.answer_texts.proofs.SpelledLines as Spelled
 use Rattle.text_judging.proofs.Symbols.{read-symbol, ReadsSymbol, readSymbol-some}
-use Rattle.text_judging.proofs.Functors.{Starts, functor-starts, find-head, findHead-some, starts-graphic, starts-length}
+use Rattle.text_judging.proofs.Functors.{Starts, functor-starts, find-head, findHead-some, starts-length}
 
 -- one step
 
@@ -271,40 +271,6 @@ termField-some ds b = go (readTerm (length b) ds b) (readTerm-some (length b) ds
     go none h = tt
     go (some p) h = whole (p .value) (p .rest) h
 
--- spelled terms are graphic
-
--- The bytes of a symbol after its first byte are graphic.
-marked-graphic : (n k : ℕ) → Graphic (marked n k)
-marked-graphic n k = all-append (λ d. 32 < d) (decimal n) (code "@" ∷ decimal k) (decimal-graphic n) (omega arith, decimal-graphic k)
-
--- The bytes of a symbol are graphic.
-symbol-graphic : (s : Symbol) → Graphic (spellSymbol s)
-unfolding spellSymbol
-symbol-graphic (made n k) = (omega arith, marked-graphic n k)
-symbol-graphic (leftover n k) = (omega arith, marked-graphic n k)
-
-mutual
-  unfolding spellTerm WritableTerm
-
-  pub term-graphic : (t : Ground) (ds : List Declaration) → Names ds → WritableTerm t ds → Graphic (spellTerm t ds)
-  term-graphic (leaf s) ds ns w = symbol-graphic s
-  term-graphic (app g ts) ds ns w =
-      all-append (λ d. 32 < d) (spellFunctor ds g) (spellArguments ts ds)
-      (starts-graphic (spellFunctor ds g) (functor-starts ds g (count ts) ns (w .0)))
-      (arguments-graphic ts ds ns (w .1))
-
-  arguments-graphic : (ts : Terms Symbol) (ds : List Declaration) → Names ds → WritableTerms ts ds → Graphic (spellArguments ts ds)
-  arguments-graphic nil ds ns w = tt
-  arguments-graphic (cons t ts) ds ns w = (
-    omega arith,
-    all-append (λ d. 32 < d) (spellTerm t ds) (spellMore ts ds) (term-graphic t ds ns (w .0))
-        (more-graphic ts ds ns (w .1)),
-  )
-
-  more-graphic : (ts : Terms Symbol) (ds : List Declaration) → Names ds → WritableTerms ts ds → Graphic (spellMore ts ds)
-  more-graphic nil ds ns w = (omega arith, tt)
-  more-graphic (cons t ts) ds ns w = (
-    omega arith,
-    all-append (λ d. 32 < d) (spellTerm t ds) (spellMore ts ds) (term-graphic t ds ns (w .0))
-        (more-graphic ts ds ns (w .1)),
-  )
+-- The bytes of a term that can be written are graphic.
+pub term-graphic : (t : Ground) (ds : List Declaration) → Names ds → WritableTerm t ds → Graphic (spellTerm t ds)
+term-graphic t ds ns w = Spelled.term-graphic ds ns SmallSymbol t (formed-term t ds w)

@@ -2,27 +2,29 @@
 use Prim.Native.Nat.{ℕ, _≤_}
 use mathlib.Core.Path.{_≡_, refl, sym, _∙_, ap, ap₂, subst}
 use mathlib.Core.Bool.{cond}
-use mathlib.Core.List.{List, [], _∷_, _++_, map, append-assoc, cons≢nil}
+use mathlib.Core.List.{List, [], _∷_, map}
 use mathlib.Core.Option.{Option, none, some, Option·map}
-use native.Mathlib.Omega.{arith}
 use Rattle.terms.specs.Lists.{All}
 use Rattle.terms.proofs.Lists.{all-weaken, all-map}
 use Rattle.sequents.specs.Symbols.{Ground}
 use Rattle.sequents.specs.Sequents.{Word, Dtrue, Dand, Dleft, Dright, Dassume, plain, Dsome, Dall, Dclause}
 use Rattle.sheet_format.specs.Limits.{maxNumber}
-use Rattle.sheet_format.specs.Bytes.{ascii, tab, lf, linesOf, fields, number, decimal, sameBytes}
+use Rattle.sheet_format.specs.Bytes.{ascii, lf, linesOf, fields, number, decimal, sameBytes}
 use Rattle.sheet_format.specs.Nodes.{Declaration}
 use Rattle.sheet_format.proofs.Options.{OnSome, cond-some, map-some, some-is}
-use Rattle.sheet_format.proofs.Bytes.{same-equal, Without, Graphic, graphic-without, lines}
-use Rattle.sheet_format.proofs.Numbers.{number-decimal, number-some, decimal-graphic}
+use Rattle.sheet_format.proofs.Bytes.{same-equal, Without, Graphic, lines}
+use Rattle.sheet_format.proofs.Numbers.{number-decimal, number-some}
 use Rattle.sheet_format.proofs.Names.{Names}
 use Rattle.answer_texts.specs.TextLines.{TextLine, resultLine, bindingLine, derivationLine}
-use Rattle.answer_texts.specs.Spelling.{spellTerm, join, textLine, spellWord, spellTerms, lineFields, textFields, spell}
-use Rattle.answer_texts.specs.Spelled.{WritableTerm, WritableLine, Writable, unlines}
+use Rattle.answer_texts.specs.Spelling.{spellTerm, spellWord, spellTerms, lineFields, textFields, spell}
+use Rattle.answer_texts.specs.Spelled.{SmallSymbol, WritableTerm, WritableLine, Writable, unlines}
 use Rattle.text_judging.specs.Reading.{termField, consField, termFields, plainLine, termLine, useLine, clauseFields, byWord}
 use Rattle.text_judging.specs.Reading.{derivationFields, resultFields, bindingOf, bindingFields, readLine}
-use Rattle.answer_texts.proofs.Splitting.{linesOf-whole, unlines-injective, fields-join, join-without}
-use Rattle.text_judging.proofs.ReadTerms.{read-field, termField-some, term-graphic}
+use Rattle.answer_texts.proofs.Splitting.{unlines-injective}
+use Rattle.answer_texts.proofs.SoundWritable.{formed-term, formed-line}
+pub use Rattle.answer_texts.proofs.SpelledLines.{lineBytes, spell-unlines}
+use Rattle.answer_texts.proofs.SpelledLines.{line-graphic, binding-graphic, result-graphic, graphic-fields, graphic-line, graphic-lines}
+use Rattle.text_judging.proofs.ReadTerms.{read-field, termField-some}
 
 -- fields of a line that is written
 
@@ -181,58 +183,22 @@ spell-read ds fs x e = some-is (Spells ds fs) (readLine ds fs) x (readLine-some 
 
 -- bytes of lines
 
--- There is a field.
-pub textFields-nonempty : (ds : List Declaration) (x : TextLine) → textFields ds x ≡ [] → ⊥
-unfolding textFields
-textFields-nonempty ds (resultLine n) e = cons≢nil e
-textFields-nonempty ds (bindingLine v t) e = cons≢nil e
-textFields-nonempty ds (derivationLine x) e = cons≢nil e
-
--- The spellings of terms are graphic.
-terms-graphic : (ts : List Ground) (ds : List Declaration) → Names ds → All (λ t. WritableTerm t ds) ts → All Graphic (spellTerms ds ts)
-unfolding spellTerms
-terms-graphic ts ds ns w = all-map (λ t. spellTerm t ds) (λ t. WritableTerm t ds) Graphic (λ t h. term-graphic t ds ns h) ts w
-
--- The fields are graphic.
+-- The fields are graphic,
 pub textFields-graphic : (ds : List Declaration) (x : TextLine) → Names ds → Writable ds x → All Graphic (textFields ds x)
-unfolding textFields lineFields Writable WritableLine ascii spellWord
-textFields-graphic ds (resultLine n) ns w = (omega arith, (omega arith, (decimal-graphic n, tt)))
-textFields-graphic ds (bindingLine v t) ns w = (omega arith, (decimal-graphic v, (term-graphic t ds ns (w .1), tt)))
-textFields-graphic ds (derivationLine (plain Dtrue)) ns w = omega arith
-textFields-graphic ds (derivationLine (plain Dand)) ns w = omega arith
-textFields-graphic ds (derivationLine (plain Dleft)) ns w = omega arith
-textFields-graphic ds (derivationLine (plain Dright)) ns w = omega arith
-textFields-graphic ds (derivationLine (plain Dassume)) ns w = omega arith
-textFields-graphic ds (derivationLine (Dsome t)) ns w = (omega arith, (omega arith, (term-graphic t ds ns w, tt)))
-textFields-graphic ds (derivationLine (Dall t)) ns w = (omega arith, (omega arith, (term-graphic t ds ns w, tt)))
-textFields-graphic ds (derivationLine (Dclause k ts)) ns w =
-    (omega arith, (omega arith, (decimal-graphic k, terms-graphic ts ds ns (w .1))))
+unfolding Writable
+textFields-graphic ds (resultLine n) ns w = result-graphic ds n
+textFields-graphic ds (bindingLine v t) ns w = binding-graphic ds ns SmallSymbol v t (formed-term t ds (w .1))
+textFields-graphic ds (derivationLine x) ns w = line-graphic ds ns SmallSymbol (λ k. k ≤ maxNumber) x (formed-line x ds w)
 
--- So they have neither tab nor LF.
-pub textFields-without : (ds : List Declaration) (x : TextLine) (c : ℕ) → c ≤ 32 → Names ds → Writable ds x
-    → All (Without c) (textFields ds x)
-textFields-without ds x c h ns w = all-weaken Graphic (Without c) (graphic-without c h) (textFields ds x) (textFields-graphic ds x ns w)
-
--- The bytes of a line without its LF.
-abbrev pub lineBytes : List Declaration → TextLine → List ℕ
-lineBytes ds x = join (textFields ds x)
-
--- They have no LF.
+-- so that the bytes of a line have no LF,
 pub lineBytes-without : (ds : List Declaration) (x : TextLine) → Names ds → Writable ds x → Without lf (lineBytes ds x)
-lineBytes-without ds x ns w = join-without (textFields ds x) (textFields-without ds x lf (omega arith) ns w)
+lineBytes-without ds x ns w = graphic-line ds x (textFields-graphic ds x ns w)
 
--- They are split into the fields again.
+-- and are split into the fields again.
 pub fields-spell : (ds : List Declaration) (x : TextLine) → Names ds → Writable ds x → fields (lineBytes ds x) ≡ textFields ds x
-fields-spell ds x ns w = fields-join (textFields ds x) (textFields-nonempty ds x) (textFields-without ds x tab (omega arith) ns w)
+fields-spell ds x ns w = graphic-fields ds x (textFields-graphic ds x ns w)
 
 -- texts
-
--- A text is its lines, each with its LF.
-pub spell-unlines : (ds : List Declaration) (xs : List TextLine) → spell ds xs ≡ unlines (map (lineBytes ds) xs)
-unfolding spell unlines textLine
-spell-unlines ds [] = refl
-spell-unlines ds (x ∷ xs) =
-    append-assoc (lineBytes ds x) (lf ∷ []) (spell ds xs) ∙ ap (λ (b : List ℕ). lineBytes ds x ++ (lf ∷ b)) (spell-unlines ds xs)
 
 -- None of the lines of a text has an LF.
 pub allBytes-without : (ds : List Declaration) (xs : List TextLine) → Names ds → All (Writable ds) xs
@@ -242,7 +208,8 @@ allBytes-without ds xs ns w = all-map (lineBytes ds) (Writable ds) (Without lf) 
 -- It is split into these lines again, with nothing after the last LF.
 pub linesOf-spell : (ds : List Declaration) (xs : List TextLine) → Names ds → All (Writable ds) xs
     → linesOf (spell ds xs) ≡ lines (map (lineBytes ds) xs) []
-linesOf-spell ds xs ns w = ap linesOf (spell-unlines ds xs) ∙ linesOf-whole (map (lineBytes ds) xs) (allBytes-without ds xs ns w)
+linesOf-spell ds xs ns w =
+    graphic-lines ds xs (all-weaken (Writable ds) (λ x. All Graphic (textFields ds x)) (λ x. textFields-graphic ds x ns) xs w)
 
 -- Whole lines that together are a text are its lines.
 pub spell-lines : (ds : List Declaration) (ls : List (List ℕ)) (xs : List TextLine) → Names ds → All (Without lf) ls
