@@ -37,7 +37,7 @@ use Rattle.unification.proofs.Invariant.{Good}
 use Rattle.unification.proofs.Complete.{Keeps, comparing-complete, matchStep-complete}
 use Rattle.unification.proofs.Termination.{steps-after, matching-ends}
 use Rattle.search.specs.Configurations.{Branch, branch, Atom, Configuration, take, try, match, done}
-use Rattle.search.specs.Steps.{proceed, settle, tryFrom, tryMember, takeGoal, step}
+use Rattle.search.specs.Steps.{triedStore, triedEnvironment, triedBranch, proceed, settle, tryFrom, tryMember, takeGoal, step}
 use Rattle.search.specs.Search.{startEnvironment, startStore, startGoal, start}
 use Rattle.search.specs.Promises.{SheetNames}
 use Rattle.search.proofs.Invariant.{GoalsBelow, TryBelow, Invariant, start-invariant, step-keeps}
@@ -147,8 +147,8 @@ record UsesThis (x : Line Symbol) (m : Entry Symbol) (k p : ℕ) (us : Terms Sym
   premises : K (bodySequent (m .member .body) (assign (m .member .prefix) terms (m .environment)) P i)
 
 -- A line uses the first of the members, or one of the others, whose places count on.
-uses-cases : {x : Line Symbol} {m : Entry Symbol} {l : List
-    (Entry Symbol)} {k p : ℕ} {us : Terms Symbol} {P : Program Symbol} {i : ℕ} {K : List (Sequent Symbol) → Type 0}
+uses-cases : {x : Line Symbol} {m : Entry Symbol} {l : List (Entry Symbol)} {k p : ℕ} {us : Terms Symbol} {P : Program Symbol} {i : ℕ}
+    {K : List (Sequent Symbol) → Type 0}
     → Uses x (m ∷ l) k p us P i K → UsesThis x m k p us P i K ⊎ Uses x l (suc k) p us P i K
 unfolding place
 uses-cases {x = x} {m = m} {l = l} {k = k} {p = p} {us = us} {P = P} {i = i} {K = K} u =
@@ -176,26 +176,18 @@ unfolding bodySequent
 body-low none e P i le lP = tt
 body-low (some g) e P i le lP = ((le, lP), tt)
 
--- What a try compares, what it leaves open, and what it has written.
-abbrev opened : Store → Entry Leaf → Environment Leaf
-opened s m = assign (m .member .prefix) (freshVariables (m .member .prefix) (s .next)) (m .environment)
-
+-- What a try compares.
 abbrev compared : Store → Atom → Entry Leaf → Matching
 compared s a m =
-    comparing (fresh (m .member .prefix) (a .level) s) (pushPairs (a .arguments) (substitutes (m .member .arguments) (opened s m)) [])
-
-abbrev onward : Store → Atom → Entry Leaf → Branch → List (Sequent Leaf)
-onward s a m b = bodySequent (m .member .body) (opened s m) (a .program) (a .level) ++ b .goals
-
-abbrev written-path : Store → Entry Leaf → ℕ → Branch → List (Line Leaf)
-written-path s m k b = Dclause k (freshVariables (m .member .prefix) (s .next)) ∷ b .path
+    comparing (triedStore s a m) (pushPairs (a .arguments) (substitutes (m .member .arguments) (triedEnvironment s m)) [])
 
 -- The member of a try that the line uses is matched: its terms for the prefix are the values of the fresh variables.
 tryMember-leads : (bs : List (Line Leaf)) (n : ℕ) (s : Store) (a : Atom) (m : Entry Leaf) (ms : List (Entry Leaf)) (k : ℕ) (b : Branch)
     → Good (TryBelow a (m ∷ ms) (b .goals)) s → (h : TriedBy bs n s a (m ∷ ms) k (b .goals) (b .path))
     → UsesThis (h .line) (putEntry (valued (h .σ)) m) k (a .predicate) (substitutes (a .arguments) (valued (h .σ)))
     (putProgram (valued (h .σ)) (a .program)) (a .level)
-    (λ new. Leads (h .ls) (new ++ goalsAt (h .σ) (b .goals)) []) → MatchedBy bs n (compared s a m) (onward s a m b) (written-path s m k b)
+    (λ new. Leads (h .ls) (new ++ goalsAt (h .σ) (b .goals)) [])
+    → MatchedBy bs n (compared s a m) (triedBranch s a m k b .goals) (triedBranch s a m k b .path)
 unfolding bare
 tryMember-leads bs n s a m ms k b o h x =
     let σ = h .σ in
@@ -434,7 +426,7 @@ take-leads bs n u s g b o h = go (h .ls) (h .few) (h .derives) (h .written)
 try-leads : (bs : List (Line Leaf)) (n : ℕ) (s : Store) (a : Atom) (m : Entry Leaf) (ms : List (Entry Leaf)) (k : ℕ) (b : Branch)
     → Good (TryBelow a (m ∷ ms) (b .goals)) s
     → TriedBy bs n s a (m ∷ ms) k (b .goals) (b .path)
-    → ((a .predicate ≡ m .member .predicate) × MatchedBy bs n (compared s a m) (onward s a m b) (written-path s m k b))
+    → ((a .predicate ≡ m .member .predicate) × MatchedBy bs n (compared s a m) (triedBranch s a m k b .goals) (triedBranch s a m k b .path))
     ⊎ TriedBy bs n s a ms (suc k) (b .goals) (b .path)
 try-leads bs n s a m ms k b o h = go (uses-cases (h .uses))
   where
@@ -444,7 +436,8 @@ try-leads bs n s a m ms k b o h = go (uses-cases (h .uses))
         ⊎ Uses (h .line) (map (putEntry (valued (h .σ))) ms) (suc k) (a .predicate) (substitutes (a .arguments) (valued (h .σ)))
         (putProgram (valued (h .σ)) (a .program)) (a .level)
         (λ new. Leads (h .ls) (new ++ goalsAt (h .σ) (b .goals)) [])
-        → ((a .predicate ≡ m .member .predicate) × MatchedBy bs n (compared s a m) (onward s a m b) (written-path s m k b))
+        → ((a .predicate ≡ m .member .predicate)
+        × MatchedBy bs n (compared s a m) (triedBranch s a m k b .goals) (triedBranch s a m k b .path))
         ⊎ TriedBy bs n s a ms (suc k) (b .goals) (b .path)
     go (inl x) = inl (x .predicate, tryMember-leads bs n s a m ms k b o h x)
     go (inr x) = inr (record {
@@ -550,7 +543,8 @@ module _ (bs : List (Line Leaf)) (n : ℕ)
       this = cond (eqb (a .predicate) (m .member .predicate)) (tryMember s a m k b) []
 
       go : All Invariant (this ++ tryFrom s a ms (suc k) b)
-          → ((a .predicate ≡ m .member .predicate) × MatchedBy bs n (compared s a m) (onward s a m b) (written-path s m k b))
+          → ((a .predicate ≡ m .member .predicate)
+          × MatchedBy bs n (compared s a m) (triedBranch s a m k b .goals) (triedBranch s a m k b .path))
           ⊎ TriedBy bs n s a ms (suc k) (b .goals) (b .path)
           → Any (EndsWith bs (suc u)) (this ++ tryFrom s a ms (suc k) b)
       go q (inl x) =
@@ -560,8 +554,8 @@ module _ (bs : List (Line Leaf)) (n : ℕ)
           (all-left Invariant this (tryFrom s a ms (suc k) b) q) in
           any-left (EndsWith bs (suc u)) this (tryFrom s a ms (suc k) b)
           (subst (λ (t : Bool). Any (EndsWith bs (suc u)) (cond t (tryMember s a m k b) [])) (sym yes)
-          (settle-ends (suc u) (compared s a m) (branch (onward s a m b) (written-path s m k b))
-          (λ i j. match-any (suc u) (compared s a m) (branch (onward s a m b) (written-path s m k b)) i j) good (x .1)))
+          (settle-ends (suc u) (compared s a m) (triedBranch s a m k b)
+          (λ i j. match-any (suc u) (compared s a m) (triedBranch s a m k b) i j) good (x .1)))
       go q (inr x) =
           any-right (EndsWith bs (suc u)) this (tryFrom s a ms (suc k) b) (next (all-right Invariant this (tryFrom s a ms (suc k) b) q) x)
 

@@ -47,14 +47,12 @@ module _ (κ : ℕ → ℕ) where
   reBranch b = branch (map (putSequent (renumbered κ)) (b .goals)) (map (putLine (renumbered κ)) (b .path))
 
   unfoldable pub reAtom : Atom → Atom
-  reAtom a =
-      record {
-        predicate = a .predicate;
-        arguments = substitutes (a .arguments) (renumbered κ);
-        program = putProgram (renumbered κ)
-            (a .program);
-        level = a .level;
-      }
+  reAtom a = record {
+    predicate = a .predicate;
+    arguments = substitutes (a .arguments) (renumbered κ);
+    program = putProgram (renumbered κ) (a .program);
+    level = a .level;
+  }
 
   unfoldable pub re : Configuration → Configuration
   re (take s g b) = take (RS s) (putSequent (renumbered κ) g) (reBranch b)
