@@ -11,4 +11,5 @@ pub mod SpelledLines
 pub mod EnumerationTexts
 pub mod TextPaths
 pub mod EnumerationPromises
+pub mod EnumerationCases
 pub mod Capitals
