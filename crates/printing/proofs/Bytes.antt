@@ -3,12 +3,13 @@ use Prim.Native.Nat.{ℕ, zero, suc, _+_, _/_, _%_, _≤_, _<_, min}
 use Prim.Native.Char.{code}
 use native.Mathlib.Omega.{arith}
 use mathlib.Core.Path.{_≡_, refl, sym, ap, _∙_}
-use mathlib.Core.Bool.{Bool, true, false}
+use mathlib.Core.Bool.{Bool, true, false, cond}
 use mathlib.Core.List.{List, [], _∷_, _++_, append-assoc}
 use lib.Dec.{ltb}
-use lib.ListN.{length, getD, set, take, drop, length-append, drop-of-length-le}
+use lib.ListN.{length, getD, set, take, drop, length-append, length-set, drop-of-length-le}
 use lib.Seq.{drop-cons, set-at}
 use borrow.Author.Tests.{lt-ltb, le-ltb, ltb-true, ltb-false}
+use Rattle.machine.specs.Words.{increment}
 use Rattle.machine.proofs.Words.{increment-small}
 use Rattle.sheet_format.specs.Bytes.{digits, decimal}
 use Rattle.printing.specs.Output.{Written, written, emit, writeBytes, copyBytes, writeDigits, writeNumber, writeSymbol}
@@ -111,6 +112,21 @@ bytes-grow (b ∷ s) out limit at l = go (ltb limit at) refl (bytes-grow s (set 
     go : (c : Bool) → ltb limit at ≡ c → suc at ≤ writeBytes s (set out at b) limit (suc at) .at → at ≤ writeBytes (b ∷ s) out limit at .at
     go true e f = rw (bytes-over (b ∷ s) out limit at (ltb-true limit at e)) (omega arith)
     go false e f = rw (writeBytes, emit-within out limit at b l (ltb-false limit at e)) (omega arith)
+
+-- One byte leaves the buffer as long as it was.
+pub emit-long : (out : List ℕ) (limit at b : ℕ) → length (emit out limit at b .buffer) ≡ length out
+unfolding emit
+emit-long out limit at b = go (ltb limit at)
+  where
+    go : (c : Bool) → length (cond c (written out at) (written (set out at b) (increment at)) .buffer) ≡ length out
+    go true = refl
+    go false = length-set out at b
+
+-- So do any bytes.
+pub bytes-long : (s out : List ℕ) (limit at : ℕ) → length (writeBytes s out limit at .buffer) ≡ length out
+unfolding writeBytes
+bytes-long [] out limit at = refl
+bytes-long (b ∷ s) out limit at = bytes-long s (emit out limit at b .buffer) limit (emit out limit at b .at) ∙ emit-long out limit at b
 
 -- A buffer in which the bytes fit holds them.
 pub bytes-fit : (s before rest : List ℕ) (limit at : ℕ) → limit ≤ 65535 → at ≡ length before → at + length s ≤ limit

@@ -33,8 +33,8 @@ use Rattle.printing.specs.WriteTerms.{termTo}
 use Rattle.printing.specs.WriteLines.{bytesTo, numberTo, resultTo, plainBytes, termLine, bindingsTo, prefixTo, clauseTo, lineTo}
 use Rattle.printing.specs.WriteLines.{linesTo}
 use Rattle.printing.specs.PathLinks.{linkWord, linkPath, clearVariables}
-use Rattle.printing.specs.Writer.{textLimit, proofPass, prepare, firstLink, ownBytes, writeProof, shortPass, writeShort, writeNo}
-use Rattle.printing.specs.Writer.{writeSpent}
+use Rattle.printing.specs.Writer.{textLimit, proofPass, prepare, firstLink, ownBytes, appendProof, appendResult, copied, writeProof}
+use Rattle.printing.specs.Writer.{writeShort, writeNo, writeSpent}
 use Rattle.sheet_format.specs.Bytes.{ascii}
 use Rattle.memory.specs.Records.{field, putField}
 use Rattle.node_table.specs.Chains.{belowOf, chainNames, chainCount}
@@ -57,8 +57,7 @@ unfolding field putField cellOf levelOf putCell putLevel putEntry putGoal putAss
     withConstants wrote numberVariable numberConstant writeVariable writeConstant emitTo writeName writeFunctor separator argumentsBy
     bracketedBy applicationBy wordBy writeTerm termTo bytesTo numberTo resultTo plainBytes termLine bindingsTo prefixTo clauseTo lineTo
     linesTo linkWord linkPath clearConstants constantMark clearAtFirst clearVariables textLimit proofPass prepare firstLink ownBytes
-    writeProof shortPass
-    writeShort writeNo writeSpent ascii
+    appendProof appendResult copied writeProof writeShort writeNo writeSpent ascii
 computeAnswer sheet t clauses goal budget w out = writeProof sheet t goal (runMachine budget t clauses goal w) budget out
 
 -- "Goal every b some a p(a,b)", with the clause every z p(z,z), has the nodes V 0, V 1, p(0,0), U, p(0,1), E, U.

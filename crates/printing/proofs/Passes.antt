@@ -1,13 +1,14 @@
--- The pass, and the theorem: the answer buffer and the length are what `reportedLength` says of the answer text.
+-- The pass, and the theorems: a text is written after what stands before it, and the answer buffer and the length are what
+-- `reportedLength` says of the answer text.
 use Prim.Native.Nat.{ℕ, _+_, _≤_, _<_}
 use native.Mathlib.Omega.{arith}
-use mathlib.Core.Path.{_≡_, refl, sym, ap, _∙_, subst}
+use mathlib.Core.Path.{_≡_, refl, sym, ap, ap₂, _∙_, subst}
 use mathlib.Core.Bool.{Bool, true, false}
 use mathlib.Core.List.{List, [], _∷_, _++_, map, reverse}
 use lib.Dec.{ltb}
-use lib.ListN.{length, take, drop, length-reverse, length-replicate}
+use lib.ListN.{length, drop, length-append, length-reverse, length-replicate}
 use lib.Seq.{take-append-seam}
-use borrow.Author.Tests.{ltb-true, ltb-false, le-leb, lt-leb}
+use borrow.Author.Tests.{ltb-true, ltb-false, lt-ltb, le-ltb, le-leb, lt-leb}
 use Rattle.terms.proofs.Lists.{map-map}
 use Rattle.formulas.specs.Formulas.{freeG, freeVariables}
 use Rattle.sequents.specs.Symbols.{Symbol, made, leftover}
@@ -28,26 +29,24 @@ use Rattle.answer_texts.specs.Promises.{searchText}
 use Rattle.answer_texts.proofs.FirstShowings.{has}
 use Rattle.machine.specs.Records.{Made, provedMode}
 use Rattle.machine.specs.Simulation.{StandsAt}
-use Rattle.printing.specs.declared.Cursor.{Cursor}
 use Rattle.printing.specs.Output.{Written, written, emit, writeBytes}
 use Rattle.printing.specs.Numbering.{constantMark, Printer, printer}
 use Rattle.sheet_format.specs.Limits.{maxTextBytes}
 use Rattle.printing.specs.WriteLines.{resultTo, bindingsTo}
-use Rattle.printing.specs.Writer.{textLimit, noRoom, startCursor, proofPass, prepare, firstLink, Answered, answered, ownBytes}
-use Rattle.printing.specs.Writer.{writeProof, shortPass, writeShort, writeNo, writeSpent}
-use Rattle.printing.specs.Written.{Orderly, reportedLength, WritesProof, WritesNo, WritesSpent}
+use Rattle.printing.specs.Writer.{textLimit, noRoom, cursorFrom, proofPass, prepare, firstLink, ownBytes, appendProof}
+use Rattle.printing.specs.Writer.{appendResult, copied, writeProof, writeShort, writeNo, writeSpent}
+use Rattle.printing.specs.Written.{Orderly, reportedLength, Appended, AppendsProof, AppendsResult, WritesProof, WritesNo}
+use Rattle.printing.specs.Written.{WritesSpent}
 use Rattle.printing.specs.PathLinks.{nextLineField}
-use Rattle.printing.proofs.Bytes.{bytes-end, bytes-fit, bytes-append, number-bytes}
+use Rattle.printing.proofs.Bytes.{bytes-end, bytes-fit, bytes-long, bytes-append, number-bytes}
 use Rattle.printing.proofs.Tokens.{byte, steps, textTokens, tokens, tokens-append, signs, tokens-signs, spelled, tokens-spelled}
-use Rattle.printing.proofs.LeftAlone.{Alike, alike-trans, alike-fewer}
+use Rattle.printing.proofs.LeftAlone.{Alike}
 use Rattle.printing.proofs.Steps.{Right}
-use Rattle.printing.proofs.Reaching.{reaches-within, reaches-past}
 use Rattle.printing.proofs.TermSteps.{Basis}
 use Rattle.printing.proofs.LineSteps.{Reached, reach-alike, reach-kept, reach-as, reach-then, reach-result, reach-bindings}
 use Rattle.printing.proofs.PathSteps.{PathLine, pathLines, lineOf, lines-read, lines-few, reverse-map, Prepared, prepared, lineShown}
 use Rattle.printing.proofs.PathSteps.{reach-lines}
-use Rattle.printing.proofs.Numbered.{cellNumber, fieldNumber, Variable, Constant, Numbered, Due, due-first, due-again, Wrote}
-use Rattle.printing.proofs.Numbered.{steps-numbered}
+use Rattle.printing.proofs.Numbered.{cellNumber, fieldNumber, Variable, Constant, Numbered, due-first, Wrote, steps-numbered}
 use Rattle.memory.specs.Records.{field}
 
 -- Written or not, by the length of the text.
@@ -82,15 +81,6 @@ module _ (out : List ℕ) where
       → length text ≤ textLimit out
   counted-fits text buffer n e h = let z = bytes-end text buffer (textLimit out) 0 limit-low (omega arith) in omega arith
 
-  -- A text that fits is written into the writer's own bytes.
-  own-fits : (text : List ℕ) → length text ≤ textLimit out
-      → writeBytes text ownBytes (textLimit out) 0 ≡ written (text ++ drop (length text) ownBytes) (length text)
-  unfolding ownBytes
-  own-fits text h =
-      bytes-fit text [] ownBytes (textLimit out) 0 limit-low refl (omega arith)
-      (let r = limit-low in let l = length-replicate {A = ℕ} maxTextBytes 0 in omega arith)
-      ∙ ap (written (text ++ drop (length text) ownBytes)) (let e : 0 + length text ≡ length text = omega arith in e)
-
   -- Writing a text that fits writes it.
   written-fits : (text : List ℕ) → length text ≤ textLimit out → writeBytes text out (textLimit out) 0 ≡ reportedLength text out
   written-fits text h =
@@ -98,38 +88,89 @@ module _ (out : List ℕ) where
       ∙ ap (written (text ++ drop (length text) out)) (let e : 0 + length text ≡ length text = omega arith in e)
       ∙ sym (reported-fits text out h)
 
--- The texts of no and spent.
-short-bytes : (bs : List ℕ) (units : ℕ) (out : List ℕ) (limit : ℕ)
-    → shortPass bs units out limit ≡ writeBytes (bs ++ (decimal units ++ (lf ∷ []))) out limit 0
-unfolding shortPass writeBytes
-short-bytes bs units out limit =
-    let s = writeBytes bs out limit 0 in
+-- Bytes that are written after others follow them if they fit, and end past the limit if they do not.
+bytes-appended : (text : List ℕ) (limit : ℕ) → limit ≤ maxTextBytes → (front rest : List ℕ) → length front ≤ limit
+    → limit ≤ length (front ++ rest)
+    → Appended limit front text rest (writeBytes text (front ++ rest) limit (length front) .buffer)
+    (writeBytes text (front ++ rest) limit (length front) .at)
+bytes-appended text limit low front rest h room = record {
+  bytes = λ f. ap (λ (x : Written). x .buffer) (fit f);
+  position = λ f. ap (λ (x : Written). x .at) (fit f);
+  past = λ f. let e = bytes-end text (front ++ rest) limit (length front) low (omega arith) in omega arith;
+  long = bytes-long text (front ++ rest) limit (length front);
+}
+  where
+    fit : length front + length text ≤ limit
+        → writeBytes text (front ++ rest) limit (length front)
+        ≡ written (front ++ (text ++ drop (length text) rest)) (length front + length text)
+    fit f = bytes-fit text front rest limit (length front) low refl f (let l = length-append front rest in omega arith)
+
+-- A text at the front of the writer's own bytes is copied if it fits.
+pub copied-fits : (text rest out : List ℕ) → length text ≤ textLimit out
+    → copied (textLimit out) (text ++ rest) (length text) out ≡ reportedLength text out
+unfolding copied
+copied-fits text rest out h =
+    rw (copied, le-ltb (textLimit out) (length text) h)
+    (ap (λ (l : List ℕ). written (l ++ drop (length text) out) (length text)) (take-append-seam text rest)
+    ∙ sym (reported-fits text out h))
+
+-- A position past the limit stands for a text that does not fit: nothing is copied.
+pub copied-past : (text own out : List ℕ) (at : ℕ) → textLimit out < length text → textLimit out < at
+    → copied (textLimit out) own at out ≡ reportedLength text out
+unfolding copied
+copied-past text own out at h k = rw (copied, lt-ltb (textLimit out) at k) (sym (reported-long text out h))
+
+-- What was appended to no bytes is copied if it fits.
+appended-copied : (text rest own out : List ℕ) (at : ℕ) → Appended (textLimit out) [] text rest own at
+    → copied (textLimit out) own at out ≡ reportedLength text out
+appended-copied text rest own out at a = go (ltb (textLimit out) (length text)) refl
+  where
+    go : (b : Bool) → ltb (textLimit out) (length text) ≡ b → copied (textLimit out) own at out ≡ reportedLength text out
+    go true e = let h = ltb-true (textLimit out) (length text) e in copied-past text own out at h (a .past (omega arith))
+    go false e =
+        let h = ltb-false (textLimit out) (length text) e in
+        let z : 0 + length text ≡ length text = omega arith in
+        ap₂ (λ (o : List ℕ) (n : ℕ). copied (textLimit out) o n out) (a .bytes (omega arith)) (a .position (omega arith) ∙ z)
+        ∙ copied-fits text (drop (length text) rest) out h
+
+-- The R line of no or spent is one list of bytes.
+result-bytes : (bs : List ℕ) (units : ℕ) (own : List ℕ) (limit at : ℕ)
+    → appendResult bs units own limit at ≡ writeBytes (bs ++ (decimal units ++ (lf ∷ []))) own limit at
+unfolding appendResult writeBytes
+result-bytes bs units own limit at =
+    let s = writeBytes bs own limit at in
     ap (λ (n : Written). emit (n .buffer) limit (n .at) lf) (number-bytes units (s .buffer) limit (s .at))
     ∙ sym (bytes-append (decimal units) (lf ∷ []) (s .buffer) limit (s .at))
-    ∙ sym (bytes-append bs (decimal units ++ (lf ∷ [])) out limit 0)
+    ∙ sym (bytes-append bs (decimal units ++ (lf ∷ [])) own limit at)
+
+-- The R line is written after what stands before it.
+pub appends-result : AppendsResult
+appends-result bs units limit low front rest h room =
+    rw (result-bytes bs units (front ++ rest) limit (length front))
+    (bytes-appended (bs ++ (decimal units ++ (lf ∷ []))) limit low front rest h room)
 
 -- The texts of no and spent are written if they fit.
 short-reported : (bs : List ℕ) (units : ℕ) (out : List ℕ)
     → writeShort bs units out ≡ reportedLength (bs ++ (decimal units ++ (lf ∷ []))) out
 unfolding writeShort
-short-reported bs units out = go (ltb (textLimit out) (shortPass bs units [] (textLimit out) .at)) refl
+short-reported bs units out = go (ltb (textLimit out) (appendResult bs units [] (textLimit out) 0 .at)) refl
   where
     text : List ℕ
     text = bs ++ (decimal units ++ (lf ∷ []))
 
-    count : shortPass bs units [] (textLimit out) .at ≡ writeBytes text [] (textLimit out) 0 .at
-    count = ap (λ (s : Written). s .at) (short-bytes bs units [] (textLimit out))
+    count : appendResult bs units [] (textLimit out) 0 .at ≡ writeBytes text [] (textLimit out) 0 .at
+    count = ap (λ (s : Written). s .at) (result-bytes bs units [] (textLimit out) 0)
 
-    go : (b : Bool) → ltb (textLimit out) (shortPass bs units [] (textLimit out) .at) ≡ b
-        → _≡_ {A = Written} (elim b [ true ↦ written out noRoom | false ↦ shortPass bs units out (textLimit out) ])
+    go : (b : Bool) → ltb (textLimit out) (appendResult bs units [] (textLimit out) 0 .at) ≡ b
+        → _≡_ {A = Written} (elim b [ true ↦ written out noRoom | false ↦ appendResult bs units out (textLimit out) 0 ])
         (reportedLength text out)
     go true e =
-        sym (reported-long text out (counted-long out text [] (shortPass bs units [] (textLimit out) .at) count
-        (ltb-true (textLimit out) (shortPass bs units [] (textLimit out) .at) e)))
+        sym (reported-long text out (counted-long out text [] (appendResult bs units [] (textLimit out) 0 .at) count
+        (ltb-true (textLimit out) (appendResult bs units [] (textLimit out) 0 .at) e)))
     go false e =
-        short-bytes bs units out (textLimit out)
-        ∙ written-fits out text (counted-fits out text [] (shortPass bs units [] (textLimit out) .at) count
-        (ltb-false (textLimit out) (shortPass bs units [] (textLimit out) .at) e))
+        result-bytes bs units out (textLimit out) 0
+        ∙ written-fits out text (counted-fits out text [] (appendResult bs units [] (textLimit out) 0 .at) count
+        (ltb-false (textLimit out) (appendResult bs units [] (textLimit out) 0 .at) e))
 
 -- The text of no.
 pub writes-no : WritesNo
@@ -242,10 +283,14 @@ module _ (sheet t : List ℕ) (symbols nodes clauses goal : ℕ) (table : WellMa
       ap (λ (l : List Symbol). spelled (numberingOf l) (tokens ds lines)) (tokens-signs ds lines)
       ∙ tokens-spelled ds lines (numberingOf (shown lines))
 
-  -- The first pass begins with no number.
-  first-numbered : Numbered w (s .next) acts renaming 0 [] (prepare m) startCursor
+  -- The writer before the text: the path is linked, and nothing is numbered.
+  abbrev begun : List ℕ → ℕ → Printer
+  begun own at = printer (prepare m) own (cursorFrom at)
+
+  -- A pass begins with no number, at any position.
+  first-numbered : (at : ℕ) → Numbered w (s .next) acts renaming 0 [] (prepare m) (cursorFrom at)
   unfolding madeOnly leftoverOnly firsts has cellNumber fieldNumber constantMark Variable Constant Right
-  first-numbered = record {
+  first-numbered at = record {
     alike = ready .alike;
     variables = record { marks = λ z r. variable z r; counts = refl };
     constants = record { marks = λ z r. constant z r; counts = refl };
@@ -261,103 +306,88 @@ module _ (sheet t : List ℕ) (symbols nodes clauses goal : ℕ) (table : WellMa
       constant (made c k) r = refl
       constant (leftover x k) r = refl
 
-  -- The pass.
-  abbrev writing : List ℕ → Printer
-  writing out = proofPass sheet t acts (textLimit out) goal units (firstLink m) (printer (prepare m) ownBytes startCursor)
+  module _ (limit : ℕ) (low : limit ≤ maxTextBytes) (own : List ℕ) (at : ℕ) where
+    -- The pass.
+    abbrev writing : Printer
+    writing = proofPass sheet t acts limit goal units (firstLink m) (begun own at)
 
-  -- The tokens of the text.
-  abbrev spelling : List ℕ → Printer
-  spelling out = steps acts (textLimit out) (tokens ds lines) (printer (prepare m) ownBytes startCursor)
+    -- The tokens of the text.
+    abbrev spelling : Printer
+    spelling = steps acts limit (tokens ds lines) (begun own at)
 
-  -- The pass goes through the tokens.
-  writing-reached : (out : List ℕ) → Reached sheet t symbols nodes w acts s basis (textLimit out) (limit-low out) (tokens ds lines)
-      (printer (prepare m) ownBytes startCursor) (writing out)
-  writing-reached out = reach-pass (textLimit out) (limit-low out) (printer (prepare m) ownBytes startCursor) (ready .alike) (λ u. refl)
+    -- The pass goes through the tokens.
+    writing-reached : Reached sheet t symbols nodes w acts s basis limit low (tokens ds lines) (begun own at) writing
+    writing-reached = reach-pass limit low (begun own at) (ready .alike) (λ u. refl)
 
-  -- The tokens write the text, and number its symbols.
-  spelling-wrote : (out : List ℕ) → Wrote w (s .next) acts renaming 0 (textLimit out) (tokens ds lines) []
-      (printer (prepare m) ownBytes startCursor) (spelling out)
-  spelling-wrote out =
-      steps-numbered w (s .next) acts renaming 0 (o .room) (o .variables) (textLimit out) (limit-low out) (omega arith) (tokens ds lines) []
-      (printer (prepare m) ownBytes startCursor) (writing-reached out .right) (due-first [] (signs (tokens ds lines)))
-      (λ l. first-numbered)
+    -- The tokens write the text, and number its symbols.
+    spelling-wrote : Wrote w (s .next) acts renaming 0 limit (tokens ds lines) [] (begun own at) spelling
+    spelling-wrote =
+        steps-numbered w (s .next) acts renaming 0 (o .room) (o .variables) limit low (omega arith) (tokens ds lines) [] (begun own at)
+        (writing-reached .right) (due-first [] (signs (tokens ds lines))) (λ l. first-numbered at)
 
-  -- Where the tokens end is where the text does.
-  spelling-end : (out : List ℕ) → spelling out .cursor .at ≡ writeBytes text ownBytes (textLimit out) 0 .at
-  spelling-end out = ap (λ (x : Written). x .at) (spelling-wrote out .bytes)
+    -- Where the tokens end is where the text does.
+    spelling-end : spelling .cursor .at ≡ writeBytes text own limit at .at
+    spelling-end = ap (λ (x : Written). x .at) (spelling-wrote .bytes)
 
-  -- A pass that ends past the limit tells that the text does not fit.
-  writing-long : (out : List ℕ) → textLimit out < writing out .cursor .at → textLimit out < length text
-  writing-long out h =
-      counted-long out text ownBytes (spelling out .cursor .at) (spelling-end out)
-      (reaches-past w acts (textLimit out) (tokens ds lines) (printer (prepare m) ownBytes startCursor) (writing out)
-      (writing-reached out .reaches) h)
+    -- A text that ends within the limit is written.
+    writing-fits : writeBytes text own limit at .at ≤ limit
+        → written (writing .buffer) (writing .cursor .at) ≡ writeBytes text own limit at
+    writing-fits h =
+        ap (λ (p : Printer). written (p .buffer) (p .cursor .at))
+        (writing-reached .reaches .fits (subst (λ (n : ℕ). n ≤ limit) (sym spelling-end) h))
+        ∙ spelling-wrote .bytes
 
-  -- One that ends within the limit has gone through the whole text.
-  writing-whole : (out : List ℕ) → writing out .cursor .at ≤ textLimit out → writing out ≡ spelling out
-  writing-whole out h =
-      reaches-within w acts (textLimit out) (tokens ds lines) (printer (prepare m) ownBytes startCursor) (writing out)
-      (writing-reached out .reaches) h
+    -- If the text ends past the limit, so does the pass.
+    writing-past : limit < writeBytes text own limit at .at → limit < writing .cursor .at
+    writing-past h = writing-reached .reaches .over (subst (λ (n : ℕ). limit < n) (sym spelling-end) h)
 
-  -- A text that ends within the limit fits.
-  writing-fits : (out : List ℕ) → writing out .cursor .at ≤ textLimit out → length text ≤ textLimit out
-  writing-fits out h =
-      counted-fits out text ownBytes (spelling out .cursor .at) (spelling-end out)
-      (subst (λ (p : Printer). p .cursor .at ≤ textLimit out) (writing-whole out h) h)
+    -- What is left of the memory.
+    pub proof-alike : Alike 62 w (appendProof sheet t goal m units limit own at .memory)
+    unfolding appendProof
+    proof-alike =
+        reach-kept sheet t symbols nodes w acts s basis limit low (tokens ds lines) (begun own at) writing writing-reached (ready .alike)
 
-  -- The writer's own bytes begin with the text then.
-  writing-bytes : (out : List ℕ) → writing out .cursor .at ≤ textLimit out
-      → written (writing out .buffer) (writing out .cursor .at) ≡ written (text ++ drop (length text) ownBytes) (length text)
-  writing-bytes out h =
-      ap (λ (p : Printer). written (p .buffer) (p .cursor .at)) (writing-whole out h) ∙ spelling-wrote out .bytes
-      ∙ own-fits out text (writing-fits out h)
+  -- The text is written after what stands before it.
+  proof-appended : (limit : ℕ) → limit ≤ maxTextBytes → (front rest : List ℕ) → length front ≤ limit → limit ≤ length (front ++ rest)
+      → Appended limit front text rest (appendProof sheet t goal m units limit (front ++ rest) (length front) .buffer)
+      (appendProof sheet t goal m units limit (front ++ rest) (length front) .length)
+  unfolding appendProof
+  proof-appended limit low front rest h room = record {
+    bytes = λ f. ap (λ (x : Written). x .buffer) (fit f) ∙ a .bytes f;
+    position = λ f. ap (λ (x : Written). x .at) (fit f) ∙ a .position f;
+    past = λ f. writing-past limit low own at (a .past f);
+    long = writing-reached limit low own at .reaches .long;
+  }
+    where
+      own : List ℕ
+      own = front ++ rest
+
+      at : ℕ
+      at = length front
+
+      a : Appended limit front text rest (writeBytes text own limit at .buffer) (writeBytes text own limit at .at)
+      a = bytes-appended text limit low front rest h room
+
+      fit : length front + length text ≤ limit
+          → written (writing limit low own at .buffer) (writing limit low own at .cursor .at) ≡ writeBytes text own limit at
+      fit f = writing-fits limit low own at (let e = a .position f in omega arith)
 
   -- What the writer leaves in the answer buffer.
   proof-reported : (out : List ℕ)
       → written (writeProof sheet t goal m units out .buffer) (writeProof sheet t goal m units out .length) ≡ reportedLength text out
-  unfolding writeProof
-  proof-reported out = go (ltb (textLimit out) (writing out .cursor .at)) refl
-    where
-      g : Printer
-      g = writing out
+  unfolding writeProof ownBytes
+  proof-reported out =
+      let l = length-replicate {A = ℕ} maxTextBytes 0 in
+      let r = limit-low out in
+      appended-copied text ownBytes _ out _ (proof-appended (textLimit out) r [] ownBytes (omega arith) (omega arith))
 
-      result : Bool → Answered
-      result b = elim b [
-        | true ↦ answered (g .memory) out noRoom
-        | false ↦ answered (g .memory) (take (g .cursor .at) (g .buffer) ++ drop (g .cursor .at) out) (g .cursor .at)
-      ]
-
-      go : (b : Bool) → ltb (textLimit out) (g .cursor .at) ≡ b → written (result b .buffer) (result b .length) ≡ reportedLength text out
-      go true e = sym (reported-long text out (writing-long out (ltb-true (textLimit out) (g .cursor .at) e)))
-      go false e =
-          let h = ltb-false (textLimit out) (g .cursor .at) e in
-          ap (λ (x : Written). written (take (x .at) (x .buffer) ++ drop (x .at) out) (x .at)) (writing-bytes out h)
-          ∙ ap (λ (l : List ℕ). written (l ++ drop (length text) out) (length text))
-          (take-append-seam text (drop (length text) ownBytes))
-          ∙ sym (reported-fits text out (writing-fits out h))
-
-  -- What it leaves of the memory.
-  pub proof-alike : (out : List ℕ) → Alike 62 w (writeProof sheet t goal m units out .memory)
-  unfolding writeProof
-  proof-alike out = go (ltb (textLimit out) (writing out .cursor .at))
-    where
-      g : Printer
-      g = writing out
-
-      kept : Alike 62 w (g .memory)
-      kept =
-          reach-kept sheet t symbols nodes w acts s basis (textLimit out) (limit-low out) (tokens ds lines)
-          (printer (prepare m) ownBytes startCursor) g (writing-reached out) (ready .alike)
-
-      result : Bool → Answered
-      result b = elim b [
-        | true ↦ answered (g .memory) out noRoom
-        | false ↦ answered (g .memory) (take (g .cursor .at) (g .buffer) ++ drop (g .cursor .at) out) (g .cursor .at)
-      ]
-
-      go : (b : Bool) → Alike 62 w (result b .memory)
-      go true = kept
-      go false = kept
+-- The text of a proved search is written after what stands before it.
+pub appends-proof : AppendsProof
+appends-proof sheet t symbols nodes clauses goal table named m s path stands o units limit low front rest h room =
+    subst (λ (x : List ℕ). Appended limit front x rest (appendProof sheet t goal m units limit (front ++ rest) (length front) .buffer)
+    (appendProof sheet t goal m units limit (front ++ rest) (length front) .length))
+    (text-is sheet t symbols nodes clauses goal table named m s path stands o units)
+    (proof-appended sheet t symbols nodes clauses goal table named m s path stands o units limit low front rest h room)
 
 -- The writer writes the answer text of a proved search.
 pub writes-proof : WritesProof

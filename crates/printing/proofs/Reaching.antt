@@ -14,10 +14,10 @@ use Rattle.sheet_format.specs.Limits.{numbersPerUnit}
 use Rattle.printing.specs.Output.{Written, written, emit, writeBytes, writeSymbol}
 use Rattle.printing.specs.Numbering.{withPosition, Printer, wrote, writeVariable, writeConstant}
 use Rattle.printing.specs.WriteTerms.{emitTo}
-use Rattle.printing.proofs.Bytes.{emit-over, emit-within, bytes-over, bytes-grow, symbol-bytes}
+use Rattle.printing.proofs.Bytes.{emit-over, emit-within, bytes-over, bytes-grow, emit-long, symbol-bytes}
 use Rattle.printing.proofs.Tokens.{Token, byte, sign, showSymbol, step, steps, steps-append, signs}
 use Rattle.printing.proofs.LeftAlone.{Alike, alike-refl, alike-trans, alike-fewer}
-use Rattle.printing.proofs.Steps.{Right, write-grow, step-grow, steps-grow, steps-alike}
+use Rattle.printing.proofs.Steps.{Right, write-grow, step-grow, steps-grow, steps-long, steps-alike}
 
 -- Lower limits.
 
@@ -99,6 +99,7 @@ module _ (w : List ℕ) (acts : ℕ) where
     pub fits : steps acts limit ks g .cursor .at ≤ limit → g′ ≡ steps acts limit ks g
     pub over : limit < steps acts limit ks g .cursor .at → limit < g′ .cursor .at
     pub alike : Alike 62 w (g .memory) → Alike 63 (g .memory) (g′ .memory)
+    pub long : length (g′ .buffer) ≡ length (g .buffer)
 
   -- The memory of the printer stays alike to w.
   pub reaches-kept : (limit : ℕ) (ks : List Token) (g g′ : Printer) → Reaches limit ks g g′ → Alike 62 w (g .memory)
@@ -106,7 +107,7 @@ module _ (w : List ℕ) (acts : ℕ) where
   reaches-kept limit ks g g′ r a =
       alike-trans 62 w (g .memory) (g′ .memory) a (alike-fewer 63 62 (g .memory) (g′ .memory) (omega arith) (r .alike a))
 
-  -- Within the limit it is the steps of the tokens, and past it these do not fit.
+  -- Within the limit it is the steps of the tokens.
   pub reaches-within : (limit : ℕ) (ks : List Token) (g g′ : Printer) → Reaches limit ks g g′ → g′ .cursor .at ≤ limit
       → g′ ≡ steps acts limit ks g
   reaches-within limit ks g g′ r h = go (ltb limit (steps acts limit ks g .cursor .at)) refl
@@ -114,17 +115,6 @@ module _ (w : List ℕ) (acts : ℕ) where
       go : (c : Bool) → ltb limit (steps acts limit ks g .cursor .at) ≡ c → g′ ≡ steps acts limit ks g
       go true e = let q = r .over (ltb-true limit (steps acts limit ks g .cursor .at) e) in absurd (omega arith)
       go false e = r .fits (ltb-false limit (steps acts limit ks g .cursor .at) e)
-
-  pub reaches-past : (limit : ℕ) (ks : List Token) (g g′ : Printer) → Reaches limit ks g g′ → limit < g′ .cursor .at
-      → limit < steps acts limit ks g .cursor .at
-  reaches-past limit ks g g′ r h = go (ltb limit (steps acts limit ks g .cursor .at)) refl
-    where
-      go : (c : Bool) → ltb limit (steps acts limit ks g .cursor .at) ≡ c → limit < steps acts limit ks g .cursor .at
-      go true e = ltb-true limit (steps acts limit ks g .cursor .at) e
-      go false e =
-          let q = ltb-false limit (steps acts limit ks g .cursor .at) e in
-          let k = ap (λ (p : Printer). p .cursor .at) (r .fits q) in
-          absurd (omega arith)
 
   -- A rank that suffices still does.
   pub reaches-rank : (limit : ℕ) (ks : List Token) (g g′ : Printer) (rank : ℕ) → limit ≤ 65535 → Reaches limit ks g g′
@@ -145,6 +135,7 @@ module _ (w : List ℕ) (acts : ℕ) where
     fits = λ i. fits (subst (λ (r : Printer). r .cursor .at ≤ limit) e i) ∙ sym e;
     over = λ i. over (subst (λ (r : Printer). limit < r .cursor .at) e i);
     alike = alike;
+    long = q .long ∙ p .long;
   }
     where
       e : steps acts limit (x ++ y) f ≡ steps acts limit y (steps acts limit x f)
@@ -194,6 +185,7 @@ module _ (w : List ℕ) (acts : ℕ) where
     fits = λ i. fits (subst (λ (p : Printer). p .cursor .at ≤ limit) e i) ∙ sym e;
     over = λ i. over (subst (λ (p : Printer). limit < p .cursor .at) e i);
     alike = alike;
+    long = emit-long (g′ .buffer) limit (g′ .cursor .at) b ∙ r .long;
   }
     where
       e : steps acts limit (ks ++ (byte b ∷ [])) g ≡ emitTo limit (steps acts limit ks g) b
@@ -236,4 +228,5 @@ module _ (w : List ℕ) (acts : ℕ) where
       fits = λ h. refl;
       over = λ h. h;
       alike = λ a. steps-alike w next acts room few limit ks g right a;
+      long = steps-long acts limit ks g;
     })

@@ -12,11 +12,11 @@ use Rattle.sheet_format.specs.Limits.{numbersPerUnit}
 use Rattle.machine.specs.Records.{cellOf, putCell}
 use Rattle.machine.specs.Words.{tagOf}
 use Rattle.printing.specs.PathLinks.{clearVariables}
-use Rattle.printing.specs.Writer.{writeProof}
-use Rattle.printing.specs.Written.{variable, constant, TermWord, ofLeaf, ofClosure, Restores}
+use Rattle.printing.specs.Writer.{textLimit, ownBytes, appendProof, writeProof}
+use Rattle.printing.specs.Written.{variable, constant, TermWord, ofLeaf, ofClosure, RestoresAfter, Restores}
 use Rattle.machine.proofs.Records.{There, cell-same, cell-other}
 use Rattle.printing.proofs.LeftAlone.{there-from, Alike, alike-refl, alike-trans, alike-number}
-use Rattle.printing.proofs.Passes.{proof-alike}
+use Rattle.printing.proofs.Passes.{limit-low, proof-alike}
 
 -- `clear1` clears the number of one variable.
 clear1 : List ℕ → ℕ → List ℕ
@@ -80,9 +80,9 @@ module _ (acts : ℕ) where
       go false q f = let d = eqb-false x n q in f (let l = a .long in omega arith) (omega arith) (omega arith) (a .free x e)
 
 -- All that the search reads is restored.
-pub restores : Restores
+pub restores-after : RestoresAfter
 unfolding tagOf
-restores sheet t symbols nodes clauses goal table named m s path stands o units out = record {
+restores-after sheet t symbols nodes clauses goal table named m s path stands o units limit low own at = record {
   long = all .long;
   fields = all .fields;
   levels = all .levels;
@@ -90,10 +90,10 @@ restores sheet t symbols nodes clauses goal table named m s path stands o units 
 }
   where
     v : List ℕ
-    v = writeProof sheet t goal m units out .memory
+    v = appendProof sheet t goal m units limit own at .memory
 
     kept : Alike 62 (m .memory) v
-    kept = proof-alike sheet t symbols nodes clauses goal table named m s path stands o units out
+    kept = proof-alike sheet t symbols nodes clauses goal table named m s path stands o units limit low own at
 
     room : numbersPerUnit * m .registers .acts ≤ length v
     room = let a = kept .long in let r = o .room in omega arith
@@ -110,3 +110,9 @@ restores sheet t symbols nodes clauses goal table named m s path stands o units 
         → cellOf (clearVariables (s .next) v) x ≡ cellOf (m .memory) x
     cell x l (inl z) = clear-zero (m .registers .acts) (s .next) v x room (o .variables) l (kept .free x (ap tagOf z)) ∙ sym z
     cell x l (inr g) = all .bound x (tagged (cellOf (m .memory) x) g)
+
+-- So it is after the writer.
+pub restores : Restores
+unfolding writeProof
+restores sheet t symbols nodes clauses goal table named m s path stands o units out =
+    restores-after sheet t symbols nodes clauses goal table named m s path stands o units (textLimit out) (limit-low out) ownBytes 0

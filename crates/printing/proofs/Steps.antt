@@ -1,8 +1,8 @@
--- What a step from token to token changes: the position never falls, and the memory stays alike.
+-- What a step from token to token changes: the position never falls, the buffer keeps its length, and the memory stays alike.
 use Prim.Native.Nat.{ℕ, _*_, _≤_, _<_}
 use Prim.Native.Char.{code}
 use native.Mathlib.Omega.{arith}
-use mathlib.Core.Path.{_≡_, refl, ap}
+use mathlib.Core.Path.{_≡_, refl, ap, _∙_}
 use mathlib.Core.Bool.{Bool, true, false, cond}
 use mathlib.Core.List.{List, [], _∷_, _++_}
 use lib.Dec.{eqb, ltb}
@@ -20,7 +20,7 @@ use Rattle.printing.specs.Output.{writeSymbol}
 use Rattle.printing.specs.Numbering.{withPosition, withVariables, withConstants, Printer, wrote, numberedMemory, numberVariable}
 use Rattle.printing.specs.Numbering.{clearAtFirst, constantMark, numberConstant, writeVariable, writeConstant, constantNumberField}
 use Rattle.printing.specs.WriteTerms.{emitTo}
-use Rattle.printing.proofs.Bytes.{symbol-bytes, bytes-grow}
+use Rattle.printing.proofs.Bytes.{symbol-bytes, bytes-grow, emit-long, bytes-long}
 use Rattle.printing.proofs.PrinterStates.{emitted, printer-grow}
 use Rattle.printing.proofs.Tokens.{Token, byte, sign, showSymbol, step, steps, signs}
 use Rattle.printing.proofs.LeftAlone.{there-from, Alike, alike-refl, alike-trans, alike-fewer, alike-put, alike-number}
@@ -54,6 +54,10 @@ symbol-grow : (out : List ℕ) (limit at a c n k : ℕ) → limit ≤ 65535 → 
 symbol-grow out limit at a c n k l e =
     rw (symbol-bytes out limit a c n k) (let r = bytes-grow (c ∷ (decimal n ++ (code "@" ∷ decimal k))) out limit a l in omega arith)
 
+-- The buffer keeps its length.
+symbol-long : (out : List ℕ) (limit at c n k : ℕ) → length (writeSymbol out limit at c n k .buffer) ≡ length out
+symbol-long out limit at c n k = rw (symbol-bytes out limit at c n k) (bytes-long _ out limit at)
+
 -- The position never falls when a symbol is shown.
 pub write-grow : (turns limit : ℕ) (g : Printer) (s : Symbol) → limit ≤ 65535 → g .cursor .at ≤ showSymbol turns limit g s .cursor .at
 unfolding showSymbol writeVariable writeConstant wrote withPosition
@@ -79,6 +83,28 @@ steps-grow turns limit (k ∷ ks) g l =
     let a = step-grow turns limit g k l in
     let b = steps-grow turns limit ks (step turns limit g k) l in
     omega arith
+
+-- The buffer keeps its length when a symbol is shown.
+show-long : (turns limit : ℕ) (g : Printer) (s : Symbol) → length (showSymbol turns limit g s .buffer) ≡ length (g .buffer)
+unfolding showSymbol writeVariable writeConstant wrote
+show-long turns limit g (leftover x k) = symbol-long (g .buffer) limit _ _ _ _
+show-long turns limit g (made c k) = symbol-long (g .buffer) limit _ _ _ _
+
+-- The buffer keeps its length at a token.
+step-long : (turns limit : ℕ) (g : Printer) (k : Token) → length (step turns limit g k .buffer) ≡ length (g .buffer)
+unfolding step emitTo wrote
+step-long turns limit g (byte b) = emit-long (g .buffer) limit (g .cursor .at) b
+step-long turns limit g (sign s) = go (ltb limit (g .cursor .at))
+  where
+    go : (b : Bool) → length (cond b g (showSymbol turns limit g s) .buffer) ≡ length (g .buffer)
+    go true = refl
+    go false = show-long turns limit g s
+
+-- The buffer keeps its length at any number of tokens.
+pub steps-long : (turns limit : ℕ) (ks : List Token) (g : Printer) → length (steps turns limit ks g .buffer) ≡ length (g .buffer)
+unfolding steps
+steps-long turns limit [] g = refl
+steps-long turns limit (k ∷ ks) g = steps-long turns limit ks (step turns limit g k) ∙ step-long turns limit g k
 
 -- A number's word has tag 0.
 number-tag : (n : ℕ) → tagOf (truncate (4 * n)) ≡ 0

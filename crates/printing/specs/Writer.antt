@@ -1,5 +1,6 @@
--- The writer. The text of a proof is written into bytes of the writer's own, and where it fits they are copied into the answer buffer;
--- those of no and spent are counted first, and then written. So a text that does not fit (refusal 12) leaves the answer buffer alone.
+-- The writer. The text of a proof is written into bytes of the writer's own, after what they hold already, and where it fits they are
+-- copied into the answer buffer; those of no and spent alone are counted first, and then written. So a text that does not fit
+-- (refusal 12) leaves the answer buffer alone.
 use Prim.Native.Nat.{ℕ, min}
 use mathlib.Core.Bool.{true, false}
 use mathlib.Core.List.{List, [], _++_}
@@ -23,9 +24,9 @@ textLimit out = min maxTextBytes (length out)
 abbrev pub noRoom : ℕ
 noRoom = 65536
 
--- Nothing is written or numbered.
-abbrev pub startCursor : Cursor
-startCursor = record { at = 0; variables = 0; constants = 0 }
+-- The next byte goes to position `at`, and nothing is numbered.
+abbrev pub cursorFrom : ℕ → Cursor
+cursorFrom at = record { at = at; variables = 0; constants = 0 }
 
 -- The text of a proved search: the path begins at link e.
 unfoldable pub proofPass : List ℕ → List ℕ → ℕ → ℕ → ℕ → ℕ → ℕ → Printer → Printer
@@ -55,27 +56,35 @@ answered w out n = record { memory = w; buffer = out; length = n }
 unfoldable pub ownBytes : List ℕ
 ownBytes = replicate maxTextBytes 0
 
--- The text of a proved search, copied where it fits.
-unfoldable pub writeProof : List ℕ → List ℕ → ℕ → Made → ℕ → List ℕ → Answered
-writeProof sheet t goal m units out =
-    let g = proofPass sheet t (m .registers .acts) (textLimit out) goal units (firstLink m) (printer (prepare m) ownBytes startCursor) in
-    elim (ltb (textLimit out) (g .cursor .at)) [
-      | true ↦ answered (g .memory) out noRoom
-      | false ↦ answered (g .memory) (take (g .cursor .at) (g .buffer) ++ drop (g .cursor .at) out) (g .cursor .at)
-    ]
+-- The text of a proof, written after the first `at` bytes of the writer's own; a position past the limit tells that it does not fit.
+unfoldable pub appendProof : List ℕ → List ℕ → ℕ → Made → ℕ → ℕ → List ℕ → ℕ → Answered
+appendProof sheet t goal m units limit own at =
+    let g = proofPass sheet t (m .registers .acts) limit goal units (firstLink m) (printer (prepare m) own (cursorFrom at)) in
+    answered (g .memory) (g .buffer) (g .cursor .at)
 
--- The texts of no and spent: bs are the bytes before the units.
-unfoldable pub shortPass : List ℕ → ℕ → List ℕ → ℕ → Written
-shortPass bs units out limit =
-    let s = writeBytes bs out limit 0 in
+-- The R line of no or spent after the first `at` bytes: bs are the bytes before the units.
+unfoldable pub appendResult : List ℕ → ℕ → List ℕ → ℕ → ℕ → Written
+appendResult bs units own limit at =
+    let s = writeBytes bs own limit at in
     let n = writeNumber (s .buffer) limit (s .at) units in
     emit (n .buffer) limit (n .at) lf
 
--- Counted, and then written if it fits.
+-- The first `at` bytes of the writer's own, copied where they fit.
+unfoldable pub copied : ℕ → List ℕ → ℕ → List ℕ → Written
+copied limit own at out = elim (ltb limit at) [ true ↦ written out noRoom | false ↦ written (take at own ++ drop at out) at ]
+
+-- The text of a proved search, copied where it fits.
+unfoldable pub writeProof : List ℕ → List ℕ → ℕ → Made → ℕ → List ℕ → Answered
+writeProof sheet t goal m units out =
+    let a = appendProof sheet t goal m units (textLimit out) ownBytes 0 in
+    let c = copied (textLimit out) (a .buffer) (a .length) out in
+    answered (a .memory) (c .buffer) (c .at)
+
+-- A text of no or spent alone is counted, and then written if it fits.
 unfoldable pub writeShort : List ℕ → ℕ → List ℕ → Written
 writeShort bs units out =
-    elim (ltb (textLimit out) (shortPass bs units [] (textLimit out) .at))
-    [ true ↦ written out noRoom | false ↦ shortPass bs units out (textLimit out) ]
+    elim (ltb (textLimit out) (appendResult bs units [] (textLimit out) 0 .at))
+    [ true ↦ written out noRoom | false ↦ appendResult bs units out (textLimit out) 0 ]
 
 -- Writes the text of no.
 unfoldable pub writeNo : ℕ → List ℕ → Written

@@ -2,14 +2,15 @@
 use Prim.Native.Nat.{ℕ, zero, suc, _+_, _-_, _*_, _≤_, _<_}
 use mathlib.Core.Path.{_≡_}
 use mathlib.Core.Bool.{cond}
-use mathlib.Core.List.{List, _++_}
+use mathlib.Core.List.{List, [], _∷_, _++_}
 use mathlib.Core.Logic.{_⊎_}
 use lib.Dec.{leb}
 use lib.ListN.{length, drop}
 use Rattle.sequents.specs.Sequents.{Line}
 use Rattle.unification.specs.Store.{Leaf, Store}
 use Rattle.unification.specs.Promises.{Unbound, Formed}
-use Rattle.sheet_format.specs.Limits.{maxBudget, numbersPerUnit, variableNames}
+use Rattle.sheet_format.specs.Limits.{maxBudget, maxTextBytes, numbersPerUnit, variableNames}
+use Rattle.sheet_format.specs.Bytes.{lf, decimal}
 use Rattle.node_table.specs.Layout.{kindOf, applicationKind}
 use Rattle.search.specs.Search.{proved, ends, search}
 use Rattle.formulas.specs.Rules.{rules}
@@ -24,7 +25,7 @@ use Rattle.answer_texts.specs.Spelling.{noText, spentText}
 use Rattle.answer_texts.specs.Promises.{searchText}
 use Rattle.printing.specs.Output.{Written, written}
 use Rattle.printing.specs.PathLinks.{clearVariables, nextLineField}
-use Rattle.printing.specs.Writer.{textLimit, noRoom, writeProof, writeNo, writeSpent}
+use Rattle.printing.specs.Writer.{textLimit, noRoom, appendProof, appendResult, writeProof, writeNo, writeSpent}
 use Rattle.memory.specs.Records.{field}
 
 -- What holds of the machine's memory after a proved search, beside `StandsAt`. All of it is part of the simulation's invariant.
@@ -107,12 +108,43 @@ WritesNo = (units : ℕ) (out : List ℕ) → writeNo units out ≡ reportedLeng
 abbrev pub WritesSpent : Type 0
 WritesSpent = (budget : ℕ) (out : List ℕ) → writeSpent budget out ≡ reportedLength (spentText budget) out
 
+-- Where a text goes in the writer's own bytes, which hold `front` and then `rest`: it follows `front` if it fits, and the position is
+-- past the limit if it does not.
+pub record Appended (limit : ℕ) (front text rest own : List ℕ) (at : ℕ) : Type 0 where
+  pub bytes : length front + length text ≤ limit → own ≡ front ++ (text ++ drop (length text) rest)
+  pub position : length front + length text ≤ limit → at ≡ length front + length text
+  pub past : limit < length front + length text → limit < at
+  pub long : length own ≡ length (front ++ rest)
+
+-- The answer text is written after what stands before it, each text numbered by itself.
+abbrev pub AppendsProof : Type 0
+AppendsProof = (sheet t : List ℕ) (symbols nodes clauses goal : ℕ) → WellMade t nodes clauses goal → Named t nodes symbols
+    → (m : Made) (s : Store) (path : List (Line Leaf)) → StandsAt t m provedMode s path → Orderly t nodes m s → (units limit : ℕ)
+    → limit ≤ maxTextBytes → (front rest : List ℕ) → length front ≤ limit → limit ≤ length (front ++ rest)
+    → Appended limit front (searchText (decodeSheet sheet t symbols clauses goal) s path units) rest
+    (appendProof sheet t goal m units limit (front ++ rest) (length front) .buffer)
+    (appendProof sheet t goal m units limit (front ++ rest) (length front) .length)
+
+-- So is the R line of no or spent: bs are the bytes before the units.
+abbrev pub AppendsResult : Type 0
+AppendsResult = (bs : List ℕ) (units limit : ℕ) → limit ≤ maxTextBytes → (front rest : List ℕ) → length front ≤ limit
+    → limit ≤ length (front ++ rest)
+    → Appended limit front (bs ++ (decimal units ++ (lf ∷ []))) rest (appendResult bs units (front ++ rest) limit (length front) .buffer)
+    (appendResult bs units (front ++ rest) limit (length front) .at)
+
 -- With the numbers cleared, all that the search reads is as it was.
 pub record Restored (w w′ : List ℕ) (next : ℕ) : Type 0 where
   pub long : length w′ ≡ length w
   pub fields : (u f : ℕ) → fields.entryLowered ≤ f → f < nextLineField → field w′ u f ≡ field w u f
   pub levels : (x : ℕ) → levelOf w′ x ≡ levelOf w x
   pub cells : (x : ℕ) → x < next → cellOf w′ x ≡ cellOf w x
+
+-- It is so after a text was appended, wherever and whether or not it fits.
+abbrev pub RestoresAfter : Type 0
+RestoresAfter = (sheet t : List ℕ) (symbols nodes clauses goal : ℕ) → WellMade t nodes clauses goal → Named t nodes symbols
+    → (m : Made) (s : Store) (path : List (Line Leaf)) → StandsAt t m provedMode s path → Orderly t nodes m s → (units limit : ℕ)
+    → limit ≤ maxTextBytes → (own : List ℕ) (at : ℕ)
+    → Restored (m .memory) (clearVariables (s .next) (appendProof sheet t goal m units limit own at .memory)) (s .next)
 
 -- It is so after the writer.
 abbrev pub Restores : Type 0
