@@ -12,11 +12,13 @@ use Rattle.node_table.specs.Layout.{maskOf}
 use Rattle.machine.specs.declared.Registers.{Registers}
 use Rattle.machine.specs.Records.{made}
 use Rattle.printing.specs.declared.Cursor.{Cursor}
+use Rattle.printing.specs.Output.{Written, written}
 use Rattle.printing.specs.Numbering.{Printer, printer}
 use Rattle.printing.specs.WriteLines.{resultTo, bindingsTo, linesTo}
 use Rattle.printing.specs.PathLinks.{Linked, linked, linkPath}
 use Rattle.printing.proofs.Passes.{limit-room}
-use Rattle.printing.specs.Writer.{textLimit, startCursor, proofPass, prepare, firstLink, ownBytes, answered, writeProof}
+use Rattle.printing.specs.Writer.{textLimit, cursorFrom, proofPass, prepare, firstLink, ownBytes, Answered, answered, appendProof}
+use Rattle.printing.specs.Writer.{copied, writeProof}
 
 module _ (sheet t : List ℕ) (turns limit : ℕ) where
   -- The passes.
@@ -45,35 +47,47 @@ copy-more from to₀ to i hf ht e =
     ∙ ap (λ (k : ℕ). take (suc i) from ++ drop k to₀) y
     ∙ ap (λ (k : ℕ). take k from ++ drop (i + 1) to₀) x
 
--- The pass wrote the bytes o of the writer's own.
-module _ (sheet t : List ℕ) (goal : ℕ) (w : List ℕ) (r : Registers) (units : ℕ) (out : List ℕ) (limit e : ℕ) (w₁ w₂ o : List ℕ) (g : Cursor)
-    (el : limit ≡ textLimit out) (e₁ : linked w₁ e ≡ linked (prepare (made w r)) (firstLink (made w r)))
-    (e₂ : printer w₂ o g ≡ proofPass sheet t (r .acts) limit goal units e (printer w₁ ownBytes startCursor)) where
-  passed : printer w₂ o g ≡ proofPass sheet t (r .acts) (textLimit out) goal units (firstLink (made w r))
-      (printer (prepare (made w r)) ownBytes startCursor)
-  passed =
-      let a : e ≡ firstLink (made w r) = ap (λ (l : Linked). l .first) e₁ in
-      let b : w₁ ≡ prepare (made w r) = ap (λ (l : Linked). l .memory) e₁ in
-      rw (el, a, b) at e₂
+-- A text is appended by a pass over the linked path.
+pub text-appended : (sheet t : List ℕ) (goal : ℕ) (w : List ℕ) (r : Registers) (units limit : ℕ) (own : List ℕ) (at e : ℕ)
+    (w₁ w₂ o : List ℕ) (g : Cursor) → linked w₁ e ≡ linked (prepare (made w r)) (firstLink (made w r))
+    → printer w₂ o g ≡ proofPass sheet t (r .acts) limit goal units e (printer w₁ own (cursorFrom at))
+    → answered w₂ o (g .at) ≡ appendProof sheet t goal (made w r) units limit own at
+unfolding appendProof
+text-appended sheet t goal w r units limit own at e w₁ w₂ o g e₁ e₂ =
+    let a : e ≡ firstLink (made w r) = ap (λ (l : Linked). l .first) e₁ in
+    let b : w₁ ≡ prepare (made w r) = ap (λ (l : Linked). l .memory) e₁ in
+    let p : printer w₂ o g ≡ proofPass sheet t (r .acts) limit goal units (firstLink (made w r))
+    (printer (prepare (made w r)) own (cursorFrom at)) = rw (a, b) at e₂ in
+    ap (λ (x : Printer). answered (x .memory) (x .buffer) (x .cursor .at)) p
 
-  pub proof-unfit : limit < g .at → answered w₂ out 65536 ≡ writeProof sheet t goal (made w r) units out
-  unfolding writeProof
-  proof-unfit h =
-      let h′ : textLimit out < g .at = rw el at h in
-      simp (writeProof, ← passed, lt-ltb _ _ h′)
+-- Bytes that do not fit are not copied.
+pub copied-unfit : (own out : List ℕ) (limit at : ℕ) → limit < at → written out 65536 ≡ copied limit own at out
+unfolding copied
+copied-unfit own out limit at h = simp (copied, lt-ltb limit at h)
 
-  pub proof-fits : (out′ : List ℕ) (n : ℕ) → g .at ≤ limit → n ≡ g .at → out′ ≡ take n o ++ drop n out
-      → answered w₂ out′ (g .at) ≡ writeProof sheet t goal (made w r) units out
-  unfolding writeProof
-  proof-fits out′ n h en eo =
-      let h′ : g .at ≤ textLimit out = rw el at h in
-      rw (eo, en) (simp (writeProof, ← passed, le-ltb _ _ h′))
+-- Bytes that fit are copied.
+pub copied-front : (own out out′ : List ℕ) (limit at n : ℕ) → at ≤ limit → n ≡ at → out′ ≡ take n own ++ drop n out
+    → written out′ at ≡ copied limit own at out
+unfolding copied
+copied-front own out out′ limit at n h en eo = rw (eo, en) (simp (copied, le-ltb limit at h))
 
--- A text that is within the limit fits the writer's own bytes and the answer buffer.
-pub fits-both : (out o : List ℕ) (limit at n : ℕ) → limit ≡ textLimit out → limit ≤ 65535 → length o ≡ length ownBytes → at ≤ limit
-    → n ≡ at → (n ≤ length o) × (n ≤ length out)
+-- A text that fits is within the writer's own bytes, of which there are k, and the answer buffer.
+pub room-both : (out : List ℕ) (limit k : ℕ) → limit ≡ textLimit out → limit ≤ 65535 → k ≡ length ownBytes
+    → (limit ≤ k) × (limit ≤ length out)
 unfolding ownBytes
-fits-both out o limit at n el low eo h en =
+room-both out limit k el low ek =
     let l = length-replicate {A = ℕ} maxTextBytes 0 in
     let r = limit-room out in
-    (omega (arith, low, eo, l, h, en), omega (arith, r, el, h, en))
+    (omega (arith, low, ek, l), omega (arith, r, el))
+
+-- The text is appended to nothing, and copied.
+pub proof-written : (sheet t : List ℕ) (goal : ℕ) (w : List ℕ) (r : Registers) (units : ℕ) (out : List ℕ) (limit : ℕ) (w₁ own : List ℕ)
+    (at : ℕ) (out′ : List ℕ) (n : ℕ) → limit ≡ textLimit out
+    → answered w₁ own at ≡ appendProof sheet t goal (made w r) units limit ownBytes 0
+    → written out′ n ≡ copied limit own at out → answered w₁ out′ n ≡ writeProof sheet t goal (made w r) units out
+unfolding writeProof
+proof-written sheet t goal w r units out limit w₁ own at out′ n el e₁ e₂ =
+    let a : answered w₁ own at ≡ appendProof sheet t goal (made w r) units (textLimit out) ownBytes 0 = rw el at e₁ in
+    let b : written out′ n ≡ copied (textLimit out) own at out = rw el at e₂ in
+    ap (λ (x : Written). answered w₁ (x .buffer) (x .at)) b ∙ ap (λ (x : Answered). answered (x .memory)
+    (copied (textLimit out) (x .buffer) (x .length) out .buffer) (copied (textLimit out) (x .buffer) (x .length) out .at)) a

@@ -1,4 +1,5 @@
-// The answer printer: the text of a proof, written into bytes of its own and copied into the answer buffer where it fits.
+// The answer printer: texts of proofs, written one after another into bytes of its own, and copied into the answer buffer where
+// they fit.
 // Each function is a definition of the crate printing, and its contract says so.
 mod binding_lines;
 mod clause_lines;
@@ -22,9 +23,22 @@ ghost use mathlib.Core.List.{List, _++_};
 ghost use Prim.Native.Nat.{ℕ, _<_, _≤_};
 ghost use lib.ListN.{length, take, drop};
 ghost use Rattle.machine.specs.Records.{made};
+ghost use Rattle.printing.specs.Output.{written};
 ghost use Rattle.printing.specs.Numbering.{printer};
 ghost use Rattle.printing.specs.PathLinks.{linked};
-ghost use Rattle.printing.specs.Writer.{proofPass, prepare, firstLink, answered, writeProof};
+ghost use Rattle.printing.specs.Writer.{proofPass, prepare, firstLink, answered, appendProof, copied, writeProof};
+
+// The most bytes that may be written, and how many are.
+pub struct Room {
+    pub limit: u32,
+    pub at: u32,
+}
+
+// A search: the node of its goal, and its units.
+pub struct Search {
+    pub goal: u32,
+    pub units: u32,
+}
 
 // A proved search: the node of its goal, the units, and the link to the first line of its path.
 pub struct Proved {
@@ -72,7 +86,70 @@ fn copy_front(from: &[u8], to: &mut [u8], n: usize)
     }
 }
 
-// The answer of a proved search, and its length; 65,536 where it does not fit. Its bytes are copied once it is known to fit.
+// The text of a proved search, written after what `own` holds already and numbered from 0; the result is where it ends.
+fn append_text(
+    sheet: &[u8],
+    t: &[u32],
+    search: Search,
+    w: &mut [u32],
+    r: Registers,
+    own: &mut [u8],
+    room: Room,
+) -> u32
+    requires { ⌜ room .limit ≤ 65535 ⌝ }
+    ensures { λ n. ⌜ answered (now (w .exit)) (now (own .exit)) n ≡ appendProof (now (sheet .entry)) (now (t .entry)) (search .goal)
+        (made (now (w .entry)) r) (search .units) (room .limit) (now (own .entry)) (room .at) ⌝ }
+{
+    let path = prepare(w, r);
+    let bounds = Bounds {
+        turns: r.acts,
+        limit: room.limit,
+    };
+    let proved = Proved {
+        goal: search.goal,
+        units: search.units,
+        path,
+    };
+    let p = Cursor {
+        at: room.at,
+        variables: 0,
+        constants: 0,
+    };
+    let g = proof_pass(sheet, t, bounds, proved, w, own, p);
+    g.at
+}
+
+// The text of a proof that the machine has just found, after those of the proofs before it.
+pub fn append_proof(
+    sheet: &[u8],
+    t: &[u32],
+    goal: u32,
+    w: &mut [u32],
+    r: Registers,
+    own: &mut [u8],
+    room: Room,
+) -> u32
+    requires { ⌜ room .limit ≤ 65535 ⌝ }
+    ensures { λ n. ⌜ answered (now (w .exit)) (now (own .exit)) n ≡ appendProof (now (sheet .entry)) (now (t .entry)) goal
+        (made (now (w .entry)) r) (r .acts) (room .limit) (now (own .entry)) (room .at) ⌝ }
+{
+    let units = r.acts;
+    append_text(sheet, t, Search { goal, units }, w, r, own, room)
+}
+
+// The bytes of `own` that were written, copied once they are known to fit, and their number; 65,536 where they do not fit.
+pub fn copy_out(own: &[u8], room: Room, out: &mut [u8]) -> u32
+    requires { ⌜ (room .limit ≤ length (now own)) × (room .limit ≤ length (now out)) ⌝ }
+    ensures { λ n. ⌜ written (now (out .exit)) n ≡ copied (room .limit) (now (own .entry)) (room .at) (now (out .entry)) ⌝ }
+{
+    if room.limit < room.at {
+        return printing::NO_ROOM;
+    }
+    copy_front(own, out, widen(room.at));
+    room.at
+}
+
+// The answer of a proved search, and its length; 65,536 where it does not fit.
 pub fn write_proof(
     sheet: &[u8],
     t: &[u32],
@@ -86,22 +163,9 @@ pub fn write_proof(
         (made (now (w .entry)) r) units (now (out .entry)) ⌝ }
 {
     let limit = text_limit(out);
-    let bounds = Bounds {
-        turns: r.acts,
-        limit,
-    };
-    let path = prepare(w, r);
-    let proved = Proved { goal, units, path };
-    let p = Cursor {
-        at: 0,
-        variables: 0,
-        constants: 0,
-    };
+    let search = Search { goal, units };
+    let room = Room { limit, at: 0 };
     let mut own = [0u8; MAX_BYTES];
-    let g = proof_pass(sheet, t, bounds, proved, w, &mut own, p);
-    if limit < g.at {
-        return printing::NO_ROOM;
-    }
-    copy_front(&own, out, widen(g.at));
-    g.at
+    let at = append_text(sheet, t, search, w, r, &mut own, room);
+    copy_out(&own, Room { limit, at }, out)
 }
