@@ -9,11 +9,13 @@ import sys
 
 ROOT = os.path.join(os.path.dirname(os.path.abspath(__file__)), "..", "crates")
 STATEMENTS = [
-    ("engine_spec", "Promises", ["RunContract", "AnswersAsBefore", "AnswersWithoutNumbers", "CallersTold", "ToldAgain", "Retry", "BuffersDoNotMatter"]),
+    ("engine_spec", "Promises", ["RunContract", "AnswersAsBefore", "AnswersWithoutNumbers", "CallersTold", "ToldAgain", "Retry", "ToldMore", "BuffersDoNotMatter"]),
+    ("engine_spec", "OneProof", ["AnswersOnce", "FirstHanded"]),
+    ("engine_spec", "ProofNumbers", ["NumbersTurnedBack", "OnlyNumbersTurnedBack"]),
     ("checker_spec", "Promises", ["CheckContract", "CallersJudged", "BuffersDoNotMatter", "OldProofsCheck"]),
     ("engine_spec", "Orders", ["OneOutcome", "AnswersInFormerOrder", "OtherOrderLinesTurnedBack"]),
     ("checker_spec", "Orders", ["JudgedInFormerOrder", "OtherOrderLinesTurnedBack"]),
-    ("promises", "Accepted", ["RunChecks"]),
+    ("promises", "Accepted", ["RunChecks", "RunChecksWhole"]),
     ("engine_spec", "Handed", ["handed"]),
     ("checker_spec", "Handed", ["handed"]),
     ("rules", "RulesRun", ["RulesRun"]),

@@ -54,6 +54,31 @@ if ((compared < of_cases + 20)); then
     exit 1
 fi
 
+# Request W-202: of a text with several proofs each by itself is valid; more of the text is not, from the second R line on.
+of_texts=$compared
+for sheet in "$cases"/ways/*.sheet; do
+    text=${sheet%.sheet}.want
+    if [[ $(head -c 1 "$text") == R ]]; then
+        rm -f "$work"/part.*
+        awk -v part="$work/part." '/^R\t/ { number++ } { print > (part number) }' "$text"
+        for part in "$work"/part.*; do
+            if [[ $(head -c 8 "$part") == $'R\tproved' ]]; then
+                expect "$sheet" "$part" valid
+            else
+                expect "$sheet" "$part" $'not valid\t1'
+            fi
+        done
+        second=$(awk '/^R\t/ && ++number == 2 { print NR }' "$text")
+        if [[ -n $second ]]; then
+            expect "$sheet" "$text" $'not valid\t'"$second"
+        fi
+    fi
+done
+if ((compared < of_texts + 100)); then
+    echo "checker: only $((compared - of_texts)) parts of texts with several proofs found" >&2
+    exit 1
+fi
+
 # The checker knows neither the runner's answer buffer nor its budget: texts past them are valid too.
 boundaries=$(dirname "$cases")/boundaries.py
 for limit in 'text 16384' 'text 16385' 'units 257'; do

@@ -2,8 +2,8 @@
 """Computes the definitions `engineRun` and `checkText` on the stored cases and compares the whole result with the known one.
 
 The definitions are what a reader must believe, so they are run on outside vectors too: each case becomes an equation that the prover must
-accept by computation, in a copy of the repository (the crates below `promises` as rt ci proved them). Of a run: outcome, units and text, or
-refusal and line. Of a check: valid, or the line that breaks, or refusal and line, for the text of each case, for that text without its
+accept by computation, in a copy of the repository (the crates below `promises` as rt ci proved them). Of a run, for one proof or for several:
+outcome, units, number of proofs and text, or refusal and line. Of a check: valid, or the line that breaks, or refusal and line, for the text of each case, for that text without its
 last LF, without its last line and with a line more (document 01 says which line breaks), for the stored texts with their verdicts, and for
 damaged texts, as the independent implementation judges them (tests/reference)."""
 import glob
@@ -32,6 +32,8 @@ unfolding computeRun computeJudgement countLf checkSheet turnBackIf checkText
 computeCheck bytes text t w = checkText bytes text t w
 """
 OUTCOMES = {"proved": "reportedProved", "no": "reportedNo", "spent": "reportedSpent"}
+# The largest budget of a run for several proofs that is computed: the prover is slow.
+LARGEST_BUDGET = 2_000
 # Work numbers for a text of 300 lines; a text of more lines is refused, and the stored ones have fewer.
 WORK = 64 * 300
 
@@ -50,16 +52,20 @@ def byte_list(data):
     return "(" + " ++ (".join(parts) + ")" * len(parts)
 
 
-def ran(sheet, expected, budget=256):
-    """The equation of a run with 256 units, as document 01's sheet runner has it, or with another budget."""
+def ran(sheet, expected, budget=256, proofs=1, lent=(8192, 16384, 16384)):
+    """The equation of a run with 256 units for one proof, as document 01's sheet runner has it, or with other numbers. Handed back are
+    the outcome and units of the last R line and the number of proofs (W-202)."""
     if expected.startswith(b"X"):
         _, number, line = expected.decode().split("\t")
         right = f"turnedBack (refusal {number} {line.strip()})"
     else:
-        _, outcome, units = expected.split(b"\n")[0].decode().split("\t")
+        told = [line.split("\t")[1:] for line in expected.decode().split("\n") if line.startswith("R\t")]
+        outcome, units = told[-1]
+        found = sum(word == "proved" for word, _ in told)
         text = byte_list(expected)
-        right = f"answered (record {{ outcome = {OUTCOMES[outcome]}; units = {units}; text = {text} }})"
-    return f"computeRun {byte_list(sheet)} {budget} 8192 16384 16384 ≡ {right}", "computeRun"
+        right = f"answered (record {{ outcome = {OUTCOMES[outcome]}; units = {units}; proofs = {found}; text = {text} }})"
+    ask = f"(record {{ budget = {budget}; proofs = {proofs} }})"
+    return f"computeRun {byte_list(sheet)} {ask} {' '.join(map(str, lent))} ≡ {right}", "computeRun"
 
 
 def ran_at_its_units(sheet, expected):
@@ -141,6 +147,24 @@ def equations():
                     yield checked(sheet, text, reference(program, folder, sheet, text))
     for path in sorted(glob.glob(os.path.join(cases, "checks", "*.sheet"))):
         yield checked(stored(path, "sheet"), stored(path, "text"), verdict_of(stored(path, "verdict").decode()))
+    yield from several()
+
+
+def several():
+    """The runs for several proofs (W-202): budget, number of proofs, and the lengths of table, work and answer buffer. The first proof and
+    the last are valid, each by itself, and the text of more than one is not, at its second R line."""
+    for path in sorted(glob.glob(os.path.join(ROOT, "tests", "cases", "ways", "*.sheet"))):
+        sheet, want = stored(path, "sheet"), stored(path, "want")
+        budget, proofs, *lent = map(int, stored(path, "args").split())
+        if budget <= LARGEST_BUDGET:
+            yield ran(sheet, want, budget, proofs, lent)
+            parts = [b"R\t" + part for part in (b"\n" + want).split(b"\nR\t")[1:]]
+            parts = [part if part.endswith(b"\n") else part + b"\n" for part in parts]
+            found = [part for part in parts if part.startswith(b"R\tproved")]
+            for proof in found[:1] + found[1:][-1:]:
+                yield checked(sheet, proof, None)
+            if len(parts) > 1 and want.count(b"\n") <= WORK // 64:
+                yield checked(sheet, want, parts[0].count(b"\n") + 1)
 
 
 def main():

@@ -15,7 +15,7 @@ import tempfile
 
 TESTS = os.path.dirname(os.path.abspath(__file__))
 BUILT = os.path.join(TESTS, "target", "release")
-MAIN = "\nfn main() {\n    calls::apart::report(interface::run, interface::check)\n}\n"
+MAIN = "\nfn main() {\n    calls::apart::report(interface::run, interface::ask, interface::check)\n}\n"
 
 # The most seeds by which a wrong program must be told apart.
 SEEDS = 20_000
@@ -28,7 +28,7 @@ SECONDS = 300
 NOT_TOLD_APART = {"engine_clauses_side_first"}
 
 # The wrong programs of document 01 itself ("What a hurried programmer would do", "What the desk may rely on", c), two that show in the
-# text alone, and those of W-201, W-204, W-206 and W-207: the stored cases or texts must tell them apart too.
+# text alone, and those of W-201, W-204, W-206, W-207 and W-202: the stored cases or texts must tell them apart too.
 LISTED = {
     "engine_spent_at_once",
     "engine_units_off_by_one",
@@ -146,6 +146,44 @@ LISTED = {
     "o_line_without_word",
     "o_oldest_accepted",
     "orders_exchanged",
+    "engine_13_after_5",
+    "engine_13_after_the_sheet",
+    "engine_13_before_2",
+    "engine_13_before_3",
+    "engine_13_changes_buffers",
+    "engine_13_for_64",
+    "engine_13_in_two_bytes",
+    "engine_13_not_for_0",
+    "engine_13_not_for_65",
+    "engine_13_with_line_1",
+    "engine_ask_writes_five_numbers",
+    "engine_ways_alternatives_dropped",
+    "engine_ways_constants_numbered_on",
+    "engine_ways_earliest_taken_up",
+    "engine_ways_first_outcome",
+    "engine_ways_first_units",
+    "engine_ways_first_written_at_12",
+    "engine_ways_going_on_paid",
+    "engine_ways_last_first",
+    "engine_ways_last_line_past_the_answer",
+    "engine_ways_latest_dropped",
+    "engine_ways_members_dropped",
+    "engine_ways_no_after_the_number",
+    "engine_ways_no_line_missing",
+    "engine_ways_no_told_as_spent",
+    "engine_ways_number_asked_for",
+    "engine_ways_one_fewer",
+    "engine_ways_one_more",
+    "engine_ways_r_lines_counted",
+    "engine_ways_same_answers_left_out",
+    "engine_ways_several_past_65535",
+    "engine_ways_sides_dropped",
+    "engine_ways_spent_line_missing",
+    "engine_ways_spent_tells_last_proof",
+    "engine_ways_spent_told_as_no",
+    "engine_ways_units_of_each_alone",
+    "engine_ways_variables_numbered_on",
+    "engine_ways_walk_restarted",
 }
 
 # These find proofs where there are none, and the checker must turn them down. Without the occurs check a false proof holds an endless

@@ -1,7 +1,7 @@
 #!/usr/bin/env bash
 # The C interface and the Rust bindings with a library: tests/interface.sh [LIBRARY]
 # The C example, compiled as C and as C++, and the Rust example must print the rehearsed answers of document 01 and the
-# known answer of every stored case, and `valid` after each proof. Each buffer may be a null pointer with length 0.
+# known answer of every stored case, and `valid` for each proof. Each buffer may be a null pointer with length 0.
 set -euo pipefail
 cd "$(dirname "$0")/.."
 library=$(realpath "${1:-${RULES_LIBRARY:-target/staticlib/librules.a}}")
@@ -22,7 +22,7 @@ cp bindings/rust/target/release/examples/answer "$work/rust"
 "$work/nullxx"
 
 compared=0
-# expect FILE SHEET [BUDGET [ANSWER_BYTES]]: what all three print for a sheet.
+# expect FILE SHEET [BUDGET [ANSWER_BYTES [PROOFS]]]: what all three print for a sheet.
 expect() {
     local expected=$1 program
     shift
@@ -35,7 +35,7 @@ expect() {
         compared=$((compared + 1))
     done
 }
-# expect_text TEXT SHEET [BUDGET [ANSWER_BYTES]]
+# expect_text TEXT SHEET [BUDGET [ANSWER_BYTES [PROOFS]]]
 expect_text() {
     printf '%b' "$1" >"$work/expected"
     shift
@@ -101,5 +101,23 @@ for sheet in tests/cases/w206_*.sheet; do
     fi
     expect "$work/expected" "$sheet" "$units"
     expect_text "R\\tspent\\t$((units - 1))\\n" "$sheet" $((units - 1))
+done
+# Request W-202: the runs for several proofs, each of which is checked by itself. The examples bring their own table and work buffer, so
+# the cases in which these are too short are left out, but for those in which another refusal comes first.
+for sheet in tests/cases/ways/*.sheet; do
+    read -r budget proofs _ _ answer <"${sheet%.sheet}.args"
+    cp "${sheet%.sheet}.want" "$work/expected"
+    case $(head -c 3 "$work/expected") in
+    $'X\t2' | $'X\t5') continue ;;
+    esac
+    sed -n 's/^R\tproved\t.*/valid/p' "${sheet%.sheet}.want" >>"$work/expected"
+    # No text is over 65,535 bytes, so a longer buffer answers as one of so many.
+    expect "$work/expected" "$sheet" "$budget" $((answer < 65535 ? answer : 65535)) "$proofs"
+done
+# One proof asked for is what rules_run finds.
+for sheet in tests/cases/*.sheet; do
+    cp "${sheet%.sheet}.256" "$work/expected"
+    sed -n 's/^R\tproved\t.*/valid/p' "${sheet%.sheet}.256" >>"$work/expected"
+    expect "$work/expected" "$sheet" 256 16384 1
 done
 echo "interface: $compared outputs of the C, C++ and Rust examples, all as expected"

@@ -1,5 +1,5 @@
-/* Each buffer of rules_run and rules_check as a null pointer with length 0: an empty buffer like any other.
- * Prints nothing and exits with 0 if every answer is the one that document 01 gives to an empty buffer. */
+/* Each buffer of rules_run, rules_ask and rules_check as a null pointer with length 0: an empty buffer like any other.
+ * Prints nothing and exits with 0 if every answer is the one that the documents give to an empty buffer. */
 #include "rules.h"
 
 #include <stdio.h>
@@ -13,7 +13,8 @@ static const char text[] = "R\tproved\t3\nD\tclause\t1\n";
 static uint32_t table[RULES_TABLE_NUMBERS];
 static uint32_t work[RULES_WORK_NUMBERS * UNITS];
 static uint8_t answer[64];
-static uint32_t result[RULES_RUN_RESULTS];
+static const uint32_t request[RULES_ASK_NUMBERS] = {UNITS, 2};
+static uint32_t result[RULES_ASK_RESULTS];
 static int failures;
 
 static void expect(const char *name, uint32_t returned, uint32_t outcome, uint32_t number, uint32_t line,
@@ -39,6 +40,20 @@ static void run(const char *name, int null, uint32_t outcome, uint32_t number, u
     expect(name, returned, outcome, number, line, result[RULES_RUN_REFUSAL], result[RULES_RUN_LINE]);
 }
 
+/* The same for two proofs; without a request the budget is 0. */
+static void ask(const char *name, int null, uint32_t outcome, uint32_t number, uint32_t line)
+{
+    uint32_t returned;
+
+    memset(result, 0, sizeof result);
+    returned = rules_ask(null == 0 ? NULL : (const uint8_t *)sheet, null == 0 ? 0 : sizeof sheet - 1,
+                         null == 1 ? NULL : request, null == 1 ? 0 : RULES_ASK_NUMBERS, null == 2 ? NULL : table,
+                         null == 2 ? 0 : RULES_TABLE_NUMBERS, null == 3 ? NULL : work,
+                         null == 3 ? 0 : RULES_WORK_NUMBERS * UNITS, null == 4 ? NULL : answer,
+                         null == 4 ? 0 : sizeof answer, null == 5 ? NULL : result, null == 5 ? 0 : RULES_ASK_RESULTS);
+    expect(name, returned, outcome, number, line, result[RULES_RUN_REFUSAL], result[RULES_RUN_LINE]);
+}
+
 static void check(const char *name, int null, uint32_t verdict, uint32_t number, uint32_t line)
 {
     uint32_t returned;
@@ -60,6 +75,13 @@ int main(void)
     run("run, work", 2, RULES_RUN_REFUSED, 5, 0);
     run("run, answer", 3, RULES_RUN_REFUSED, 12, 0);
     run("run, result", 4, RULES_PROVED, 0, 0);
+    ask("ask, none", -1, RULES_NO, 0, 0);
+    ask("ask, sheet", 0, RULES_RUN_REFUSED, 11, 1);
+    ask("ask, request", 1, RULES_RUN_REFUSED, 3, 0);
+    ask("ask, table", 2, RULES_RUN_REFUSED, 2, 0);
+    ask("ask, work", 3, RULES_RUN_REFUSED, 5, 0);
+    ask("ask, answer", 4, RULES_RUN_REFUSED, 12, 0);
+    ask("ask, result", 5, RULES_NO, 0, 0);
     check("check, none", -1, RULES_VALID, 0, 0);
     check("check, sheet", 0, RULES_CHECK_REFUSED, 11, 1);
     check("check, text", 1, RULES_NOT_VALID, 0, 1);

@@ -1,6 +1,7 @@
 #!/usr/bin/env bash
 # The sheet runner on every stored case, byte for byte: tests/runner.sh PROGRAM [ARGUMENT...]
-# The program reads a sheet from standard input and prints its answer text, or `X`, number and line.
+# The program reads a sheet from standard input and prints its answer text, or `X`, number and line. With a number as its last argument
+# it asks for so many proofs.
 set -euo pipefail
 if [[ $# -eq 0 ]]; then
     echo "usage: tests/runner.sh PROGRAM [ARGUMENT...]" >&2
@@ -56,6 +57,35 @@ python3 "$boundaries" text 16385 "$work/limit"
 expect_text 'text 16385' 'X\t12\t0\n' "$@" <"$work/limit.sheet"
 python3 "$boundaries" units 257 "$work/limit"
 expect_text 'units 257' 'R\tspent\t256\n' "$@" <"$work/limit.sheet"
+
+# Request W-202: with a number it prints the text with at most so many proofs; what is no number from 1 to 64 is refusal 13. The stored
+# runs with the runner's budget and a table that is long enough; those that are refused under 12 have a shorter answer buffer.
+before=$compared
+for sheet in "$cases"/ways/*.sheet; do
+    read -r budget proofs table _ <"${sheet%.sheet}.args"
+    want=${sheet%.sheet}.want
+    if ((budget == 256 && table >= 8192)) && [[ $(head -c 4 "$want") != $'X\t12' ]]; then
+        expect "$(basename "$sheet")" "$want" "$@" "$proofs" <"$sheet"
+    fi
+done
+if ((compared < before + 10)); then
+    echo "runner: only $((compared - before)) stored runs for several proofs found" >&2
+    exit 1
+fi
+for sheet in "$cases"/s01_*.sheet; do
+    expect "$(basename "$sheet") 1" "${sheet%.sheet}.256" "$@" 1 <"$sheet"
+done
+strobe=$cases/s01_strobe.sheet
+expect_text '64 proofs' 'R\tproved\t3\nD\tclause\t1\nR\tno\t3\n' "$@" 64 <"$strobe"
+for none in '' 0 00 01 65 064 100 65535 65536 65537 4294967296 4294967297 18446744073709551617 +1 -1 ' 1' '1 ' 1x x 1.0 $'1\n' $'1\t1'; do
+    expect_text "argument '$none'" 'X\t13\t0\n' "$@" "$none" <"$strobe"
+done
+# The answer buffer's limit is the whole text's: four proofs of 16,384 bytes are told, with the line after them or one byte more it is 12.
+python3 "$boundaries" proofs 16384 "$work/limit"
+expect 'proofs 16384' "$work/limit.text" "$@" 4 <"$work/limit.sheet"
+expect_text 'proofs 16384 and no' 'X\t12\t0\n' "$@" 5 <"$work/limit.sheet"
+python3 "$boundaries" proofs 16385 "$work/limit"
+expect_text 'proofs 16385' 'X\t12\t0\n' "$@" 4 <"$work/limit.sheet"
 
 # A sheet that comes in pieces is one sheet.
 mkfifo "$work/pipe"

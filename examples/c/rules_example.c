@@ -1,7 +1,7 @@
-/* Runs a sheet, prints the answer, and checks it: rules_example SHEET [BUDGET [ANSWER_BYTES]]
+/* Runs a sheet, prints the answer, and checks it: rules_example SHEET [BUDGET [ANSWER_BYTES [PROOFS]]]
  *
- * Prints the answer text and, if it is a proof, the checker's verdict; for a refusal `X`, its number and its line.
- * Compiles as C99 and as C++.
+ * Prints the answer text and then the checker's verdict on its proof, or, where a number of proofs is given, on each in
+ * order; for a refusal `X`, its number and its line. Compiles as C99 and as C++.
  */
 #include "rules.h"
 
@@ -34,8 +34,8 @@ static void print_refusal(uint32_t number, uint32_t line)
     printf("X\t%lu\t%lu\n", (unsigned long)number, (unsigned long)line);
 }
 
-/* Checks the text of a proof; gives the exit status. */
-static int check(size_t sheet_len, size_t text_len)
+/* Checks a proof; gives the exit status. */
+static int check(size_t sheet_len, const uint8_t *text, size_t text_len)
 {
     uint32_t result[RULES_CHECK_RESULTS];
     size_t lines = 0;
@@ -44,9 +44,9 @@ static int check(size_t sheet_len, size_t text_len)
     uint32_t verdict;
 
     for (i = 0; i < text_len; i++)
-        lines += answer[i] == '\n';
+        lines += text[i] == '\n';
     work = work_buffer(lines);
-    verdict = rules_check(sheet, sheet_len, answer, text_len, table, RULES_TABLE_NUMBERS, work,
+    verdict = rules_check(sheet, sheet_len, text, text_len, table, RULES_TABLE_NUMBERS, work,
                           lines * RULES_WORK_NUMBERS, result, RULES_CHECK_RESULTS);
     free(work);
     if (verdict == RULES_VALID)
@@ -58,9 +58,26 @@ static int check(size_t sheet_len, size_t text_len)
     return verdict == RULES_VALID ? 0 : 1;
 }
 
+/* Checks so many proofs of the answer text, each by itself: it ends where the next R line starts. */
+static int check_proofs(size_t sheet_len, size_t text_len, uint32_t proofs)
+{
+    size_t start = 0;
+    int status = 0;
+
+    for (; proofs > 0; proofs--) {
+        size_t end = start + 1;
+        while (end < text_len && !(answer[end - 1] == '\n' && answer[end] == 'R'))
+            end++;
+        status |= check(sheet_len, answer + start, end - start);
+        start = end;
+    }
+    return status;
+}
+
 int main(int argc, char **argv)
 {
-    uint32_t result[RULES_RUN_RESULTS];
+    uint32_t result[RULES_ASK_RESULTS];
+    uint32_t request[RULES_ASK_NUMBERS];
     uint32_t budget = (uint32_t)argument(argc, argv, 2, 256);
     size_t answer_len = argument(argc, argv, 3, RULES_TEXT_BYTES);
     size_t units = budget < RULES_LARGEST_BUDGET ? budget : RULES_LARGEST_BUDGET;
@@ -70,7 +87,7 @@ int main(int argc, char **argv)
     FILE *file;
 
     if (argc < 2 || answer_len > RULES_TEXT_BYTES) {
-        fprintf(stderr, "usage: rules_example SHEET [BUDGET [ANSWER_BYTES]]\n");
+        fprintf(stderr, "usage: rules_example SHEET [BUDGET [ANSWER_BYTES [PROOFS]]]\n");
         return 2;
     }
     file = fopen(argv[1], "rb");
@@ -82,13 +99,21 @@ int main(int argc, char **argv)
     fclose(file);
 
     work = work_buffer(units);
-    outcome = rules_run(sheet, sheet_len, budget, table, RULES_TABLE_NUMBERS, work, units * RULES_WORK_NUMBERS, answer,
-                        answer_len, result, RULES_RUN_RESULTS);
+    if (argc < 5) {
+        outcome = rules_run(sheet, sheet_len, budget, table, RULES_TABLE_NUMBERS, work, units * RULES_WORK_NUMBERS,
+                            answer, answer_len, result, RULES_RUN_RESULTS);
+        result[RULES_RUN_PROOFS] = outcome == RULES_PROVED;
+    } else {
+        request[RULES_ASK_BUDGET] = budget;
+        request[RULES_ASK_PROOFS] = (uint32_t)argument(argc, argv, 4, 1);
+        outcome = rules_ask(sheet, sheet_len, request, RULES_ASK_NUMBERS, table, RULES_TABLE_NUMBERS, work,
+                            units * RULES_WORK_NUMBERS, answer, answer_len, result, RULES_ASK_RESULTS);
+    }
     free(work);
     if (outcome == RULES_RUN_REFUSED) {
         print_refusal(result[RULES_RUN_REFUSAL], result[RULES_RUN_LINE]);
         return 0;
     }
     fwrite(answer, 1, result[RULES_RUN_LENGTH], stdout);
-    return outcome == RULES_PROVED ? check(sheet_len, result[RULES_RUN_LENGTH]) : 0;
+    return check_proofs(sheet_len, result[RULES_RUN_LENGTH], result[RULES_RUN_PROOFS]);
 }

@@ -11,8 +11,8 @@ ghost use Rattle.machine.specs.Records.{made};
 ghost use Rattle.engine.specs.Answering.{reported, reply, reportOutcome};
 
 // A text of this length was written, or did not fit.
-fn fitting_run(outcome: Outcome, units: u32, length: u32) -> Run
-    ensures { λ r. ⌜ r ≡ reported outcome units length ⌝ }
+pub fn fitting_run(outcome: Outcome, units: u32, proofs: u32, length: u32) -> Run
+    ensures { λ r. ⌜ r ≡ reported outcome units proofs length ⌝ }
 {
     if limits::MAX_TEXT_BYTES < length {
         return outcomes::refused_run(refusals::ANSWER_TOO_LONG, 0);
@@ -20,11 +20,12 @@ fn fitting_run(outcome: Outcome, units: u32, length: u32) -> Run
     Run {
         outcome,
         units,
+        proofs,
         length,
     }
 }
 
-// The text of what the machine came to, and what is told of it.
+// The text of what the machine came to, and what is told of it, where one proof is asked for.
 pub fn report_outcome(
     sheet: &[u8],
     t: &[u32],
@@ -40,12 +41,12 @@ pub fn report_outcome(
     let acts = r.acts;
     if r.mode == modes::PROVED {
         let n = answer_printer::write_proof(sheet, t, goal, w, r, acts, answer);
-        return fitting_run(Outcome::Proved, acts, n);
+        return fitting_run(Outcome::Proved, acts, 1, n);
     }
     if r.mode == modes::NO {
         let n = answer_printer::short_texts::write_no(acts, answer);
-        return fitting_run(Outcome::No, acts, n);
+        return fitting_run(Outcome::No, acts, 0, n);
     }
     let n = answer_printer::short_texts::write_spent(budget, answer);
-    fitting_run(Outcome::Spent, budget, n)
+    fitting_run(Outcome::Spent, budget, 0, n)
 }

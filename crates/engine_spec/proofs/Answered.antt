@@ -1,35 +1,37 @@
--- When a run answers, and with what: none of refusals 1 to 5 arose, the bytes are a sheet, and its answer fits.
-use Prim.Native.Nat.{ℕ, _≤_, _<_}
-use mathlib.Core.Path.{_≡_, refl, sym, _∙_, ap}
+-- When a run answers, and with what: none of refusals 1 to 5 and 13 arose, the bytes are a sheet, and its answer fits.
+use Prim.Native.Nat.{ℕ, _≤_}
+use mathlib.Core.Path.{_≡_, refl, sym}
 use mathlib.Core.Bool.{Bool, true, false, _||_, cond}
 use mathlib.Core.List.{List}
 use mathlib.Core.Logic.{_⊎_, inl, inr}
 use native.Mathlib.Omega.{arith}
 use lib.Dec.{eqb, ltb}
 use lib.ListN.{length}
-use borrow.Author.Tests.{ltb-true, ltb-false, eqb-false, lt-ltb, le-ltb, eq-eqb, ne-eqb}
-use Rattle.search.specs.Search.{SearchOutcome, search}
-use Rattle.sheet_format.specs.Limits.{maxSheetBytes, tableNumbers, maxBudget, maxTextBytes}
-use Rattle.sheet_format.specs.Sheets.{Sheet, rulesOf, Refusal, refusal, Read, sheet, refused, readSheet, turnBackIf}
+use borrow.Author.Tests.{ltb-false, eqb-false, le-ltb, ne-eqb}
+use Rattle.sheet_format.specs.Limits.{maxSheetBytes, tableNumbers, maxBudget, maxProofs, maxTextBytes}
+use Rattle.sheet_format.specs.Sheets.{Sheet, Refusal, refusal, Read, sheet, refused, readSheet, turnBackIf}
 use Rattle.sheet_format.specs.Buffers.{demanded}
-use Rattle.engine_spec.specs.EngineRun.{Answer, Result, answered, turnedBack, answerTo, fit, runSheet, engineRun, engineRunBy}
+use Rattle.engine_spec.specs.EngineRun.{Request, Answer, Result, answered, turnedBack, enumerationOf, answerTo, fit, runSheet}
+use Rattle.engine_spec.specs.EngineRun.{engineRun, engineRunBy}
 
--- The tests of refusals 1, 2, 3 and 5 all fail.
-pub record Passed (bytes : List ℕ) (budget t w : ℕ) : Type 0 where
+-- The tests of refusals 1, 2, 3, 13 and 5 all fail.
+pub record Passed (bytes : List ℕ) (ask : Request) (t w : ℕ) : Type 0 where
   pub sheetFits : length bytes ≤ maxSheetBytes
   pub tableFits : tableNumbers ≤ t
-  pub least : 1 ≤ budget
-  pub most : budget ≤ maxBudget
-  pub workFits : demanded budget ≤ w
+  pub least : 1 ≤ ask .budget
+  pub most : ask .budget ≤ maxBudget
+  pub leastProofs : 1 ≤ ask .proofs
+  pub mostProofs : ask .proofs ≤ maxProofs
+  pub workFits : demanded (ask .budget) ≤ w
 
 -- The run answers x for the sheet s.
-pub record Answers (bytes : List ℕ) (budget t w a : ℕ) (x : Answer) : Type 0 where
-  pub passed : Passed bytes budget t w
+pub record Answers (bytes : List ℕ) (ask : Request) (t w a : ℕ) (x : Answer) : Type 0 where
+  pub passed : Passed bytes ask t w
   pub s : Sheet
   pub read : readSheet bytes ≡ sheet s
   pub textFits : length (x .text) ≤ maxTextBytes
   pub bufferFits : length (x .text) ≤ a
-  pub is : x ≡ answerTo s budget (search budget (rulesOf s) (s .goal))
+  pub is : x ≡ answerTo s (ask .budget) (enumerationOf s ask)
 
 -- A refusal is no answer.
 refused-answered : (r : Refusal) (x : Answer) → turnedBack r ≡ answered x → ⊥
@@ -55,30 +57,34 @@ fit-answered a y x e = go (ltb maxTextBytes (length (y .text)) || ltb a (length 
     go true q e = absurd (refused-answered (refusal 12 0) x e)
     go false q e = let r = or-false _ _ q in (cc, ltb-false _ _ (r .0), ltb-false _ _ (r .1))
 
-runSheet-answered : (budget a : ℕ) (r : Read) (x : Answer) → runSheet budget a r ≡ answered x
-    → (s : Sheet) × (r ≡ sheet s) × (fit a (answerTo s budget (search budget (rulesOf s) (s .goal))) ≡ answered x)
+runSheet-answered : (ask : Request) (a : ℕ) (r : Read) (x : Answer) → runSheet ask a r ≡ answered x
+    → (s : Sheet) × (r ≡ sheet s) × (fit a (answerTo s (ask .budget) (enumerationOf s ask)) ≡ answered x)
 unfolding runSheet
-runSheet-answered budget a (refused r) x e = absurd (refused-answered r x e)
-runSheet-answered budget a (sheet s) x e = (s, refl, e)
+runSheet-answered ask a (refused r) x e = absurd (refused-answered r x e)
+runSheet-answered ask a (sheet s) x e = (s, refl, e)
 
 -- A run that answers x has passed the size checks, read a sheet and answered what the search comes to.
-pub answered-answers : (bytes : List ℕ) (budget t w a : ℕ) (x : Answer) → engineRun bytes budget t w a ≡ answered x
-    → Answers bytes budget t w a x
+pub answered-answers : (bytes : List ℕ) (ask : Request) (t w a : ℕ) (x : Answer) → engineRun bytes ask t w a ≡ answered x
+    → Answers bytes ask t w a x
 unfolding engineRun engineRunBy
-answered-answers bytes budget t w a x e =
+answered-answers bytes ask t w a x e =
     let g1 = passed-gate _ _ _ x e in
     let g2 = passed-gate _ _ _ x (g1 .1) in
     let g3 = passed-gate _ _ _ x (g2 .1) in
-    let g5 = passed-gate _ _ _ x (g3 .1) in
-    let b = or-false (eqb budget 0) (ltb maxBudget budget) (g3 .0) in
-    let q = runSheet-answered budget a (readSheet bytes) x (g5 .1) in
-    let f = fit-answered a (answerTo (q .0) budget (search budget (rulesOf (q .0)) (q .0 .goal))) x (q .2) in
+    let g13 = passed-gate _ _ _ x (g3 .1) in
+    let g5 = passed-gate _ _ _ x (g13 .1) in
+    let b = or-false (eqb (ask .budget) 0) (ltb maxBudget (ask .budget)) (g3 .0) in
+    let p = or-false (eqb (ask .proofs) 0) (ltb maxProofs (ask .proofs)) (g13 .0) in
+    let q = runSheet-answered ask a (readSheet bytes) x (g5 .1) in
+    let f = fit-answered a (answerTo (q .0) (ask .budget) (enumerationOf (q .0) ask)) x (q .2) in
     record {
       passed = record {
         sheetFits = ltb-false _ _ (g1 .0);
         tableFits = ltb-false _ _ (g2 .0);
-        least = let z = eqb-false budget 0 (b .0) in omega arith;
+        least = let z = eqb-false (ask .budget) 0 (b .0) in omega arith;
         most = ltb-false _ _ (b .1);
+        leastProofs = let z = eqb-false (ask .proofs) 0 (p .0) in omega arith;
+        mostProofs = ltb-false _ _ (p .1);
         workFits = ltb-false _ _ (g5 .0);
       };
       s = q .0;
@@ -89,17 +95,23 @@ answered-answers bytes budget t w a x e =
     }
 
 -- A run whose sheet and budget pass ends with its answer, or with refusal 2, 5 or 12.
-pub passes : (bytes : List ℕ) (budget t w a : ℕ) (s : Sheet) → length bytes ≤ maxSheetBytes → 1 ≤ budget → budget ≤ maxBudget
-    → readSheet bytes ≡ sheet s
-    → (engineRun bytes budget t w a ≡ answered (answerTo s budget (search budget (rulesOf s) (s .goal))))
-    ⊎ ((r : Refusal) × (engineRun bytes budget t w a ≡ turnedBack r) × ((r .number ≡ 2) ⊎ ((r .number ≡ 5) ⊎ (r .number ≡ 12))))
+pub passes : (bytes : List ℕ) (ask : Request) (t w a : ℕ) (s : Sheet) → length bytes ≤ maxSheetBytes → 1 ≤ ask .budget
+    → ask .budget ≤ maxBudget → 1 ≤ ask .proofs → ask .proofs ≤ maxProofs → readSheet bytes ≡ sheet s
+    → (engineRun bytes ask t w a ≡ answered (answerTo s (ask .budget) (enumerationOf s ask)))
+    ⊎ ((r : Refusal) × (engineRun bytes ask t w a ≡ turnedBack r) × ((r .number ≡ 2) ⊎ ((r .number ≡ 5) ⊎ (r .number ≡ 12))))
 unfolding engineRun engineRunBy turnBackIf runSheet fit
-passes bytes budget t w a s short least most read =
-    rw (le-ltb maxSheetBytes (length bytes) short, ne-eqb budget 0 (λ q. omega arith), le-ltb maxBudget budget most, read)
-    (table (ltb t tableNumbers))
+passes bytes ask t w a s short least most one few read =
+    rw (
+      le-ltb maxSheetBytes (length bytes) short,
+      ne-eqb (ask .budget) 0 (λ q. omega arith),
+      le-ltb maxBudget (ask .budget) most,
+      ne-eqb (ask .proofs) 0 (λ q. omega arith),
+      le-ltb maxProofs (ask .proofs) few,
+      read,
+    ) (table (ltb t tableNumbers))
   where
     y : Answer
-    y = answerTo s budget (search budget (rulesOf s) (s .goal))
+    y = answerTo s (ask .budget) (enumerationOf s ask)
 
     Ends : Result → Type 0
     Ends o = (o ≡ answered y) ⊎ ((r : Refusal) × (o ≡ turnedBack r) × ((r .number ≡ 2) ⊎ ((r .number ≡ 5) ⊎ (r .number ≡ 12))))
@@ -112,24 +124,27 @@ passes bytes budget t w a s short least most read =
     work true = inr (refusal 5 0, refl, inr (inl refl))
     work false = fitting (ltb maxTextBytes (length (y .text)) || ltb a (length (y .text)))
 
-    table : (b : Bool) → Ends (turnBackIf turnedBack b 2 (turnBackIf turnedBack (ltb w (demanded budget)) 5 (fit a y)))
+    table : (b : Bool) → Ends (turnBackIf turnedBack b 2 (turnBackIf turnedBack (ltb w (demanded (ask .budget))) 5 (fit a y)))
     table true = inr (refusal 2 0, refl, inl refl)
-    table false = work (ltb w (demanded budget))
+    table false = work (ltb w (demanded (ask .budget)))
 
 -- A run with the buffers for it ends with its answer.
-pub passes-all : (bytes : List ℕ) (budget t w a : ℕ) (s : Sheet) → Passed bytes budget t w → readSheet bytes ≡ sheet s
-    → length (answerTo s budget (search budget (rulesOf s) (s .goal)) .text) ≤ maxTextBytes
-    → length (answerTo s budget (search budget (rulesOf s) (s .goal)) .text) ≤ a
-    → engineRun bytes budget t w a ≡ answered (answerTo s budget (search budget (rulesOf s) (s .goal)))
+pub passes-all : (bytes : List ℕ) (ask : Request) (t w a : ℕ) (s : Sheet) → Passed bytes ask t w → readSheet bytes ≡ sheet s
+    → length (answerTo s (ask .budget) (enumerationOf s ask) .text) ≤ maxTextBytes
+    → length (answerTo s (ask .budget) (enumerationOf s ask) .text) ≤ a
+    → engineRun bytes ask t w a ≡ answered (answerTo s (ask .budget) (enumerationOf s ask))
 unfolding engineRun engineRunBy turnBackIf runSheet fit
-passes-all bytes budget t w a s p read small room =
+passes-all bytes ask t w a s p read small room =
     let z = p .least in
+    let y = p .leastProofs in
     rw (
       le-ltb maxSheetBytes (length bytes) (p .sheetFits),
       le-ltb t tableNumbers (p .tableFits),
-      ne-eqb budget 0 (λ q. omega arith),
-      le-ltb maxBudget budget (p .most),
-      le-ltb w (demanded budget) (p .workFits),
+      ne-eqb (ask .budget) 0 (λ q. omega arith),
+      le-ltb maxBudget (ask .budget) (p .most),
+      ne-eqb (ask .proofs) 0 (λ q. omega arith),
+      le-ltb maxProofs (ask .proofs) (p .mostProofs),
+      le-ltb w (demanded (ask .budget)) (p .workFits),
       read,
       le-ltb maxTextBytes _ small,
       le-ltb a _ room,

@@ -1,8 +1,13 @@
 pub mod Computing
 pub mod Cases
 pub mod Answered
+pub mod Enumerated
 pub mod Demand3
 pub mod Buffers
 pub mod Callers
 pub mod Promises
 pub mod Orders
+pub mod LastLine
+pub mod RefusalNumbers
+pub mod OneProof
+pub mod ProofNumbers

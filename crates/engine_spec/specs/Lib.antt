@@ -3,3 +3,6 @@ pub mod EngineRun
 pub mod Promises
 pub mod Orders
 pub mod Handed
+pub mod OneProof
+pub mod LastLine
+pub mod ProofNumbers

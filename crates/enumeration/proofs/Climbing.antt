@@ -23,11 +23,11 @@ use Rattle.enumeration.proofs.Scripts.{Finished}
 use Rattle.enumeration.proofs.Lines.{Single, proceed-single, settle-single, tryFrom-single, tried-single}
 
 -- An act is due.
-abbrev Unfinished : Configuration → Type 0
+abbrev pub Unfinished : Configuration → Type 0
 Unfinished c = Finished c → ⊥
 
 -- No configuration after the first is a proof.
-unfoldable Front : List Configuration → Type 0
+unfoldable pub Front : List Configuration → Type 0
 Front [] = Unit {0}
 Front (c ∷ l) = All Unfinished l
 
@@ -80,7 +80,7 @@ step-front u (match m b) = front-single (settle (matchStep m) b) (settle-single 
 step-front u (done s ls) = tt
 
 -- The next proof has at least u units, and what waits is no proof.
-unfoldable AtLeast : ℕ → Next → Type 0
+unfoldable pub AtLeast : ℕ → Next → Type 0
 AtLeast u (finds f w ds) = (u ≤ w .units) × All Unfinished ds
 AtLeast u (noneLeft n) = Unit {0}
 AtLeast u runsOut = Unit {0}
@@ -122,7 +122,7 @@ next-front (suc left) u ds h = go (verdictOf ds) (next-front left (suc u) (advan
     go none ih = at-least-less u (nextProof left (suc u) (advance u ds)) ih
 
 -- Where no configuration is a proof there is none yet.
-not-proved : (ds : List Configuration) (s : Store) (ls : List (Line Leaf)) → All Unfinished ds → verdictOf ds ≡ some (proved s ls) → ⊥
+pub not-proved : (ds : List Configuration) (s : Store) (ls : List (Line Leaf)) → All Unfinished ds → verdictOf ds ≡ some (proved s ls) → ⊥
 unfolding verdictOf Finished
 not-proved [] s ls h e = let z : _≡_ {A = ℕ} 0 1 = cc in omega arith
 not-proved (take t g b ∷ ds) s ls h e = let z : _≡_ {A = ℕ} 0 1 = cc in omega arith
@@ -131,7 +131,7 @@ not-proved (match m b ∷ ds) s ls h e = let z : _≡_ {A = ℕ} 0 1 = cc in ome
 not-proved (done t ks ∷ ds) s ls h e = h .0 tt
 
 -- So an act is due first, and the next proof has more than u units.
-next-more : (left u : ℕ) (ds : List Configuration) → All Unfinished ds → AtLeast (suc u) (nextProof left u ds)
+pub next-more : (left u : ℕ) (ds : List Configuration) → All Unfinished ds → AtLeast (suc u) (nextProof left u ds)
 unfolding nextProof reaches AtLeast
 next-more zero u ds h = go (verdictOf ds) refl
   where

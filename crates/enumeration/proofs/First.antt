@@ -1,50 +1,25 @@
 -- The first proof is what the search finds.
-use Prim.Native.Nat.{ℕ, zero, suc}
+use Prim.Native.Nat.{ℕ}
 use mathlib.Core.Path.{_≡_, refl, sym, _∙_, ap, ap₂, subst}
 use mathlib.Core.List.{List, [], _∷_}
 use mathlib.Core.Logic.{_↔_}
-use mathlib.Core.Option.{Option, none, some}
 use native.Mathlib.Omega.{arith}
 use Rattle.formulas.specs.Formulas.{Goal, Clause}
 use Rattle.formulas.specs.Rules.{Rules}
 use Rattle.sequents.specs.Sequents.{Line}
 use Rattle.unification.specs.Store.{Leaf, Store}
 use Rattle.search.specs.Configurations.{Configuration}
-use Rattle.search.specs.Search.{start, advance, Verdict, proved, noProof, verdictOf, SearchOutcome, ends, spent, searchFrom, search}
-use Rattle.enumeration.specs.Enumeration.{Proof, proofOf, exhausted, unitsSpent, Enumeration, Next, finds, noneLeft, runsOut, reaches}
+use Rattle.search.specs.Search.{start, proved, noProof, SearchOutcome, ends, spent, search}
+use Rattle.enumeration.specs.Enumeration.{Proof, proofOf, exhausted, unitsSpent, Enumeration, Next, finds, noneLeft, runsOut}
 use Rattle.enumeration.specs.Enumeration.{nextProof, goOn, enumerateFrom, enumerate}
 use Rattle.enumeration.specs.Smaller.{oneProof}
 use Rattle.enumeration.specs.Promises.{AllFirst, OneProof}
-
--- What the search tells where the walk comes to its next proof.
-unfoldable told : Next → SearchOutcome
-told (finds f w ds) = ends (proved (w .store) (w .path)) (w .units)
-told (noneLeft u) = ends noProof u
-told runsOut = spent
-
--- The search is the walk up to its next verdict, the alternatives being forgotten.
-next-search : (left u : ℕ) (ds : List Configuration) → searchFrom left u ds ≡ told (nextProof left u ds)
-unfolding nextProof reaches told searchFrom
-next-search zero u ds = go (verdictOf ds)
-  where
-    go : (o : Option Verdict)
-        → (elim o [ some v ↦ ends v u | none ↦ spent ]) ≡ told (elim o [ some v ↦ reaches zero u ds v | none ↦ runsOut ])
-    go (some (proved s ls)) = refl
-    go (some noProof) = refl
-    go none = refl
-next-search (suc left) u ds = go (verdictOf ds) (next-search left (suc u) (advance u ds))
-  where
-    go : (o : Option Verdict) → searchFrom left (suc u) (advance u ds) ≡ told (nextProof left (suc u) (advance u ds))
-        → (elim o [ some v ↦ ends v u | none ↦ searchFrom left (suc u) (advance u ds) ])
-        ≡ told (elim o [ some v ↦ reaches (suc left) u ds v | none ↦ nextProof left (suc u) (advance u ds) ])
-    go (some (proved s ls)) ih = refl
-    go (some noProof) ih = refl
-    go none ih = ih
+use Rattle.enumeration.proofs.Outcomes.{outcomeOf, next-outcome}
 
 -- So it is from the start.
-search-told : (cs : Rules Clause) (g : Goal) (budget : ℕ) → search budget cs g ≡ told (nextProof budget 0 (start cs g))
+search-told : (cs : Rules Clause) (g : Goal) (budget : ℕ) → search budget cs g ≡ outcomeOf (nextProof budget 0 (start cs g))
 unfolding search
-search-told cs g budget = next-search budget 0 (start cs g)
+search-told cs g budget = sym (next-outcome budget 0 (start cs g))
 
 -- Proofs with equal parts are equal.
 same-proof : (u v : ℕ) (s t : Store) (ls ks : List (Line Leaf)) → u ≡ v → s ≡ t → ls ≡ ks → proofOf u s ls ≡ proofOf v t ks
@@ -52,8 +27,8 @@ same-proof u v s t ls ks p q r = ap₂ (λ (x : ℕ) (y : Store). proofOf x y ls
 
 module _ (rest : ℕ → ℕ → List Configuration → Enumeration) where
   told-proves : (x : Next) (n : ℕ) (s : Store) (path : List (Line Leaf))
-      → (told x ≡ ends (proved s path) n) ↔ ((more : List Proof) × (goOn rest x .found ≡ proofOf n s path ∷ more))
-  unfolding told goOn
+      → (outcomeOf x ≡ ends (proved s path) n) ↔ ((more : List Proof) × (goOn rest x .found ≡ proofOf n s path ∷ more))
+  unfolding outcomeOf goOn
   told-proves (finds f w ds) n s path = (
     (λ e. (
       rest f (w .units) ds .found,
@@ -72,8 +47,8 @@ module _ (rest : ℕ → ℕ → List Configuration → Enumeration) where
   )
 
   -- It tells no exactly if nothing is found and no alternative is left.
-  told-denies : (x : Next) (n : ℕ) → (told x ≡ ends noProof n) ↔ ((goOn rest x .found ≡ []) × (goOn rest x .end ≡ exhausted n))
-  unfolding told goOn
+  told-denies : (x : Next) (n : ℕ) → (outcomeOf x ≡ ends noProof n) ↔ ((goOn rest x .found ≡ []) × (goOn rest x .end ≡ exhausted n))
+  unfolding outcomeOf goOn
   told-denies (finds f w ds) n = (
     (λ e. absurd (let z : _≡_ {A = ℕ} 0 1 = cc in omega arith)),
     (λ h. absurd (let e = h .0 in let z : _≡_ {A = ℕ} 0 1 = cc in omega arith)),
@@ -86,8 +61,8 @@ module _ (rest : ℕ → ℕ → List Configuration → Enumeration) where
   )
 
   -- It tells spent exactly if nothing is found and the units are spent.
-  told-spends : (x : Next) → (told x ≡ spent) ↔ ((goOn rest x .found ≡ []) × (goOn rest x .end ≡ unitsSpent))
-  unfolding told goOn
+  told-spends : (x : Next) → (outcomeOf x ≡ spent) ↔ ((goOn rest x .found ≡ []) × (goOn rest x .end ≡ unitsSpent))
+  unfolding outcomeOf goOn
   told-spends (finds f w ds) = (
     (λ e. absurd (let z : _≡_ {A = ℕ} 0 1 = cc in omega arith)),
     (λ h. absurd (let e = h .0 in let z : _≡_ {A = ℕ} 0 1 = cc in omega arith)),
@@ -104,7 +79,7 @@ unfolding enumerate enumerateFrom
 first-proof cs g wanted budget =
     let x = nextProof budget 0 (start cs g) in
     let rest : ℕ → ℕ → List Configuration → Enumeration = λ e v ds. enumerateFrom wanted e v ds in
-    let q : told x ≡ search budget cs g = sym (search-told cs g budget) in
+    let q : outcomeOf x ≡ search budget cs g = sym (search-told cs g budget) in
     record {
       proves =
           λ n s path. subst (λ (o : SearchOutcome). (o ≡ ends (proved s path) n)
@@ -117,8 +92,8 @@ first-proof cs g wanted budget =
     }
 
 -- With number 1 nothing is done after the first proof.
-one : (x : Next) → goOn (λ e v ds. enumerateFrom 0 e v ds) x ≡ oneProof (told x)
-unfolding goOn enumerateFrom oneProof told
+one : (x : Next) → goOn (λ e v ds. enumerateFrom 0 e v ds) x ≡ oneProof (outcomeOf x)
+unfolding goOn enumerateFrom oneProof outcomeOf
 one (finds f w ds) = refl
 one (noneLeft u) = refl
 one runsOut = refl

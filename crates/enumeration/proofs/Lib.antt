@@ -6,11 +6,14 @@ pub mod Derivations
 pub mod Paths
 pub mod Found
 pub mod PathsFound
+pub mod Outcomes
 pub mod First
 pub mod Climbing
 pub mod Counts
 pub mod Larger
 pub mod Each
+pub mod GoingOn
+pub mod States
 pub mod Shown
 pub mod Others
 pub mod Promises

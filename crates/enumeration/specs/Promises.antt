@@ -4,6 +4,7 @@ use Prim.Native.Nat.{ℕ, suc, _≤_, _<_}
 use mathlib.Core.Path.{_≡_}
 use mathlib.Core.List.{List, [], _∷_, _++_, map, reverse}
 use mathlib.Core.Logic.{_↔_, _⊎_}
+use mathlib.Core.Option.{none}
 use lib.ListN.{length}
 use Rattle.terms.specs.Lists.{All, Mem}
 use Rattle.formulas.specs.Formulas.{Goal, Clause}
@@ -13,11 +14,13 @@ use Rattle.sequents.specs.Sequents.{Environment, Line}
 use Rattle.sequents.specs.Derivations.{lines, InstanceDerivation}
 use Rattle.sequents.specs.Promises.{Closed}
 use Rattle.unification.specs.Store.{Leaf, Store}
-use Rattle.search.specs.Search.{proved, noProof, ends, spent, search}
+use Rattle.search.specs.Configurations.{Configuration, done}
+use Rattle.search.specs.Search.{proved, noProof, verdictOf, ends, spent, search}
 use Rattle.search.specs.Answers.{final}
 use Rattle.search.specs.Procedure.{answerOf}
-use Rattle.search.specs.Promises.{Sound, Follows, SheetNames}
+use Rattle.search.specs.Promises.{WellFormed, Sound, Follows, FollowsSteps, SheetNames}
 use Rattle.enumeration.specs.Enumeration.{Proof, proofOf, enough, exhausted, unitsSpent, Enumeration, enumerate}
+use Rattle.enumeration.specs.GoingOn.{passProof, stateAfter}
 use Rattle.enumeration.specs.Smaller.{firsts, within, oneProof}
 use Rattle.enumeration.specs.Renumbering.{reStore, rePath}
 use Rattle.enumeration.specs.Scripts.{Script, SucceedsWith, Succeeds, Before, Ascending, bare}
@@ -128,6 +131,20 @@ pub record EachProof (cs : Rules Clause) (g : Goal) (w : Proof) : Type 0 where
 
 abbrev pub AllSound : Type 0
 AllSound = (cs : Rules Clause) (g : Goal) (wanted budget : ℕ) → All (EachProof cs g) (enumerate wanted budget cs g .found)
+
+-- T4 for the walk that goes on: each of its states is well formed and follows the derivation steps of CS-1992-17.
+abbrev pub AllGoingOn : Type 0
+AllGoingOn = (cs : Rules Clause) (g : Goal) (n : ℕ) → All WellFormed (stateAfter cs g n) × All (FollowsSteps cs g) (stateAfter cs g n)
+
+-- These states are those of the enumeration: after the units of each proof the state is that proof, with its alternatives. Where no
+-- alternative is left there is no state to go on with, and where the units are spent an act is due after as many acts as the budget.
+pub record StatesFound (cs : Rules Clause) (g : Goal) (budget : ℕ) (r : Enumeration) : Type 0 where
+  pub proofs : All (λ p. (ds : List Configuration) × (stateAfter cs g (p .units) ≡ done (p .store) (p .path) ∷ ds)) (r .found)
+  pub last : (n : ℕ) → r .end ≡ exhausted n → passProof (stateAfter cs g n) ≡ []
+  pub spends : r .end ≡ unitsSpent → verdictOf (passProof (stateAfter cs g budget)) ≡ none
+
+abbrev pub AllStates : Type 0
+AllStates = (cs : Rules Clause) (g : Goal) (wanted budget : ℕ) → StatesFound cs g budget (enumerate wanted budget cs g)
 
 -- Programmers want "the alternatives to a proof": terms aside, the paths that succeed are the derivations of instances of the goal.
 pub record PathsAreDerivations (cs : Rules Clause) (g : Goal) : Type 0 where

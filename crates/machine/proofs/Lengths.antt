@@ -121,7 +121,7 @@ length-undo (suc n) w h mark =
     go false i = i
 
 -- Taking up an alternative keeps the length.
-length-failed : (w : List ℕ) (r : Registers) → length (failed w r .memory) ≡ length w
+pub length-failed : (w : List ℕ) (r : Registers) → length (failed w r .memory) ≡ length w
 unfolding failed backtrack
 length-failed w r =
     made-either (eqb (r .choice) 0) _ (backtrack w r (r .choice - 1)) w refl

@@ -30,7 +30,7 @@ assumption-field w u f = let z : suc u - 1 ≡ u = omega arith in rw (ne-eqb (su
 
 module _ (n : ℕ) (w w′ : List ℕ) (e : Extends fields.constantLevel n w w′) where
   -- An act that leaves the records below n leaves the fields of their assumptions.
-  pub assumption-field-extends : (p f : ℕ) → p ≤ n → fields.constantLevel ≤ f → f < numbersPerUnit
+  pub assumption-field-extends : (p f : ℕ) → p ≤ n → fields.constantLevel ≤ f → f < fields.writers
       → assumptionField w′ p f ≡ assumptionField w p f
   unfolding assumptionField
   assumption-field-extends zero f h a b = refl

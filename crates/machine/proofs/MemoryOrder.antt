@@ -12,10 +12,11 @@ use Rattle.machine.proofs.Records.{cell-level, level-other}
 use Rattle.memory.proofs.Records.{length-put, record-other, field-other, puts}
 use Rattle.memory.specs.Records.{field, putField}
 
--- In records below n the fields from lo on stay. From 22 on: all that is read back as data; from 18 on: the trail too.
+-- In records below n the fields from lo on stay, but for the writer's. From 22 on: all that is read back as data; from 18 on: the
+-- trail too.
 pub record Extends (lo n : ℕ) (w w′ : List ℕ) : Type 0 where
   pub len : length w′ ≡ length w
-  pub old : (u f : ℕ) → u < n → lo ≤ f → f < numbersPerUnit → field w′ u f ≡ field w u f
+  pub old : (u f : ℕ) → u < n → lo ≤ f → f < fields.writers → field w′ u f ≡ field w u f
 
 -- And the variables below k have their cells and levels.
 pub record Grow (n k : ℕ) (w w′ : List ℕ) : Type 0 where
@@ -41,19 +42,19 @@ extends-22 n a b h = record { len = h .len; old = λ u f x y z. h .old u f x (om
 
 -- A field of this act's record.
 pub extends-put : (lo n : ℕ) (w : List ℕ) (u f a : ℕ) → n ≤ u → f < numbersPerUnit → Extends lo n w (putField w u f a)
-extends-put lo n w u f a h k = record { len = length-put w u f a; old = λ v g x y z. record-other w u f v g a k z (λ e. omega arith) }
+extends-put lo n w u f a h k = record { len = length-put w u f a; old = λ v g x y z. record-other w u f v g a k (omega arith) (λ e. omega arith) }
 
 -- Writing a field below lo, of any record, extends the memory.
 pub extends-low : (lo n : ℕ) (w : List ℕ) (u f a : ℕ) → f < lo → f < numbersPerUnit → Extends lo n w (putField w u f a)
-extends-low lo n w u f a h k = record { len = length-put w u f a; old = λ v g x y z. field-other w u f v g a k z (λ e. omega arith) }
+extends-low lo n w u f a h k = record { len = length-put w u f a; old = λ v g x y z. field-other w u f v g a k (omega arith) (λ e. omega arith) }
 
 -- Writing a cell extends the memory.
 pub extends-cell : (n : ℕ) (w : List ℕ) (x a : ℕ) → Extends fields.entryLowered n w (putCell w x a)
-extends-cell n w x a = record { len = length-cell w x a; old = λ v g p q r. field-cell w x a v g q r }
+extends-cell n w x a = record { len = length-cell w x a; old = λ v g p q r. field-cell w x a v g q (omega arith) }
 
 -- Writing a level extends the memory.
 pub extends-level : (n : ℕ) (w : List ℕ) (x a : ℕ) → Extends fields.entryLowered n w (putLevel w x a)
-extends-level n w x a = record { len = length-level w x a; old = λ v g p q r. field-level w x a v g q r }
+extends-level n w x a = record { len = length-level w x a; old = λ v g p q r. field-level w x a v g q (omega arith) }
 
 -- If b and c extend one memory, what extends b extends c.
 pub extends-both : (n : ℕ) (a b c d : List ℕ) → Extends fields.entryLowered n a b → Extends fields.entryLowered n a c

@@ -13,24 +13,28 @@ use Rattle.formulas.specs.Formulas.{Goal, Clause}
 use Rattle.unification.specs.Matching.{Matching, pairs, check, fail}
 use Rattle.search.specs.Configurations.{Branch, Configuration, take, try, match, done}
 use Rattle.search.specs.Steps.{step}
-use Rattle.search.specs.Search.{start, advance, after, verdictOf, proved, noProof, SearchOutcome, ends, spent, searchFrom, search}
+use Rattle.search.specs.Search.{start, advance, after, verdictOf, search}
 use Rattle.search.proofs.Invariant.{Invariant, step-keeps, start-invariant, after-invariant}
+use Rattle.enumeration.specs.Enumeration.{Proof, proofOf, Next, finds, noneLeft, runsOut, alternatives, reaches, nextProof}
+use Rattle.enumeration.proofs.Outcomes.{outcomeOf, next-outcome}
 use Rattle.sheet_format.specs.Limits.{maxBudget, numbersPerUnit}
 use Rattle.formulas.specs.Rules.{Rules, rules}
 use Rattle.node_table.specs.Decoding.{clausesFrom, goalAt, orderOf}
 use Rattle.machine.specs.declared.Registers.{Registers}
 use Rattle.machine.specs.Records.{Made, made, noMode, provedMode}
 use Rattle.machine.specs.RegisterUpdates.{withActs}
+use Rattle.machine.specs.ChoicePoints.{failed}
 use Rattle.machine.specs.Machine.{act, runActs, startMemory, startRegisters, runMachine}
 use Rattle.machine.specs.Simulation.{Reports, Simulates, Follows, Resumes}
 use Rattle.machine.proofs.Words.{increment-small}
 use Rattle.machine.proofs.Tables.{Table}
 use Rattle.machine.proofs.Configurations.{storeOf, CompareAt, ConfigurationAt}
-use Rattle.machine.proofs.ChoicePoints.{StateAt, ResultAt}
-use Rattle.machine.proofs.Lengths.{length-act, length-variables, keepsLength}
+use Rattle.machine.proofs.MemoryOrder.{Grow}
+use Rattle.machine.proofs.ChoicePoints.{StateAt, ResultAt, alternatives-grow, failed-result}
+use Rattle.machine.proofs.Lengths.{length-act, length-variables, length-failed, keepsLength}
 use Rattle.machine.proofs.Acts.{mode-due, act-result}
 use Rattle.machine.proofs.Start.{start-result}
-use Rattle.machine.proofs.Standing.{stands-at, stands}
+use Rattle.machine.proofs.Standing.{failed-acts, stands-at, stands}
 
 -- Turns of the run.
 run-ended : (n : ℕ) (t : List ℕ) (c : ℕ) (w : List ℕ) (r : Registers) → 4 ≤ r .mode → runActs n t c w r ≡ made w r
@@ -163,22 +167,29 @@ module _ (T : Table) where
       (follow n (m .memory) (m .registers) (after clauses goal n) (omega arith) (omega arith) (after-invariant clauses goal n)
       (following n w (omega arith) k (omega arith)))
 
-  -- What the machine tells, with the whole state at the end of a proved search.
-  unfoldable pub Told : Made → SearchOutcome → Type 0
-  Told m (ends (proved s ls) n) =
-      (ds : List Configuration) × StateAt T n (m .memory) (m .registers) (done s ls) ds × (m .registers .acts ≡ n)
-  Told m (ends noProof n) = (m .registers .mode ≡ noMode) × (m .registers .acts ≡ n)
-  Told m spent = m .registers .mode < 4
+  -- The machine stands at a proof, `left` of all units being left, after one act at least: the whole state, with the open alternatives.
+  pub record FoundAt (m : Made) (all left : ℕ) (p : Proof) (ds : List Configuration) : Type 0 where
+    pub first : 1 ≤ p .units
+    pub state : StateAt T (p .units) (m .memory) (m .registers) (done (p .store) (p .path)) ds
+    pub acts : m .registers .acts ≡ p .units
+    pub units : p .units + left ≡ all
+    pub invariant : All Invariant (done (p .store) (p .path) ∷ ds)
 
-  -- That is what was stated.
-  told-tells : (m : Made) (o : SearchOutcome) → Told m o → Reports (T .numbers) m o
-  unfolding Told Reports ConfigurationAt storeOf
-  told-tells m (ends (proved s ls) n) h =
-      let e = h .2 in
-      let st = subst (λ (k : ℕ). StateAt T k (m .memory) (m .registers) (done s ls) (h .0)) (sym e) (h .1) in
-      (stands-at T (m .memory) (m .registers) s (h .0) ls 4 (st .front .0) (st .shared) (st .front .1), e)
-  told-tells m (ends noProof n) h = h
-  told-tells m spent h = h
+  -- What the machine tells where the walk comes to its next verdict.
+  unfoldable pub ToldNext : Made → ℕ → Next → Type 0
+  ToldNext m all (finds left p ds) = FoundAt m all left p ds
+  ToldNext m all (noneLeft n) = (m .registers .mode ≡ noMode) × (m .registers .acts ≡ n)
+  ToldNext m all runsOut = m .registers .mode < 4
+
+  -- That is what was stated of the first verdict.
+  pub next-tells : (m : Made) (all : ℕ) (n : Next) → ToldNext m all n → Reports (T .numbers) m (outcomeOf n)
+  unfolding ToldNext Reports outcomeOf ConfigurationAt storeOf
+  next-tells m all (finds left p ds) h =
+      let e = h .acts in
+      let st = subst (λ (k : ℕ). StateAt T k (m .memory) (m .registers) (done (p .store) (p .path)) ds) (sym e) (h .state) in
+      (stands-at T (m .memory) (m .registers) (p .store) ds (p .path) 4 (st .front .0) (st .shared) (st .front .1), e)
+  next-tells m all (noneLeft n) h = h
+  next-tells m all runsOut h = h
 
   -- A match under way is not the end.
   match-due : {u : ℕ} {w : List ℕ} {r : Registers} {ds : List Configuration} (m : Matching) (b : Branch) → StateAt T u w r (match m b) ds
@@ -190,63 +201,81 @@ module _ (T : Table) where
   match-due fail b h q = h .front
 
   -- If an act is due, the run tells what it tells after that act.
-  go-on : (f u : ℕ) (w : List ℕ) (r : Registers) (c : Configuration) (ds : List Configuration) → r .acts ≡ u → u + suc f ≤ maxBudget
-      → numbersPerUnit * (u + suc f) ≤ length w → All Invariant (c ∷ ds) → StateAt T u w r c ds → r .mode < 4
-      → ((w′ : List ℕ) (r′ : Registers) (ds′ : List Configuration) → r′ .acts ≡ suc u → suc u + f ≤ maxBudget
-      → numbersPerUnit * (suc u + f) ≤ length w′ → All Invariant ds′ → ResultAt T (suc u) (made w′ r′) ds′
-      → Told (runActs f (T .numbers) (T .clauses) w′ r′) (searchFrom f (suc u) ds′))
-      → Told (runActs (suc f) (T .numbers) (T .clauses) w r) (searchFrom f (suc u) (step u c ++ ds))
-  go-on f u w r c ds e b l i h d ih =
+  go-on : (f u all : ℕ) (w : List ℕ) (r : Registers) (c : Configuration) (ds : List Configuration) → r .acts ≡ u → u + suc f ≡ all
+      → all ≤ maxBudget → numbersPerUnit * all ≤ length w → All Invariant (c ∷ ds) → StateAt T u w r c ds → r .mode < 4
+      → ((w′ : List ℕ) (r′ : Registers) (ds′ : List Configuration) → 1 ≤ suc u → r′ .acts ≡ suc u → suc u + f ≡ all → all ≤ maxBudget
+      → numbersPerUnit * all ≤ length w′ → All Invariant ds′ → ResultAt T (suc u) (made w′ r′) ds′
+      → ToldNext (runActs f (T .numbers) (T .clauses) w′ r′) all (nextProof f (suc u) ds′))
+      → ToldNext (runActs (suc f) (T .numbers) (T .clauses) w r) all (nextProof f (suc u) (step u c ++ ds))
+  go-on f u all w r c ds e z b l i h d ih =
       let m = act t (T .clauses) w r in
       let n = length-act t (T .clauses) w r in
       let k = act-counts w r (omega arith) in
-      subst (λ (x : Made). Told x (searchFrom f (suc u) (step u c ++ ds))) (sym (run-due f t (T .clauses) w r d))
-      (ih (m .memory) (m .registers) (step u c ++ ds) (k ∙ ap suc e) (omega arith) (omega arith)
+      subst (λ (x : Made). ToldNext x all (nextProof f (suc u) (step u c ++ ds))) (sym (run-due f t (T .clauses) w r d))
+      (ih (m .memory) (m .registers) (step u c ++ ds) (omega arith) (k ∙ ap suc e) (omega arith) b (omega arith)
       (all-append Invariant (step u c) ds (step-keeps u c (i .0)) (i .1)) (acted u w r c ds e (omega arith) (omega arith) (i .0) d h))
 
-  -- What is told within a budget of f acts more, u having been done.
-  pub tells : (f u : ℕ) (w : List ℕ) (r : Registers) (ds : List Configuration) → r .acts ≡ u → u + f ≤ maxBudget
-      → numbersPerUnit * (u + f) ≤ length w → All Invariant ds → ResultAt T u (made w r) ds
-      → Told (runActs f (T .numbers) (T .clauses) w r) (searchFrom f u ds)
-  unfolding runActs searchFrom verdictOf advance Told ResultAt ConfigurationAt CompareAt storeOf
-  tells zero u w r [] e b l i h = (h, e)
-  tells zero u w r (take s g x ∷ ds) e b l i h = let d = h .front .0 in omega arith
-  tells zero u w r (try s a m ms k x ∷ ds) e b l i h = let d = h .front .mode in omega arith
-  tells zero u w r (match m x ∷ ds) e b l i h = mode-due T u w r (match m x) (h .front) (λ q. match-due m x h q)
-  tells zero u w r (done s ls ∷ ds) e b l i h = (ds, h, e)
-  tells (suc f) u w r [] e b l i h =
+  -- What is told within f acts more, u having been done.
+  pub tells : (f u all : ℕ) (w : List ℕ) (r : Registers) (ds : List Configuration) → 1 ≤ u → r .acts ≡ u → u + f ≡ all → all ≤ maxBudget
+      → numbersPerUnit * all ≤ length w → All Invariant ds → ResultAt T u (made w r) ds
+      → ToldNext (runActs f (T .numbers) (T .clauses) w r) all (nextProof f u ds)
+  unfolding runActs nextProof reaches alternatives verdictOf advance ToldNext ResultAt ConfigurationAt CompareAt storeOf
+  tells zero u all w r [] j e z b l i h = (h, e)
+  tells zero u all w r (take s g x ∷ ds) j e z b l i h = let d = h .front .0 in omega arith
+  tells zero u all w r (try s a m ms k x ∷ ds) j e z b l i h = let d = h .front .mode in omega arith
+  tells zero u all w r (match m x ∷ ds) j e z b l i h = mode-due T u w r (match m x) (h .front) (λ q. match-due m x h q)
+  tells zero u all w r (done s ls ∷ ds) j e z b l i h = record { first = j; state = h; acts = e; units = z; invariant = i }
+  tells (suc f) u all w r [] j e z b l i h =
       subst (λ (m : Made). (m .registers .mode ≡ noMode) × (m .registers .acts ≡ u))
       (sym (run-ended (suc f) t (T .clauses) w r (omega arith))) (h, e)
-  tells (suc f) u w r (take s g x ∷ ds) e b l i h =
-      go-on f u w r (take s g x) ds e b l i h (let d = h .front .0 in omega arith)
-      (λ w′ r′ ds′ a c d j k. tells f (suc u) w′ r′ ds′ a c d j k)
-  tells (suc f) u w r (try s a m ms k x ∷ ds) e b l i h =
-      go-on f u w r (try s a m ms k x) ds e b l i h (let d = h .front .mode in omega arith)
-      (λ w′ r′ ds′ a c d j k. tells f (suc u) w′ r′ ds′ a c d j k)
-  tells (suc f) u w r (match m x ∷ ds) e b l i h =
-      go-on f u w r (match m x) ds e b l i h (mode-due T u w r (match m x) (h .front) (λ q. match-due m x h q))
-      (λ w′ r′ ds′ a c d j k. tells f (suc u) w′ r′ ds′ a c d j k)
-  tells (suc f) u w r (done s ls ∷ ds) e b l i h =
-      subst (λ (m : Made). (cs : List Configuration) × StateAt T u (m .memory) (m .registers) (done s ls) cs × (m .registers .acts ≡ u))
-      (sym (run-ended (suc f) t (T .clauses) w r (let d = h .front .0 in omega arith))) (ds, h, e)
+  tells (suc f) u all w r (take s g x ∷ ds) j e z b l i h =
+      go-on f u all w r (take s g x) ds e z b l i h (let d = h .front .0 in omega arith)
+      (λ w′ r′ ds′ o a y c d q k. tells f (suc u) all w′ r′ ds′ o a y c d q k)
+  tells (suc f) u all w r (try s a m ms k x ∷ ds) j e z b l i h =
+      go-on f u all w r (try s a m ms k x) ds e z b l i h (let d = h .front .mode in omega arith)
+      (λ w′ r′ ds′ o a y c d q k. tells f (suc u) all w′ r′ ds′ o a y c d q k)
+  tells (suc f) u all w r (match m x ∷ ds) j e z b l i h =
+      go-on f u all w r (match m x) ds e z b l i h (mode-due T u w r (match m x) (h .front) (λ q. match-due m x h q))
+      (λ w′ r′ ds′ o a y c d q k. tells f (suc u) all w′ r′ ds′ o a y c d q k)
+  tells (suc f) u all w r (done s ls ∷ ds) j e z b l i h =
+      subst (λ (m : Made). FoundAt m all (suc f) (proofOf u s ls) ds)
+      (sym (run-ended (suc f) t (T .clauses) w r (let d = h .front .0 in omega arith)))
+      (record { first = j; state = h; acts = e; units = z; invariant = i })
 
-  -- From the start, the machine tells the outcome of the search.
+  -- From the start, the machine tells the first verdict of the walk.
   pub told : (budget : ℕ) → budget ≤ maxBudget → (w : List ℕ) → numbersPerUnit * budget ≤ length w
-      → Told (runMachine budget (T .numbers) (T .clauses) (T .goal) w)
-      (search budget (rules (orderOf (T .numbers)) (clausesFrom (T .numbers) (T .clauses) 0)) (goalAt (T .numbers) (T .goal)))
-  unfolding runMachine search runActs Told start verdictOf searchFrom startRegisters
+      → ToldNext (runMachine budget (T .numbers) (T .clauses) (T .goal) w) budget
+      (nextProof budget 0 (start (rules (orderOf (T .numbers)) (clausesFrom (T .numbers) (T .clauses) 0)) (goalAt (T .numbers) (T .goal))))
+  unfolding runMachine runActs ToldNext start verdictOf advance nextProof startRegisters ResultAt
   told zero b w l = omega arith
   told (suc f) b w l =
       let n = start-length w in
-      tells (suc f) 0 (startMemory w) (startRegisters (T .goal)) (start clauses goal) refl (omega arith) (omega arith)
-      (start-invariant clauses goal) (start-result T w (omega arith))
+      let q = start-result T w (omega arith) in
+      go-on f 0 (suc f) (startMemory w) (startRegisters (T .goal)) _ _ refl (omega arith) b (omega arith) (start-invariant clauses goal) q
+      (omega arith) (λ w′ r′ ds′ o a y c d j k. tells f 1 (suc f) w′ r′ ds′ o a y c d j k)
+
+  -- It goes on after a proof, "as if it had failed", in a memory that has what the search reads.
+  pub goes-on : (m : Made) (all left : ℕ) (p : Proof) (ds : List Configuration) (w : List ℕ) → all ≤ maxBudget
+      → numbersPerUnit * all ≤ length w → FoundAt m all left p ds → Grow (p .units) (p .store .next) (m .memory) w
+      → ToldNext (runActs left (T .numbers) (T .clauses) (failed w (m .registers) .memory) (failed w (m .registers) .registers)) all
+      (nextProof left (p .units) ds)
+  unfolding storeOf
+  goes-on m all left p ds w b l h g =
+      let r = m .registers in
+      let n = length-failed w r in
+      tells left (p .units) all (failed w r .memory) (failed w r .registers) ds (h .first) (failed-acts w r ∙ h .acts) (h .units) b (omega arith)
+      (h .invariant .1)
+      (failed-result T (p .units) (p .store .next) w r ds (h .state .shared .trail)
+      (alternatives-grow T (p .units) w g (h .state .shared .alternatives)))
 
 -- The statements.
 pub simulates : Simulates
+unfolding search
 simulates t nodes clauses goal made budget b w l =
     let T : Table = record { numbers = t; nodes = nodes; clauses = clauses; goal = goal; made = made } in
-    told-tells T (runMachine budget t clauses goal w) (search budget (rules (orderOf t) (clausesFrom t clauses 0)) (goalAt t goal))
-    (told T budget b w l)
+    let cs = rules (orderOf t) (clausesFrom t clauses 0) in
+    subst (Reports t (runMachine budget t clauses goal w)) (next-outcome budget 0 (start cs (goalAt t goal)))
+    (next-tells T (runMachine budget t clauses goal w) budget (nextProof budget 0 (start cs (goalAt t goal))) (told T budget b w l))
 
 -- After each number of acts.
 pub follows : Follows

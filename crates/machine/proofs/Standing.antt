@@ -26,7 +26,7 @@ use Rattle.machine.proofs.ChoicePoints.{SharedAt, StateAt, ResultAt, fa
 use Rattle.machine.proofs.ReadingStates.{sequent-read, goals-read, atom-read, position-read, pairs-read, due-pair-read, due-read}
 
 -- Failure is no act.
-failed-acts : (w : List ℕ) (r : Registers) → failed w r .registers .acts ≡ r .acts
+pub failed-acts : (w : List ℕ) (r : Registers) → failed w r .registers .acts ≡ r .acts
 unfolding failed backtrack resume resumeMember resumeGoal resumeBranch withMode withNext withTrail withChoice withGoals withPath withGoal
     withMember
 failed-acts w r = go (eqb (r .choice) 0)

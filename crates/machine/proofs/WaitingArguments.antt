@@ -99,7 +99,7 @@ module _ (T : Table) where
 
   -- An argument whose node and frame are two fields of a record stays in an extended memory.
   argument-fields : (n x : ℕ) (w w′ : List ℕ) (r f i : ℕ) (s : Term Leaf) → Extends fields.constantLevel n w w′ → r < n
-      → fields.constantLevel ≤ f → f + 1 < 64 → ArgumentAt n x w (field w r f) (field w r (f + 1)) i s
+      → fields.constantLevel ≤ f → f + 1 < fields.writers → ArgumentAt n x w (field w r f) (field w r (f + 1)) i s
       → ArgumentAt n x w′ (field w′ r f) (field w′ r (f + 1)) i s
   argument-fields n x w w′ r f i s h l a b c =
       rw (h .old r f l a (omega arith), h .old r (f + 1) l (omega arith) b)

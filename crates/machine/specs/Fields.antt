@@ -144,7 +144,7 @@ clauseSideFrame = 60
 abbrev pub pairsAfter : ℕ
 pairsAfter = 61
 
--- Nodes that wait in a range check (no act makes both): node, frame, nodes after them. Fields 62 and 63 are free.
+-- Nodes that wait in a range check (no act makes both): node, frame, nodes after them.
 abbrev pub waitingNode : ℕ
 waitingNode = 57
 
@@ -153,3 +153,8 @@ waitingFrame = 58
 
 abbrev pub waitingAfter : ℕ
 waitingAfter = 59
+
+-- The fields from this one on are the writer's: the search neither reads nor writes them, so that it goes on after a proof was written
+-- (request W-202).
+abbrev pub writers : ℕ
+writers = 62

@@ -7,9 +7,9 @@ use Rattle.outcomes.specs.declared.Run.{Run}
 use Rattle.outcomes.specs.declared.Verdict.{Verdict}
 use Rattle.outcomes.specs.declared.Verdict.the-variants.{Valid, Invalid, Refused as TurnedBack}
 
--- A refused run: units and text length are 0.
+-- A refused run: units, number of proofs and text length are 0.
 abbrev pub refusedRun : ℕ → ℕ → Run
-refusedRun number line = record { outcome = Refused (record { number = number; line = line }); units = 0; length = 0 }
+refusedRun number line = record { outcome = Refused (record { number = number; line = line }); units = 0; proofs = 0; length = 0 }
 
 -- Outcomes: 0 proved, 1 no, 2 spent, 3 refused; the refusal's number and line, 0 where there is none.
 unfoldable pub outcomeCode : Outcome → ℕ

@@ -18,10 +18,17 @@ pub enum Outcome {
     Refused(Refusal),
 }
 
-// Units and text length are 0 where the run is refused.
+// What the caller asks for: at most so many units, and at most so many proofs (request W-202).
+pub struct Request {
+    pub budget: u32,
+    pub proofs: u32,
+}
+
+// Outcome and units are those of the last R line. Units, number of proofs and text length are 0 where the run is refused.
 pub struct Run {
     pub outcome: Outcome,
     pub units: u32,
+    pub proofs: u32,
     pub length: u32,
 }
 
@@ -39,6 +46,7 @@ pub fn refused_run(number: u32, line: u32) -> Run
     Run {
         outcome: Outcome::Refused(f),
         units: 0,
+        proofs: 0,
         length: 0,
     }
 }

@@ -23,3 +23,6 @@ pub const FREE_VARIABLE: u32 = 10;
 pub const NO_GOAL: u32 = 11;
 
 pub const ANSWER_TOO_LONG: u32 = 12;
+
+// Request W-202: checked right after the budget.
+pub const PROOFS: u32 = 13;

@@ -29,8 +29,10 @@ use Rattle.machine.proofs.Stores.{CellAt}
 use Rattle.machine.proofs.Branches.{PathAt}
 use Rattle.machine.proofs.Configurations.{storeOf, ConfigurationAt}
 use Rattle.machine.proofs.ChoicePoints.{Bounded, StateAt}
-use Rattle.machine.proofs.Simulation.{simulates}
-use Rattle.machine.proofs.Proved.{proved-at}
+use Rattle.enumeration.specs.Enumeration.{Proof, finds}
+use Rattle.enumeration.proofs.Outcomes.{outcomeOf}
+use Rattle.machine.proofs.Simulation.{FoundAt, ToldNext, next-tells, simulates}
+use Rattle.machine.proofs.Proved.{ProvedAt, found-proved, proved-at}
 use Rattle.printing.specs.Written.{LeafWord, variable, constant, TermWord, ofLeaf, ofClosure, PathMade, Orderly, WritesAnswer}
 use Rattle.printing.proofs.Passes.{writes-proof}
 use Rattle.memory.specs.Records.{field}
@@ -124,6 +126,28 @@ module _ (T : Table) where
       word x none c = inl c
       word x (some u) c = inr (word-is T acts (s .next) w c)
 
+-- So is every state at which the machine stands at a proof.
+proved-at-orderly : (T : Table) (m : Made) (s : Store) (path : List (Line Leaf)) (n : ℕ) → ProvedAt T m s path n
+    → Orderly (T .numbers) (T .nodes) m s
+proved-at-orderly T m s path n p =
+    let a = p .acts in
+    let f = p .few in
+    let l = p .first in
+    let r = p .room in
+    orderly-at T m s path (p .alternatives)
+    (subst (λ (k : ℕ). StateAt T k (m .memory) (m .registers) (done s path) (p .alternatives)) (sym a) (p .state)) (p .formed)
+    (omega arith) (omega arith) (omega arith)
+
+-- Where the machine stands at a proof, also at one after others (request W-202), its memory is orderly.
+pub found-orderly : (T : Table) (m : Made) (all left : ℕ) (p : Proof) (ds : List Configuration) → all ≤ maxBudget
+    → numbersPerUnit * all ≤ length (m .memory) → FoundAt T m all left p ds
+    → StandsAt (T .numbers) m provedMode (p .store) (p .path) × Orderly (T .numbers) (T .nodes) m (p .store)
+unfolding Reports outcomeOf ToldNext
+found-orderly T m all left p ds b l h = (
+  next-tells T m all (finds left p ds) h .0,
+  proved-at-orderly T m (p .store) (p .path) (p .units) (found-proved T m all left p ds b l h),
+)
+
 -- A run that ends with a proof leaves an orderly memory.
 pub proved-orderly : (t : List ℕ) (nodes clauses goal : ℕ) → WellMade t nodes clauses goal → (budget : ℕ) → budget ≤ maxBudget
     → (w : List ℕ) → numbersPerUnit * budget ≤ length w
@@ -135,16 +159,7 @@ proved-orderly t nodes clauses goal table budget few w room s path n e =
     let T : Table = record { numbers = t; nodes = nodes; clauses = clauses; goal = goal; made = table } in
     let m = runMachine budget t clauses goal w in
     let p = proved-at T budget few w room s path n e in
-    let a = p .acts in
-    let f = p .few in
-    let l = p .first in
-    let r = p .room in (
-      subst (Reports t m) e (simulates t nodes clauses goal table budget few w room) .0,
-      orderly-at T m s path (p .alternatives)
-          (subst (λ (k : ℕ). StateAt T k (m .memory) (m .registers) (done s path) (p .alternatives)) (sym a) (p .state)) (p .formed)
-          (omega arith)
-          (omega arith) (omega arith),
-    )
+    (subst (Reports t m) e (simulates t nodes clauses goal table budget few w room) .0, proved-at-orderly T m s path n p)
 
 -- After a run that ends with a proof its answer text is written.
 pub writes-answer : WritesAnswer

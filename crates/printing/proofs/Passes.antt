@@ -38,7 +38,7 @@ use Rattle.printing.specs.Writer.{appendResult, copied, writeProof, writ
 use Rattle.printing.specs.Written.{Orderly, reportedLength, Appended, AppendsProof, AppendsResult, WritesProof, WritesNo}
 use Rattle.printing.specs.Written.{WritesSpent}
 use Rattle.printing.specs.PathLinks.{nextLineField}
-use Rattle.printing.proofs.Bytes.{bytes-end, bytes-fit, bytes-long, bytes-append, number-bytes}
+use Rattle.printing.proofs.Bytes.{bytes-end, bytes-fit, bytes-long, bytes-append, number-bytes, bytes-over}
 use Rattle.printing.proofs.Tokens.{byte, steps, textTokens, tokens, tokens-append, signs, tokens-signs, spelled, tokens-spelled}
 use Rattle.printing.proofs.LeftAlone.{Alike}
 use Rattle.printing.proofs.Steps.{Right}
@@ -142,6 +142,11 @@ result-bytes bs units own limit at =
     ap (λ (n : Written). emit (n .buffer) limit (n .at) lf) (number-bytes units (s .buffer) limit (s .at))
     ∙ sym (bytes-append (decimal units) (lf ∷ []) (s .buffer) limit (s .at))
     ∙ sym (bytes-append bs (decimal units ++ (lf ∷ [])) own limit at)
+
+-- Past the limit it is not written, and the position stays.
+pub result-past : (bs : List ℕ) (units : ℕ) (own : List ℕ) (limit at : ℕ) → limit < at → appendResult bs units own limit at ≡ written own at
+result-past bs units own limit at h =
+    result-bytes bs units own limit at ∙ bytes-over (bs ++ (decimal units ++ (lf ∷ []))) own limit at h
 
 -- The R line is written after what stands before it.
 pub appends-result : AppendsResult

@@ -13,7 +13,8 @@ use Rattle.machine.specs.Records.{cellOf, putCell}
 use Rattle.machine.specs.Words.{tagOf}
 use Rattle.printing.specs.PathLinks.{clearVariables}
 use Rattle.printing.specs.Writer.{textLimit, ownBytes, appendProof, writeProof}
-use Rattle.printing.specs.Written.{variable, constant, TermWord, ofLeaf, ofClosure, RestoresAfter, Restores}
+use Rattle.printing.specs.Written.{variable, constant, TermWord, ofLeaf, ofClosure, RestoresAfter, Restores, Restored}
+use Rattle.machine.proofs.MemoryOrder.{Grow}
 use Rattle.machine.proofs.Records.{There, cell-same, cell-other}
 use Rattle.printing.proofs.LeftAlone.{there-from, Alike, alike-refl, alike-trans, alike-number}
 use Rattle.printing.proofs.Passes.{limit-low, proof-alike}
@@ -116,3 +117,11 @@ pub restores : Restores
 unfolding writeProof
 restores sheet t symbols nodes clauses goal table named m s path stands o units out =
     restores-after sheet t symbols nodes clauses goal table named m s path stands o units (textLimit out) (limit-low out) ownBytes 0
+
+-- A memory with all that the search reads: the search goes on in it.
+pub restored-grows : (n : ℕ) (w w′ : List ℕ) (next : ℕ) → Restored w w′ next → Grow n next w w′
+restored-grows n w w′ next r = record {
+  extends = record { len = r .long; old = λ u f a b c. r .fields u f b c };
+  cells = r .cells;
+  levels = λ x h. r .levels x;
+}

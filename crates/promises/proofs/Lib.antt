@@ -1,3 +1,4 @@
 pub mod Accepted
 pub mod Marked
+pub mod Ways
 pub mod Orders

@@ -1,5 +1,5 @@
 -- Document 01, "Rehearsed sheets": the marked cases as one table, sheets and texts as bytes. The last bullet counts as marked. The occurs
--- case has 9 units by request W-206.
+-- case has 9 units by request W-206. Each run is for one proof.
 use Prim.Native.Nat.{ℕ, _*_}
 use Prim.Native.String.{String}
 use mathlib.Core.Path.{_≡_}
@@ -20,13 +20,13 @@ pub record Case : Type 0 where
   pub result : Result
 
 abbrev pub proves : ℕ → String → Result
-proves n t = answered (record { outcome = reportedProved; units = n; text = ascii t })
+proves n t = answered (record { outcome = reportedProved; units = n; proofs = 1; text = ascii t })
 
 abbrev pub saysNo : ℕ → String → Result
-saysNo n t = answered (record { outcome = reportedNo; units = n; text = ascii t })
+saysNo n t = answered (record { outcome = reportedNo; units = n; proofs = 0; text = ascii t })
 
 abbrev pub saysSpent : ℕ → String → Result
-saysSpent n t = answered (record { outcome = reportedSpent; units = n; text = ascii t })
+saysSpent n t = answered (record { outcome = reportedSpent; units = n; proofs = 0; text = ascii t })
 
 abbrev pub refuses : ℕ → ℕ → Result
 refuses n l = turnedBack (refusal n l)
@@ -89,7 +89,8 @@ marked =
 
 -- The engine gives the result of the case.
 abbrev pub RunsAs : Case → Type 0
-RunsAs c = engineRun (ascii (c .sheet)) (c .budget) tableNumbers (64 * c .budget) (c .answerBytes) ≡ c .result
+RunsAs c =
+    engineRun (ascii (c .sheet)) (record { budget = c .budget; proofs = 1 }) tableNumbers (64 * c .budget) (c .answerBytes) ≡ c .result
 
 -- The checker says valid to every proof.
 unfoldable pub AcceptsAnswer : Case → Reported → List ℕ → Type 0

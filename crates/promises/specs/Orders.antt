@@ -1,6 +1,5 @@
 -- Request W-207: "a goal may be spent under one only". Two sheets, each with and without the first line `O latest`, with 256 units: one is
 -- spent by default and proved in the former order, the other the other way round.
-use Prim.Native.Nat.{ℕ}
 use Prim.Native.String.{String}
 use mathlib.Core.List.{List, [], _∷_}
 use Rattle.terms.specs.Lists.{All}

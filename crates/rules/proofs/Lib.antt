@@ -1,3 +1,4 @@
 pub mod Results
 pub mod Runs
+pub mod Requests
 pub mod Checks

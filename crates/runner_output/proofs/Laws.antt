@@ -9,8 +9,8 @@ use Rattle.outcomes.specs.declared.Refusal.{Refusal}
 use Rattle.outcomes.specs.declared.Outcome.the-variants.{Refused}
 use Rattle.outcomes.specs.declared.Run.{Run}
 use Rattle.outcomes.specs.Outcomes.{outcomeCode, refusalNumber, refusalLine as lineOf}
-use Rattle.engine_spec.specs.EngineRun.{Reported, reportedProved, reportedNo, reportedSpent, Result, answered, turnedBack, engineRun}
-use Rattle.engine_spec.specs.EngineRun.{answerAfter}
+use Rattle.engine_spec.specs.EngineRun.{Reported, reportedProved, reportedNo, reportedSpent, Result, answered, turnedBack}
+use Rattle.engine_spec.specs.EngineRun.{engineRun, answerAfter}
 use Rattle.engine_spec.specs.Promises.{handedBack, outcomeNumber, RunContract}
 use Rattle.engine_spec.specs.Handed.{handed}
 use Rattle.engine_spec.proofs.Buffers.{take-front}
@@ -41,22 +41,22 @@ unfolding printed handed handedBack answerAfter
 answered-result (answered a) r answer answer′ n v e = rw (ap (λ h. h .length) v, e) (take-front (a .text) _)
 answered-result (turnedBack q) r answer answer′ n v e = absurd (n (ap (λ h. h .outcome) v))
 
-module _ (bytes table work answer table′ work′ answer′ : List ℕ) (r : Run)
-    (c : RunContract bytes units table work answer table′ work′ answer′ (handed r))
+module _ (bytes : List ℕ) (proofs : ℕ) (table work answer table′ work′ answer′ : List ℕ) (r : Run)
+    (c : RunContract bytes (record { budget = units; proofs = proofs }) table work answer table′ work′ answer′ (handed r))
     (lt : length table ≡ tableNumbers) (lw : length work ≡ workNumbers) (la : length answer ≡ answerBytes) where
   result : Result
-  result = engineRun bytes units (length table) (length work) (length answer)
+  result = engineRun bytes (record { budget = units; proofs = proofs }) (length table) (length work) (length answer)
 
-  same-result : printed result ≡ runnerOutput bytes
+  same-result : printed result ≡ runnerOutput bytes proofs
   unfolding runnerOutput result
   same-result = rw (lt, lw, la)
 
-  pub refused-printed : (f : Refusal) → r .outcome ≡ Refused f → refusalLine (f .number) (f .line) ≡ runnerOutput bytes
+  pub refused-printed : (f : Refusal) → r .outcome ≡ Refused f → refusalLine (f .number) (f .line) ≡ runnerOutput bytes proofs
   unfolding result
   refused-printed f o = refused-result result r f o (c .value) ∙ same-result
 
   pub answered-printed : (k : ℕ) → k ≡ r .length → (outcomeCode (r .outcome) ≡ 3 → ⊥)
-      → (k ≤ answerBytes) × (take k answer′ ≡ runnerOutput bytes)
+      → (k ≤ answerBytes) × (take k answer′ ≡ runnerOutput bytes proofs)
   unfolding result handed
   answered-printed k e n =
       let f = callersTold _ _ _ _ _ _ _ _ _ c .fits in

@@ -47,3 +47,7 @@ numbersPerUnit = 64
 
 abbrev pub maxTextBytes : ℕ
 maxTextBytes = 65535
+
+-- Request W-202: "The caller gives a number from 1 to 64": the number of proofs.
+abbrev pub maxProofs : ℕ
+maxProofs = 64

@@ -27,3 +27,5 @@ pub const MAX_BUDGET: u32 = 50000;
 pub const NUMBERS_PER_UNIT: usize = 64;
 
 pub const MAX_TEXT_BYTES: u32 = 65535;
+
+pub const MAX_PROOFS: u32 = 64;

@@ -10,9 +10,9 @@ use reference::api::work_demanded;
 use reference::limits::{TABLE_NUMBERS, TEXT_BYTES, WORK_NUMBERS};
 use reference::{answer, check, interface, Outcome, Verdict};
 
-use crate::generate::{checks, runs, sheet, CheckCall, RunCall};
-use crate::perform::{After, Check, Run};
-use crate::stored::{cases, stored_checks, StoredCheck};
+use crate::generate::{asks, checks, runs, sheet, AskCall, CheckCall, RunCall};
+use crate::perform::{After, Ask, Check, Run};
+use crate::stored::{cases, stored_checks, stored_ways, StoredCheck, StoredWays};
 
 /// The units with which a sheet is tried outside the generated calls.
 const BUDGET: u32 = 2_000;
@@ -20,10 +20,11 @@ const BUDGET: u32 = 2_000;
 /// The generated sheets for which false proofs are looked for, beside the stored ones.
 const SHEETS: u64 = 3_000;
 
-/// The first seed below `seeds` whose runs tell the engine apart.
-pub fn by_runs(run: &impl Run, seeds: u64) -> Option<u64> {
+/// The first seed below `seeds` whose runs, for one proof or for several, tell the engine apart.
+pub fn by_runs(run: &impl Run, ask: &impl Ask, seeds: u64) -> Option<u64> {
     let differs = |call: &RunCall| call.perform(run) != call.perform(interface::run);
-    (0..seeds).find(|&seed| runs(seed).iter().any(differs))
+    let asked_differs = |call: &AskCall| call.perform(ask) != call.perform(interface::ask);
+    (0..seeds).find(|&seed| runs(seed).iter().any(differs) || asks(seed).iter().any(asked_differs))
 }
 
 /// The first seed below `seeds` whose checks tell the checker apart.
@@ -34,8 +35,9 @@ pub fn by_checks(check: &impl Check, seeds: u64) -> Option<u64> {
     })
 }
 
-/// The first stored case that tells the engine apart: with units enough, with those it needs, or with one fewer.
-pub fn by_cases(run: &impl Run) -> Option<String> {
+/// The first stored case that tells the engine apart: with units enough, with those it needs, or with one fewer; or as
+/// it is stored, for several proofs.
+pub fn by_cases(run: &impl Run, ask: &impl Ask) -> Option<String> {
     let differs = |sheet: Vec<u8>| {
         let needed = answer(&sheet, BUDGET, TEXT_BYTES).1;
         let budgets = [BUDGET, needed, needed.saturating_sub(1)];
@@ -43,7 +45,28 @@ pub fn by_cases(run: &impl Run) -> Option<String> {
         budgets.any(|budget| tried(run, &sheet, budget) != tried(&interface::run, &sheet, budget))
     };
     let mut cases = cases().into_iter();
-    cases.find_map(|(name, sheet)| differs(sheet).then_some(name))
+    let told = cases.find_map(|(name, sheet)| differs(sheet).then_some(name));
+    told.or_else(|| by_ways(ask))
+}
+
+fn by_ways(ask: &impl Ask) -> Option<String> {
+    let differs = |case: &StoredWays| {
+        let call = AskCall {
+            run: RunCall {
+                sheet: case.sheet.clone(),
+                budget: case.budget,
+                table: case.table,
+                work: case.work,
+                answer: case.answer,
+                result: 6,
+                dirt: 0,
+            },
+            proofs: case.proofs,
+            request: 2,
+        };
+        call.perform(ask) != call.perform(interface::ask)
+    };
+    stored_ways().into_iter().find(differs).map(|case| case.name)
 }
 
 /// The first stored text that tells the checker apart.
@@ -96,16 +119,16 @@ fn tried(run: &impl Run, sheet: &[u8], budget: u32) -> After {
 }
 
 /// Prints what each way of telling apart comes to: the arguments are the number of seeds and the ways.
-pub fn report(run: impl Run, check: impl Check) {
+pub fn report(run: impl Run, ask: impl Ask, check: impl Check) {
     let mut arguments = env::args().skip(1);
     let seeds = arguments.next().and_then(|seeds| seeds.parse().ok());
     let seeds = seeds.expect("the number of seeds");
     for way in arguments {
         let seed = |seed: u64| seed.to_string();
         let told = match way.as_str() {
-            "runs" => by_runs(&run, seeds).map(seed),
+            "runs" => by_runs(&run, &ask, seeds).map(seed),
             "checks" => by_checks(&check, seeds).map(seed),
-            "cases" => by_cases(&run),
+            "cases" => by_cases(&run, &ask),
             "texts" => by_texts(&check),
             "proofs" => Some(false_proofs(&run))
                 .filter(|&count| count > 0)

@@ -1,7 +1,7 @@
 //! A call performed on soiled buffers, with everything that can be seen afterwards.
 
 use crate::dirt::{soil, soil_bytes};
-use crate::generate::{CheckCall, RunCall};
+use crate::generate::{AskCall, CheckCall, RunCall};
 
 /// The code returned and every buffer after a call.
 #[derive(Clone, PartialEq, Eq, Debug, Default)]
@@ -55,6 +55,10 @@ impl After {
 pub trait Run: Fn(&[u8], u32, &mut [u32], &mut [u32], &mut [u8], &mut [u32]) -> u32 {}
 impl<F: Fn(&[u8], u32, &mut [u32], &mut [u32], &mut [u8], &mut [u32]) -> u32> Run for F {}
 
+/// A function like `interface::ask`.
+pub trait Ask: Fn(&[u8], &[u32], &mut [u32], &mut [u32], &mut [u8], &mut [u32]) -> u32 {}
+impl<F: Fn(&[u8], &[u32], &mut [u32], &mut [u32], &mut [u8], &mut [u32]) -> u32> Ask for F {}
+
 /// A function like `interface::check`.
 pub trait Check: Fn(&[u8], &[u8], &mut [u32], &mut [u32], &mut [u32]) -> u32 {}
 impl<F: Fn(&[u8], &[u8], &mut [u32], &mut [u32], &mut [u32]) -> u32> Check for F {}
@@ -70,6 +74,21 @@ impl RunCall {
         after.code = run(
             &self.sheet,
             self.budget,
+            &mut after.table,
+            &mut after.work,
+            &mut after.answer,
+            &mut after.result,
+        );
+        after
+    }
+}
+
+impl AskCall {
+    pub fn perform(&self, ask: impl Ask) -> After {
+        let mut after = self.run.before();
+        after.code = ask(
+            &self.run.sheet,
+            &self.request(),
             &mut after.table,
             &mut after.work,
             &mut after.answer,

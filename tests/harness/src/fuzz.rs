@@ -1,11 +1,12 @@
 //! Calls with bytes that nobody planned, on buffers between forbidden pages.
 
-use calls::generate::{changed_text, damaged, noise, runs_of, sheet, special_text, CheckCall, RunCall};
+use calls::generate::{asks_of, changed_text, damaged, noise, runs_of, sheet, special_text};
+use calls::generate::{AskCall, CheckCall, RunCall};
 use calls::perform::After;
 use calls::random::Random;
 use reference::{answer, interface};
 
-use crate::compare::{library_check, library_run};
+use crate::compare::{describe_ask, describe_check, describe_run, library_ask, library_check, library_run};
 use crate::guard::{Against, Guarded};
 
 const MOST_UNITS: usize = 1_200;
@@ -14,6 +15,7 @@ const MOST_LINES: usize = 3_000;
 /// Room for every buffer of a call, made once.
 pub struct Rooms {
     sheet: Guarded<u8>,
+    request: Guarded<u32>,
     text: Guarded<u8>,
     table: Guarded<u32>,
     work: Guarded<u32>,
@@ -25,10 +27,11 @@ impl Rooms {
     pub fn new() -> Rooms {
         Rooms {
             sheet: Guarded::new(100_000),
+            request: Guarded::new(16),
             text: Guarded::new(140_000),
             table: Guarded::new(9_000),
             work: Guarded::new(64 * MOST_UNITS.max(MOST_LINES) + 1_000),
-            answer: Guarded::new(70_000),
+            answer: Guarded::new(140_000),
             result: Guarded::new(16),
         }
     }
@@ -97,7 +100,7 @@ fn against(random: &mut Random) -> Against {
     }
 }
 
-/// A run and a check from a seed; what differs, if anything does, and the codes returned.
+/// Runs for one proof and for several, and a check, from a seed; what differs, if anything does, and the codes returned.
 pub fn fuzz(seed: u64, rooms: &mut Rooms) -> Result<Vec<String>, String> {
     let random = &mut Random::new(seed);
     let mut codes = Vec::new();
@@ -109,7 +112,15 @@ pub fn fuzz(seed: u64, rooms: &mut Rooms) -> Result<Vec<String>, String> {
         let wanted = call.perform(interface::run);
         codes.push(format!("run {}", got.code));
         if let Some(difference) = got.difference(&wanted) {
-            return Err(format!("{difference}\n{}", crate::compare::describe_run(&call)));
+            return Err(format!("{difference}\n{}", describe_run(&call)));
+        }
+    }
+    for call in asks_of(&bytes, tried, random) {
+        let place = against(random);
+        let got = guarded_ask(&call, place, rooms);
+        codes.push(format!("ask {}", got.code));
+        if let Some(difference) = got.difference(&call.perform(interface::ask)) {
+            return Err(format!("{difference}\n{}", describe_ask(&call)));
         }
     }
     let (sheet, text) = any_text(random);
@@ -127,7 +138,7 @@ pub fn fuzz(seed: u64, rooms: &mut Rooms) -> Result<Vec<String>, String> {
     codes.push(format!("check {}", got.code));
     match got.difference(&call.perform(interface::check)) {
         None => Ok(codes),
-        Some(difference) => Err(format!("{difference}\n{}", crate::compare::describe_check(&call))),
+        Some(difference) => Err(format!("{difference}\n{}", describe_check(&call))),
     }
 }
 
@@ -139,13 +150,34 @@ fn lend<'a, T: crate::guard::Plain>(room: &'a mut Guarded<T>, before: &[T], plac
 }
 
 pub fn guarded_run(call: &RunCall, place: Against, rooms: &mut Rooms) -> After {
+    guarded(call, place, rooms, |_, sheet, table, work, answer, result| {
+        library_run(sheet, call.budget, table, work, answer, result)
+    })
+}
+
+pub fn guarded_ask(call: &AskCall, place: Against, rooms: &mut Rooms) -> After {
+    guarded(&call.run, place, rooms, |room, sheet, table, work, answer, result| {
+        room.lend_fixed(&call.request(), place, |request| {
+            library_ask(sheet, request, table, work, answer, result)
+        })
+    })
+}
+
+/// A run by a function that may also use the request's room.
+fn guarded(
+    call: &RunCall,
+    place: Against,
+    rooms: &mut Rooms,
+    run: impl FnOnce(&mut Guarded<u32>, &[u8], &mut [u32], &mut [u32], &mut [u8], &mut [u32]) -> u32,
+) -> After {
     let before = call.before();
     let table = lend(&mut rooms.table, &before.table, place);
     let work = lend(&mut rooms.work, &before.work, place);
     let answer = lend(&mut rooms.answer, &before.answer, place);
     let result = lend(&mut rooms.result, &before.result, place);
+    let request = &mut rooms.request;
     let code = rooms.sheet.lend_fixed(&call.sheet, place, |sheet| {
-        library_run(sheet, call.budget, table, work, answer, result)
+        run(request, sheet, table, work, answer, result)
     });
     After {
         code,

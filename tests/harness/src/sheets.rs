@@ -16,6 +16,78 @@ pub fn searches() -> Vec<Named> {
     ]
 }
 
+/// Searches of which several fit in one run (W-202).
+pub fn short_searches() -> Vec<Named> {
+    vec![
+        ("list reversal, 4 elements", list_reversal(4)),
+        ("list reversal, 8 elements", list_reversal(8)),
+        ("Peano arithmetic, 2 times 3", multiplication(2, 3)),
+        ("nested suppositions, 8 deep", nested_suppositions(8)),
+        ("nested suppositions, 20 deep", nested_suppositions(20)),
+    ]
+}
+
+/// The goal of a sheet or itself, and so on: 2^doublings ways for each way of the sheet.
+pub fn doubled(sheet: &[u8], doublings: u32) -> Vec<u8> {
+    let (mut sheet, mut goal, nodes) = parted(sheet);
+    for node in nodes..nodes + doublings {
+        sheet.extend(format!("|\t{goal}\t{goal}\n").bytes());
+        goal = node;
+    }
+    sheet.extend(format!("Q\t{goal}\n").bytes());
+    sheet
+}
+
+/// True, or the goal of a sheet: a short proof before those of the sheet.
+pub fn true_or(sheet: &[u8]) -> Vec<u8> {
+    let (mut sheet, goal, nodes) = parted(sheet);
+    sheet.extend(format!("Y\n|\t{nodes}\t{goal}\nQ\t{}\n", nodes + 1).bytes());
+    sheet
+}
+
+/// A right sheet without its Q line, the goal's node, and how many nodes there are.
+fn parted(sheet: &[u8]) -> (Vec<u8>, u32, u32) {
+    let lines: Vec<&[u8]> = sheet.split_inclusive(|&byte| byte == b'\n').collect();
+    let (last, rest) = lines.split_last().expect("a Q line");
+    let nodes = rest.iter().filter(|line| b"VNAY&|>EU".contains(&line[0])).count();
+    let goal = std::str::from_utf8(&last[2..last.len() - 1]).expect("a number");
+    (rest.concat(), goal.parse().expect("a number"), nodes as u32)
+}
+
+/// 64 facts of one predicate, and the goal that any of them closes.
+pub fn many_facts() -> Vec<u8> {
+    let mut b = Builder::new(true);
+    let p = b.predicate("p", 1);
+    for number in 0..64 {
+        let name = b.function(&format!("fact{number}"), 0);
+        let constant = b.apply(name, &[]);
+        let fact = b.apply(p, &[constant]);
+        b.clause(fact);
+    }
+    let x = b.variable(0);
+    let goal = b.apply(p, &[x]);
+    b.goal(goal)
+}
+
+/// join(n, y, y); join(c(h, x), y, c(h, z)) if join(x, y, z); the goal join(x, y, a list of so many elements).
+pub fn list_split(length: usize) -> Vec<u8> {
+    let mut b = Builder::new(true);
+    let (nil, cons, element) = (b.function("n", 0), b.function("c", 2), b.function("e", 0));
+    let join = b.predicate("join", 3);
+    let [x, y, z, h] = [0, 1, 2, 3].map(|variable| b.variable(variable));
+    let nothing = b.apply(nil, &[]);
+    let fact = b.apply(join, &[nothing, y, y]);
+    add_clause(&mut b, &[1], fact);
+    let (longer, joined) = (b.apply(cons, &[h, x]), b.apply(cons, &[h, z]));
+    let (body, head) = (b.apply(join, &[x, y, z]), b.apply(join, &[longer, y, joined]));
+    let rule = b.implies(body, head);
+    add_clause(&mut b, &[0, 1, 2, 3], rule);
+    let element = b.apply(element, &[]);
+    let list = (0..length).fold(nothing, |list, _| b.apply(cons, &[element, list]));
+    let goal = b.apply(join, &[x, y, list]);
+    b.goal(goal)
+}
+
 /// A sheet from its lines, parted by semicolons, their fields by spaces.
 fn lines(short: &str) -> Vec<u8> {
     let lines: Vec<String> = short

@@ -8,9 +8,9 @@
 
 use std::thread;
 
-use calls::generate::{CheckCall, RunCall};
+use calls::generate::{AskCall, CheckCall, RunCall};
 use calls::perform::After;
-use harness::compare::{compare_check_by, compare_run_by, library_check, library_run};
+use harness::compare::{compare_ask_by, compare_check_by, compare_run_by, library_ask, library_check, library_run};
 use harness::{sheets, texts};
 use reference::api::work_demanded;
 use reference::{answer, Outcome};
@@ -40,12 +40,25 @@ fn run_within(
     })
 }
 
+fn ask_within(
+    sheet: &[u8],
+    request: &[u32],
+    table: &mut [u32],
+    work: &mut [u32],
+    answer: &mut [u8],
+    result: &mut [u32],
+) -> u32 {
+    on_a_stack(run_stack(answer.len()), || {
+        library_ask(sheet, request, table, work, answer, result)
+    })
+}
+
 fn check_within(sheet: &[u8], text: &[u8], table: &mut [u32], work: &mut [u32], result: &mut [u32]) -> u32 {
     on_a_stack(CHECK_STACK, || library_check(sheet, text, table, work, result))
 }
 
-fn run_into(sheet: Vec<u8>, answer: usize) -> After {
-    let call = RunCall {
+fn call_into(sheet: Vec<u8>, answer: usize) -> RunCall {
+    RunCall {
         sheet,
         budget: 50_000,
         table: TABLE_NUMBERS,
@@ -53,8 +66,22 @@ fn run_into(sheet: Vec<u8>, answer: usize) -> After {
         answer,
         result: 5,
         dirt: 2,
-    };
+    }
+}
+
+fn run_into(sheet: Vec<u8>, answer: usize) -> After {
+    let call = call_into(sheet, answer);
     on_a_stack(REFERENCE_STACK, || compare_run_by(run_within, &call).unwrap())
+}
+
+/// The same for so many proofs.
+fn ask_into(sheet: Vec<u8>, answer: usize, proofs: u32) -> After {
+    let call = AskCall {
+        run: call_into(sheet, answer),
+        proofs,
+        request: 2,
+    };
+    on_a_stack(REFERENCE_STACK, || compare_ask_by(ask_within, &call).unwrap())
 }
 
 fn run(sheet: Vec<u8>) -> After {
@@ -113,6 +140,28 @@ fn the_writer_gives_up_at_its_deepest() {
             let after = run_into(sheets::deep_term(960, links, 0), answer);
             assert_eq!((after.result[0], after.result[3]), (3, 12));
         }
+    }
+}
+
+/// W-202: the same stack for several proofs, with terms that are as deep in the first proof or in the second alone.
+#[test]
+fn several_proofs_at_their_deepest() {
+    // Two nodes are for the goal.
+    let height = HEIGHT - 2;
+    let fitting = sheets::deep_term(height, 5, 0);
+    for sheet in [fitting.clone(), sheets::doubled(&fitting, 1), sheets::true_or(&fitting)] {
+        for proofs in [1, 2, 64] {
+            ask_into(sheet.clone(), TEXT_BYTES, proofs);
+        }
+    }
+    let after = ask_into(sheets::true_or(&fitting), TEXT_BYTES, 2);
+    assert_eq!(after.code, 0, "two proofs");
+    let text = &after.answer[..after.result[2] as usize];
+    assert_eq!(depth(text), 5 * height);
+    let deeper = sheets::true_or(&sheets::deep_term(960, 33, 0));
+    for answer in [TEXT_BYTES + 1, TEXT_BYTES, 40_000, 4_096, 1_000, 100] {
+        assert_eq!(ask_into(deeper.clone(), answer, 1).code, 0, "the first proof is short");
+        assert_eq!(ask_into(deeper.clone(), answer, 2).result[3], 12);
     }
 }
 

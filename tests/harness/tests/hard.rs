@@ -1,7 +1,8 @@
 //! Long searches and texts that are hard to check, compared with the independent implementation in full.
 
-use calls::generate::{CheckCall, RunCall};
-use harness::compare::{compare_check, compare_run, describe_check, describe_run, library_run};
+use calls::generate::{AskCall, CheckCall, RunCall};
+use harness::compare::{compare_ask, compare_check, compare_run, judged_proofs};
+use harness::compare::{describe_check, describe_run, library_run};
 use harness::measure::in_turn;
 use harness::{sheets, texts};
 use reference::api::work_demanded;
@@ -43,6 +44,36 @@ fn long_searches() {
             let after = compare_check(&call)
                 .unwrap_or_else(|difference| panic!("{name}: {difference}\n{}", describe_check(&call)));
             assert_eq!(after.code, u32::from(code != 0), "a proof, and only a proof, is valid");
+        }
+    }
+}
+
+/// W-202: as many proofs as fit into the largest budget and a text, and up to the largest number; each is valid by itself.
+#[test]
+fn several_proofs_of_long_searches() {
+    let short = sheets::short_searches().into_iter();
+    let doubled = short.map(|(name, sheet)| (name, sheets::doubled(&sheet, 6)));
+    let others = [
+        ("64 facts", sheets::many_facts()),
+        ("a list of 16 elements parted", sheets::list_split(16)),
+        ("a list of 60 elements parted", sheets::list_split(60)),
+    ];
+    for (name, sheet) in doubled.chain(others).chain(sheets::searches()) {
+        for proofs in [2, 5, 17, 64] {
+            let mut run = whole_run(sheet.clone(), 50_000);
+            run.result = 6;
+            let call = AskCall {
+                run,
+                proofs,
+                request: 2,
+            };
+            let after = compare_ask(&call).unwrap_or_else(|difference| panic!("{name}: {difference}"));
+            let [code, units, length, _, _, told] = after.result[..] else {
+                unreachable!("six numbers")
+            };
+            println!("{name}: {proofs} proofs asked for, outcome {code}, units {units}, proofs {told}, bytes {length}");
+            let found = judged_proofs(&sheet, &after.answer[..length as usize]);
+            assert_eq!(found, Ok(told), "{name}");
         }
     }
 }

@@ -1,8 +1,9 @@
-//! The run of the engine and of the checker, with refusals 1 to 12 in checking order and the lent buffers.
+//! The run of the engine and of the checker, with refusals 1 to 13 in checking order and the lent buffers.
 
 use crate::checker;
+use crate::field;
 use crate::limits::{
-    LARGEST_BUDGET, RUNNER_ANSWER, RUNNER_BUDGET, SHEET_BYTES, TABLE_NUMBERS, TEXT_BYTES, WORK_NUMBERS,
+    LARGEST_BUDGET, LARGEST_PROOFS, RUNNER_ANSWER, RUNNER_BUDGET, SHEET_BYTES, TABLE_NUMBERS, TEXT_BYTES, WORK_NUMBERS,
 };
 use crate::refusal::Refusal;
 use crate::search::{search, End};
@@ -17,12 +18,37 @@ pub enum Outcome {
     Refused(Refusal),
 }
 
-/// What the run hands back. With a refusal units and length are 0.
+/// What the caller asks for: the units, and the most proofs (W-202).
+#[derive(Clone, Copy, PartialEq, Eq, Debug)]
+pub struct Request {
+    pub budget: u32,
+    pub proofs: u32,
+}
+
+impl Request {
+    /// Document 01 itself: one proof.
+    pub fn of_one(budget: u32) -> Request {
+        Request { budget, proofs: 1 }
+    }
+}
+
+/// What the run hands back: outcome and units of the last R line, the number of proofs, the text's length. With a
+/// refusal all numbers are 0.
 #[derive(Clone, Copy, PartialEq, Eq, Debug)]
 pub struct Run {
     pub outcome: Outcome,
     pub units: u32,
+    pub proofs: u32,
     pub length: u32,
+}
+
+/// The same with the text itself, which is empty with a refusal.
+#[derive(Clone, PartialEq, Eq, Debug)]
+pub struct Answer {
+    pub outcome: Outcome,
+    pub units: u32,
+    pub proofs: u32,
+    pub text: Vec<u8>,
 }
 
 #[derive(Clone, Copy, PartialEq, Eq, Debug)]
@@ -45,47 +71,72 @@ const ENOUGH: Lent = Lent {
     work: usize::MAX,
 };
 
-/// The engine: sheet, budget and lent buffers to an answer.
+/// The engine for one proof.
 pub fn engine_run(sheet: &[u8], budget: u32, table: &mut [u32], work: &mut [u32], answer: &mut [u8]) -> Run {
+    engine_ask(sheet, Request::of_one(budget), table, work, answer)
+}
+
+/// The engine: sheet, request and lent buffers to an answer.
+pub fn engine_ask(sheet: &[u8], ask: Request, table: &mut [u32], work: &mut [u32], answer: &mut [u8]) -> Run {
     let lent = Lent {
         table: table.len(),
         work: work.len(),
     };
-    if let Err(refusal) = turn_back_run(sheet, budget, lent) {
+    if let Err(refusal) = turn_back_run(sheet, ask, lent) {
         return Run {
             outcome: Outcome::Refused(refusal),
             units: 0,
+            proofs: 0,
             length: 0,
         };
     }
-    clear(table, work, WORK_NUMBERS * budget as usize);
-    let (outcome, units, text) = self::answer(sheet, budget, answer.len());
+    clear(table, work, WORK_NUMBERS * ask.budget as usize);
+    let Answer {
+        outcome,
+        units,
+        proofs,
+        text,
+    } = answers(sheet, ask, answer.len());
     answer[..text.len()].copy_from_slice(&text);
     Run {
         outcome,
         units,
+        proofs,
         length: text.len() as u32,
     }
 }
 
-/// The engine without buffers: outcome, units and text; with a refusal 0 and no text. Refusals 2 and 5 do not arise.
+/// The engine for one proof without buffers: outcome, units and text.
 pub fn answer(sheet: &[u8], budget: u32, answer_bytes: usize) -> (Outcome, u32, Vec<u8>) {
-    answered(sheet, budget, answer_bytes).unwrap_or_else(|refusal| (Outcome::Refused(refusal), 0, Vec::new()))
+    let answer = answers(sheet, Request::of_one(budget), answer_bytes);
+    (answer.outcome, answer.units, answer.text)
 }
 
-fn answered(sheet: &[u8], budget: u32, answer_bytes: usize) -> Result<(Outcome, u32, Vec<u8>), Refusal> {
-    turn_back_run(sheet, budget, ENOUGH)?;
+/// The engine without buffers. Refusals 2 and 5 do not arise.
+pub fn answers(sheet: &[u8], ask: Request, answer_bytes: usize) -> Answer {
+    answered(sheet, ask, answer_bytes).unwrap_or_else(|refusal| Answer {
+        outcome: Outcome::Refused(refusal),
+        units: 0,
+        proofs: 0,
+        text: Vec::new(),
+    })
+}
+
+fn answered(sheet: &[u8], ask: Request, answer_bytes: usize) -> Result<Answer, Refusal> {
+    turn_back_run(sheet, ask, ENOUGH)?;
     let sheet = sheet::read(sheet)?;
-    let ended = search(&sheet, budget);
-    let outcome = match ended.end {
-        End::Proved(_) => Outcome::Proved,
-        End::No => Outcome::No,
-        End::Spent => Outcome::Spent,
-    };
-    match answer_text(&sheet, &ended, answer_bytes.min(TEXT_BYTES)) {
-        Ok(text) => Ok((outcome, ended.units, text)),
-        Err(_) => Err(Refusal::new(12, 0)),
-    }
+    let ended = search(&sheet, ask.budget, ask.proofs as usize);
+    let text = answer_text(&sheet, &ended, answer_bytes.min(TEXT_BYTES)).map_err(|_| Refusal::new(12, 0))?;
+    Ok(Answer {
+        outcome: match ended.end {
+            End::Proved => Outcome::Proved,
+            End::No => Outcome::No,
+            End::Spent => Outcome::Spent,
+        },
+        units: ended.units,
+        proofs: ended.proofs.len() as u32,
+        text,
+    })
 }
 
 /// The checker: sheet, answer text and lent buffers to a verdict.
@@ -115,10 +166,17 @@ fn checked(sheet: &[u8], text: &[u8]) -> Result<Verdict, Refusal> {
     })
 }
 
-/// Refusals 1, 2, 3 and 5 of the engine.
-fn turn_back_run(sheet: &[u8], budget: u32, lent: Lent) -> Result<(), Refusal> {
-    let budget_refused = budget == 0 || budget > LARGEST_BUDGET;
-    turn_back(sheet, lent, budget_refused.then_some(3), WORK_NUMBERS * budget as usize)
+/// Refusals 1, 2, 3, 13 and 5 of the engine. W-202: "13 if the number is 0 or over 64, right after 3".
+fn turn_back_run(sheet: &[u8], ask: Request, lent: Lent) -> Result<(), Refusal> {
+    let Request { budget, proofs } = ask;
+    let own = if budget == 0 || budget > LARGEST_BUDGET {
+        Some(3)
+    } else if proofs == 0 || proofs > LARGEST_PROOFS {
+        Some(13)
+    } else {
+        None
+    };
+    turn_back(sheet, lent, own, WORK_NUMBERS * budget as usize)
 }
 
 /// Refusals 1, 2, 4 and 5 of the checker.
@@ -127,7 +185,7 @@ fn turn_back_check(sheet: &[u8], text: &[u8], lent: Lent) -> Result<(), Refusal>
     turn_back(sheet, lent, text_refused.then_some(4), work_demanded(text))
 }
 
-/// Refusals 1 to 5 in checking order; `own` is 3 or 4, of which each program has one.
+/// Refusals 1, 2 and 5, and between them what is the program's own: 3 or 13 of the engine, 4 of the checker.
 fn turn_back(sheet: &[u8], lent: Lent, own: Option<u32>, work_demanded: usize) -> Result<(), Refusal> {
     let number = if sheet.len() > SHEET_BYTES {
         1
@@ -156,8 +214,19 @@ fn clear(table: &mut [u32], work: &mut [u32], demanded: usize) {
 
 /// The sheet runner: what it prints for a sheet.
 pub fn runner(sheet: &[u8]) -> Vec<u8> {
-    match answer(sheet, RUNNER_BUDGET, RUNNER_ANSWER) {
-        (Outcome::Refused(refusal), _, _) => format!("X\t{}\t{}\n", refusal.number, refusal.line).into_bytes(),
-        (_, _, text) => text,
+    runner_for(sheet, b"1")
+}
+
+/// The sheet runner with a number of proofs as its argument, in the form of document 01.
+pub fn runner_for(sheet: &[u8], proofs: &[u8]) -> Vec<u8> {
+    let ask = Request {
+        budget: RUNNER_BUDGET,
+        // What is no number is refused as 0 is.
+        proofs: field::number(proofs).unwrap_or(0),
+    };
+    let answer = answers(sheet, ask, RUNNER_ANSWER);
+    match answer.outcome {
+        Outcome::Refused(refusal) => format!("X\t{}\t{}\n", refusal.number, refusal.line).into_bytes(),
+        _ => answer.text,
     }
 }

@@ -1,4 +1,4 @@
-//! Document 01 and the requests of document 02 that have landed (W-201, W-204, W-206, W-207), as a Rust program, written
+//! Document 01 and the requests of document 02 that have landed (W-201, W-204, W-206, W-207, W-202), as a Rust program, written
 //! from these documents alone, to judge another program by.
 //!
 //! Everything the search can come back to is persistent: formulas are shared trees, and bindings, levels, open goals,
@@ -23,5 +23,6 @@ pub mod term;
 pub mod text;
 pub mod unification;
 
-pub use api::{answer, check, check_text, engine_run, runner, Outcome, Run, Verdict};
+pub use api::{answer, answers, check, check_text, engine_ask, engine_run, runner, runner_for};
+pub use api::{Answer, Outcome, Request, Run, Verdict};
 pub use refusal::Refusal;

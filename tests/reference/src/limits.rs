@@ -1,4 +1,4 @@
-//! The numbers document 01 fixes, each with the paragraph it stands in.
+//! The numbers that the documents fix, each with the paragraph of document 01 or the request that it stands in.
 
 /// "Numbers are in base ten, ... up to 65,535"; W-204: "n from 0 to 65,535".
 pub const LARGEST_NUMBER: u32 = 65_535;
@@ -19,6 +19,8 @@ pub const SHEET_BYTES: usize = 16_384;
 pub const TABLE_NUMBERS: usize = 8_192;
 /// Refusal 3, and the units the checker accepts.
 pub const LARGEST_BUDGET: u32 = 50_000;
+/// Refusal 13 (W-202).
+pub const LARGEST_PROOFS: u32 = 64;
 /// Refusals 4 and 12.
 pub const TEXT_BYTES: usize = 65_535;
 /// Refusal 5: for each unit of budget, or for each LF of the text.

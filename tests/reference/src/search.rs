@@ -1,4 +1,4 @@
-//! Document 01, "The walk": goal-directed search for a proof, unit for unit.
+//! Document 01, "The walk": goal-directed search for a proof, unit for unit; with W-202 for as many as are wanted.
 
 use std::rc::Rc;
 
@@ -66,8 +66,9 @@ enum Alternative {
     },
 }
 
-/// A proof found: its steps in order, and the final bindings and levels.
+/// A proof found: the units so far, its steps in order, and the bindings and levels at its end.
 pub struct Proof {
+    pub units: u32,
     /// The goal's free variables, ascending.
     pub answers: Vec<(u8, Variable)>,
     pub steps: Vec<Rc<Step>>,
@@ -75,13 +76,16 @@ pub struct Proof {
 }
 
 pub enum End {
-    Proved(Proof),
+    /// As many proofs are found as are wanted.
+    Proved,
+    /// No alternative is left.
     No,
     Spent,
 }
 
-/// What the walk came to, with the units to be told.
+/// What the walk came to: the proofs in the order found, and how it ended, with the units to be told then.
 pub struct Ended {
+    pub proofs: Vec<Proof>,
     pub end: End,
     pub units: u32,
     /// How many bindings were looked through, and the most in a row: for tests.
@@ -89,7 +93,8 @@ pub struct Ended {
     pub longest_chain: u32,
 }
 
-pub fn search(sheet: &Sheet, budget: u32) -> Ended {
+/// The walk up to so many proofs, at least one.
+pub fn search(sheet: &Sheet, budget: u32, wanted: usize) -> Ended {
     let mut walk = Walk {
         sheet,
         units: Units::new(budget),
@@ -97,11 +102,13 @@ pub fn search(sheet: &Sheet, budget: u32) -> Ended {
         constants: 0,
         alternatives: Vec::new(),
     };
-    let (end, units) = match walk.run() {
-        Ok(proof) => (proof.map_or(End::No, End::Proved), walk.units.taken),
+    let mut proofs = Vec::new();
+    let (end, units) = match walk.run(wanted, &mut proofs) {
+        Ok(end) => (end, walk.units.taken),
         Err(OutOfUnits) => (End::Spent, budget),
     };
     Ended {
+        proofs,
         end,
         units,
         bindings: walk.units.bindings,
@@ -122,8 +129,8 @@ struct Walk<'a> {
 }
 
 impl Walk<'_> {
-    /// The first proof, or none.
-    fn run(&mut self) -> Result<Option<Proof>, OutOfUnits> {
+    /// Walks on until so many proofs are found, and adds each as it is found.
+    fn run(&mut self, wanted: usize, proofs: &mut Vec<Proof>) -> Result<End, OutOfUnits> {
         let free = self.sheet.goal.free.ascending();
         let answers: Vec<(u8, Variable)> = free.iter().map(|&v| (v, self.fresh_variable(0))).collect();
         let mut state = State {
@@ -131,24 +138,42 @@ impl Walk<'_> {
             store: Store::empty(),
             steps: List::empty(),
         };
-        while let Some((goal, rest)) = state.goals.split() {
-            let (goal, goals) = (goal.clone(), rest.clone());
-            let next = match self.take(goal, State { goals, ..state })? {
+        loop {
+            let taken = match state.goals.split() {
+                Some((goal, rest)) => {
+                    let (goal, goals) = (goal.clone(), rest.clone());
+                    self.take(goal, State { goals, ..state })?
+                }
+                None => {
+                    proofs.push(self.proof(&answers, state));
+                    if proofs.len() == wanted {
+                        return Ok(End::Proved);
+                    }
+                    // W-202: "the walk goes on after each proof as if it had failed".
+                    None
+                }
+            };
+            let next = match taken {
                 None => self.take_up_latest()?,
                 next => next,
             };
             match next {
-                None => return Ok(None),
+                None => return Ok(End::No),
                 Some(next) => state = next,
             }
         }
+    }
+
+    /// The proof of a state that has no goal left.
+    fn proof(&self, answers: &[(u8, Variable)], state: State) -> Proof {
         let mut steps: Vec<Rc<Step>> = state.steps.iter().cloned().collect();
         steps.reverse();
-        Ok(Some(Proof {
-            answers,
+        Proof {
+            units: self.units.taken,
+            answers: answers.to_vec(),
             steps,
             store: state.store,
-        }))
+        }
     }
 
     fn first_goal(&self, answers: &[(u8, Variable)]) -> Goal {

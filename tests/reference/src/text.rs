@@ -1,4 +1,4 @@
-//! Document 01, "The answer text".
+//! Document 01, "The answer text"; with W-202 the proofs in walk order.
 
 use std::collections::HashMap;
 use std::rc::Rc;
@@ -22,14 +22,18 @@ pub fn answer_text(sheet: &Sheet, ended: &Ended, limit: usize) -> Result<Vec<u8>
         variables: Numbering::default(),
         constants: Numbering::default(),
     };
-    let outcome = match ended.end {
-        End::Proved(_) => "proved",
-        End::No => "no",
-        End::Spent => "spent",
-    };
-    writer.put(format!("R\t{outcome}\t{}\n", ended.units).as_bytes())?;
-    if let End::Proved(proof) = &ended.end {
+    for proof in &ended.proofs {
+        // W-202: "each numbers its variables and constants from 0".
+        writer.variables = Numbering::default();
+        writer.constants = Numbering::default();
+        writer.outcome("proved", proof.units)?;
         writer.proof(proof)?;
+    }
+    // W-202: "then an R line with no or spent if fewer were found".
+    match ended.end {
+        End::Proved => {}
+        End::No => writer.outcome("no", ended.units)?,
+        End::Spent => writer.outcome("spent", ended.units)?,
     }
     Ok(writer.bytes)
 }
@@ -66,6 +70,10 @@ impl Writer<'_> {
         }
         self.bytes.extend(bytes);
         Ok(())
+    }
+
+    fn outcome(&mut self, outcome: &str, units: u32) -> Result<(), TooLong> {
+        self.put(format!("R\t{outcome}\t{units}\n").as_bytes())
     }
 
     fn proof(&mut self, proof: &Proof) -> Result<(), TooLong> {

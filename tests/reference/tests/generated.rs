@@ -180,7 +180,9 @@ fn numbers_occur() {
     let mut families: BTreeMap<String, u64> = BTreeMap::new();
     let mut outcomes: BTreeMap<String, u64> = BTreeMap::new();
     let mut written: BTreeMap<&str, u64> = BTreeMap::new();
-    for seed in 0..SHEETS {
+    // Few sheets have both numbers and too many lines of a kind.
+    let tried = 2 * SHEETS;
+    for seed in 0..tried {
         let (family, sheet) = sheet(seed);
         if !sheet.split(|&byte| byte == b'\n').any(|line| line.starts_with(b"N\t")) {
             continue;
@@ -207,8 +209,8 @@ fn numbers_occur() {
         }
     }
     let sheets: u64 = families.values().sum();
-    println!("{sheets} of {SHEETS} sheets with numbers: {outcomes:?}; terms written: {written:?}");
-    assert!(sheets > SHEETS / 4 && families.len() == FAMILIES.len() && families.values().all(|&count| count > 20));
+    println!("{sheets} of {tried} sheets with numbers: {outcomes:?}; terms written: {written:?}");
+    assert!(sheets > tried / 4 && families.len() == FAMILIES.len() && families.values().all(|&count| count > 20));
     for wanted in [
         "proved",
         "no",
@@ -241,7 +243,7 @@ fn bindings_occur() {
         let Ok(sheet) = read(&sheet(seed).1) else {
             continue;
         };
-        let walk = search(&sheet, budget(seed));
+        let walk = search(&sheet, budget(seed), 1);
         walks += 1;
         for (place, many) in MANY.into_iter().enumerate() {
             followed[place] += u64::from(walk.bindings >= many);

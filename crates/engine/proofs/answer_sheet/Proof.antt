@@ -10,7 +10,7 @@ returns c =
     let at-read-sheet = at-read .before .before .before .before in
     let at-pre = at-read-sheet .before .before .before .before .before .before in
     sheet-answers _ _ _ _ _ _ _ _ _ _ _ (at-read-sheet .read-sheet .ensures) (at-read .read .given .1) (at-pre .pre .2) (at-pre .pre .3)
-    (at-search .search .ensures)
+    (at-pre .pre .4) (at-search .search .ensures)
 
 returns-2 : tie.Need-returns-2
 returns-2 c =

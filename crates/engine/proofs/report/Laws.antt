@@ -14,16 +14,16 @@ use Rattle.engine.specs.Answering.{reported, reply, reportOutcome}
 -- What is told of the machine's mode.
 module _ (sheet t : List ℕ) (goal budget : ℕ) (w : List ℕ) (r : Registers) (out out′ : List ℕ) (n : ℕ) (e : Run) where
   pub report-proved : (w′ : List ℕ) → r .mode ≡ provedMode → answered w′ out′ n ≡ writeProof sheet t goal (made w r) (r .acts) out
-      → e ≡ reported Proved (r .acts) n → reply out′ e ≡ reportOutcome sheet t goal budget (made w r) out
+      → e ≡ reported Proved (r .acts) 1 n → reply out′ e ≡ reportOutcome sheet t goal budget (made w r) out
   unfolding reportOutcome
   report-proved w′ h q d = rw d (simp (reportOutcome, ← q, eq-eqb _ _ h))
 
-  pub report-no : (r .mode ≡ provedMode → ⊥) → r .mode ≡ noMode → written out′ n ≡ writeNo (r .acts) out → e ≡ reported No (r .acts) n
+  pub report-no : (r .mode ≡ provedMode → ⊥) → r .mode ≡ noMode → written out′ n ≡ writeNo (r .acts) out → e ≡ reported No (r .acts) 0 n
       → reply out′ e ≡ reportOutcome sheet t goal budget (made w r) out
   unfolding reportOutcome
   report-no k h q d = rw d (simp (reportOutcome, ← q, ne-eqb _ _ k, eq-eqb _ _ h))
 
   pub report-spent : (r .mode ≡ provedMode → ⊥) → (r .mode ≡ noMode → ⊥) → written out′ n ≡ writeSpent budget out
-      → e ≡ reported Spent budget n → reply out′ e ≡ reportOutcome sheet t goal budget (made w r) out
+      → e ≡ reported Spent budget 0 n → reply out′ e ≡ reportOutcome sheet t goal budget (made w r) out
   unfolding reportOutcome
   report-spent k h q d = rw d (simp (reportOutcome, ← q, ne-eqb _ _ k, ne-eqb _ _ h))

@@ -5,6 +5,7 @@ use lib.ListN.{length}
 use lib.Seq.{length-take-le}
 use Rattle.sheet_format.specs.Buffers.{demanded}
 use Rattle.sheet_format.specs.Limits.{numbersPerUnit}
+use Rattle.engine_spec.specs.Handed.{asked}
 use Rattle.engine_spec.proofs.Answered.{Passed}
 use Rattle.memory.proofs.Parts.{part-fits}
 use Rattle.engine.proofs.Laws.{part-demanded}
@@ -15,14 +16,14 @@ use Rattle.engine.proofs.run.Tie as tie
 
 -- Past the first test, no refusal by sizes arises.
 passed : (c : tie.Else1) → Passed (c .before .before .before .before .before .before .args .sheet .now)
-    (c .before .before .before .before .before .before .args .budget)
+    (asked (c .before .before .before .before .before .before .args .ask))
     (length (c .before .before .before .before .before .before .args .table .now))
     (length (c .before .before .before .before .before .before .args .work .now))
 passed c = early-passed _ _ _ _ (sym (c .before .run-refusal .ensures) ∙ c .if1 .left)
 
 work-fits : (c : tie.After-widen)
     → numbersPerUnit * c .widen .result ≤ length (c .before .before .before .before .before .before .before .args .work .now)
-unfolding demanded
+unfolding demanded asked
 work-fits c =
     let h = passed (c .before) .workFits in
     let e = c .widen .ensures .0 in
@@ -48,6 +49,7 @@ slice-aggregate-run-in-parts-2 c =
     sym (length-take-le _ (at-entry .args .work .now) (work-fits (c .before .before)))
 
 run-in-parts-requires : tie.Need-run-in-parts-requires
+unfolding asked
 run-in-parts-requires c κs =
     let at-point = c .before .before .before .before in
     let at-entry = at-point .before .before .before .before .before .before in
@@ -56,6 +58,7 @@ run-in-parts-requires c κs =
       p .sheetFits,
       part-fits 8192 (start .table .now) (p .tableFits),
       p .most,
+      p .leastProofs,
       part-demanded _ _ (start .work .now) (c .before .before .before .widen .ensures .0) (p .workFits),
     )
 

@@ -10,6 +10,7 @@ use Rattle.outcomes.proofs.Outcome.{the-type}
 use Rattle.outcomes.specs.declared.Outcome.{Outcome}
 use Rattle.outcomes.specs.declared.Outcome.the-variants.{Proved, No, Spent, Refused}
 use Rattle.outcomes.specs.Outcomes.{outcomeCode}
+use Rattle.engine_spec.specs.Handed.{asked}
 use Rattle.line_writer.proofs.Laws.{fits}
 use Rattle.runner_output.proofs.Laws.{refused-printed, answered-printed}
 use borrow.Author.Needs.{needs}
@@ -28,20 +29,22 @@ not-refused Spent h e = omega arith
 not-refused (Refused f) h e = ⊎-elim (λ d. omega arith) (⊎-elim (λ d. omega arith) (λ d. omega arith)) h
 
 returns : tie.Need-returns
+unfolding asked
 returns c =
     let at-outcome = c .before .before .before in
     let at-run = at-outcome .before .before .before .before .before in (
       fits _ _ (omega (arith, c .put-refusal .ensures .0, c .put-refusal .kept, at-run .run .kept, at-run .before .run-arg .given .0 .1)),
       c .put-refusal .ensures .1
-          ∙ refused-printed _ _ _ _ _ _ _ _ (at-run .run .ensures) (zeros 8192) (zeros 16384) (at-run .before .run-arg .given .0 .1) _
+          ∙ refused-printed _ _ _ _ _ _ _ _ _ (at-run .run .ensures) (zeros 8192) (zeros 16384) (at-run .before .run-arg .given .0 .1) _
           (at-outcome .outcome .given .1),
     )
 
 returns-2 : tie.Need-returns-2
+unfolding asked
 returns-2 c =
     let at-widen = c .before in
     let at-run = at-widen .before .before .before in
-    let p = answered-printed _ _ _ _ _ _ _ _ (at-run .run .ensures) (zeros 8192) (zeros 16384) (at-run .before .run-arg .given .0 .1) _
+    let p = answered-printed _ _ _ _ _ _ _ _ _ (at-run .run .ensures) (zeros 8192) (zeros 16384) (at-run .before .run-arg .given .0 .1) _
     (at-widen .widen .ensures .0) (not-refused _ (c .match .keys2)) in
     (fits _ _ (omega (arith, p .0, at-run .run .kept, at-run .before .run-arg .given .0 .1)), p .1)
 

@@ -1,4 +1,4 @@
--- The refusals of a sheet's lines are past 5, so past them the lent buffers end as zeros.
+-- The refusals of a sheet's lines are 6 to 11, so past them the lent buffers end as zeros.
 use Prim.Native.Nat.{ℕ, suc, _≤_}
 use native.Mathlib.Omega.{arith}
 use mathlib.Core.Path.{_≡_, subst}
@@ -21,70 +21,70 @@ use Rattle.sheet_format.specs.Sheets.{readSheet}
 -- A line that is refused, and a sheet.
 abbrev LateLine : Taken → Type 0
 LateLine (next u) = Unit {0}
-LateLine (stop n) = 6 ≤ n
+LateLine (stop n) = (6 ≤ n) × (n ≤ 11)
 LateLine (last g) = Unit {0}
 
 abbrev LateRead : Read → Type 0
 LateRead (sheet s) = Unit {0}
-LateRead (refused r) = 6 ≤ r .number
+LateRead (refused r) = (6 ≤ r .number) × (r .number ≤ 11)
 
--- If the refusals in both results of a test are past 5, so is that in the result picked.
+-- If the refusals in both results of a test are 6 to 11, so is that in the result picked.
 cond-late : (b : Bool) (x y : Taken) → LateLine x → LateLine y → LateLine (cond b x y)
 cond-late true x y h k = h
 cond-late false x y h k = k
 
--- The refusals of each kind of line are past 5.
+-- The refusals of each kind of line are 6 to 11.
 addNode-late : (t : Table) (o : Option Node) → LateLine (addNode t o)
 unfolding addNode
-addNode-late t none = omega arith
-addNode-late t (some n) = cond-late (isSomething n) _ (stop 9) tt (omega arith)
+addNode-late t none = (omega arith, omega arith)
+addNode-late t (some n) = cond-late (isSomething n) _ (stop 9) tt (omega arith, omega arith)
 
 addClause-late : (t : Table) (o : Option Clause) → LateLine (addClause t o)
 unfolding addClause
-addClause-late t none = omega arith
-addClause-late t (some c) = cond-late (anyFree variableNames 0 c) (stop 10) _ (omega arith) tt
+addClause-late t none = (omega arith, omega arith)
+addClause-late t (some c) = cond-late (anyFree variableNames 0 c) (stop 10) _ (omega arith, omega arith) tt
 
 clauseAt-late : (t : Table) (o : Option Node) → LateLine (clauseAt t o)
 unfolding clauseAt
-clauseAt-late t none = omega arith
+clauseAt-late t none = (omega arith, omega arith)
 clauseAt-late t (some n) = addClause-late t (n .clause)
 
 lastGoal-late : (o : Option Goal) → LateLine (lastGoal o)
 unfolding lastGoal
-lastGoal-late none = omega arith
+lastGoal-late none = (omega arith, omega arith)
 lastGoal-late (some g) = tt
 
 goalAt-late : (o : Option Node) → LateLine (goalAt o)
 unfolding goalAt
-goalAt-late none = omega arith
+goalAt-late none = (omega arith, omega arith)
 goalAt-late (some n) = lastGoal-late (n .goal)
 
--- The refusals of any line are past 5.
+-- The refusals of any line are 6 to 11.
 takeLine-late : (t : Table) (o : Option SheetLine) → LateLine (takeLine sameName t o)
 unfolding takeLine takeDeclaration takeNode takeClause
-takeLine-late t none = omega arith
+takeLine-late t none = (omega arith, omega arith)
 takeLine-late t (some (declareLine k n a)) =
-    cond-late (not (ltb (length (t .symbols)) maxSymbols)) (stop 7) _ (omega arith)
-    (cond-late (isDeclared sameName n (t .symbols)) (stop 8) _ (omega arith) tt)
+    cond-late (not (ltb (length (t .symbols)) maxSymbols)) (stop 7) _ (omega arith, omega arith)
+    (cond-late (isDeclared sameName n (t .symbols)) (stop 8) _ (omega arith, omega arith) tt)
 takeLine-late t (some (nodeLine l)) =
-    cond-late (not (ltb (length (t .nodes)) maxNodes)) (stop 7) _ (omega arith) (addNode-late t (nodeOf (t .symbols) (t .nodes) l))
+    cond-late (not (ltb (length (t .nodes)) maxNodes)) (stop 7) _ (omega arith, omega arith) (addNode-late t (nodeOf (t .symbols) (t .nodes) l))
 takeLine-late t (some (clauseLine n)) =
-    cond-late (not (ltb (length (t .clauses)) maxClauses)) (stop 7) _ (omega arith) (clauseAt-late t (getElem? (t .nodes) n))
+    cond-late (not (ltb (length (t .clauses)) maxClauses)) (stop 7) _ (omega arith, omega arith) (clauseAt-late t (getElem? (t .nodes) n))
 takeLine-late t (some (goalLine n)) = goalAt-late (getElem? (t .nodes) n)
 
--- The refusals at the end of the sheet are past 5.
+-- The refusals at the end of the sheet are 6 to 11.
 atEnd-late : (r : List ℕ) (k : ℕ) → LateRead (atEnd r k)
 unfolding atEnd
-atEnd-late [] k = omega arith
-atEnd-late (c ∷ cs) k = omega arith
+atEnd-late [] k = (omega arith, omega arith)
+atEnd-late (c ∷ cs) k = (omega arith, omega arith)
 
 afterGoal-late : (ls : List (List ℕ)) (r : List ℕ) (k : ℕ) (s : Sheet) → LateRead (afterGoal ls r k s)
 unfolding afterGoal
 afterGoal-late [] [] k s = tt
-afterGoal-late [] (c ∷ cs) k s = omega arith
-afterGoal-late (l ∷ ls) r k s = omega arith
+afterGoal-late [] (c ∷ cs) k s = (omega arith, omega arith)
+afterGoal-late (l ∷ ls) r k s = (omega arith, omega arith)
 
--- The refusals of a sheet's lines are past 5.
+-- The refusals of a sheet's lines are 6 to 11.
 readFrom-late : (o : Order) (ls : List (List ℕ)) (r : List ℕ) (k : ℕ) (t : Table) → LateRead (readFrom sheetForm o ls r k t)
 unfolding readFrom sheetForm
 readFrom-late o [] r k t = atEnd-late r k
@@ -111,6 +111,13 @@ readLines-late (l ∷ ls) r = go (sameBytes l orderLine)
     go true = readFrom-late latest ls r 2 emptyTable
     go false = readFrom-late oldest (l ∷ ls) r 1 emptyTable
 
-pub refused-late : (bytes : List ℕ) (r : Refusal) → readSheet bytes ≡ refused r → 6 ≤ r .number
+-- The refusal of a sheet that is not read.
+refused-number : (bytes : List ℕ) (r : Refusal) → readSheet bytes ≡ refused r → (6 ≤ r .number) × (r .number ≤ 11)
 unfolding readSheet readSheetBy
-refused-late bytes r e = subst LateRead e (readLines-late (linesOf bytes .whole) (linesOf bytes .rest))
+refused-number bytes r e = subst LateRead e (readLines-late (linesOf bytes .whole) (linesOf bytes .rest))
+
+pub refused-late : (bytes : List ℕ) (r : Refusal) → readSheet bytes ≡ refused r → 6 ≤ r .number
+refused-late bytes r e = refused-number bytes r e .0
+
+pub refused-few : (bytes : List ℕ) (r : Refusal) → readSheet bytes ≡ refused r → r .number ≤ 11
+refused-few bytes r e = refused-number bytes r e .1

@@ -1,6 +1,7 @@
 //! Seeded generators: sheets, each family aimed at a way in which a program can go wrong; answer texts; damaged bytes;
 //! and the calls of engine and checker that are tried with them.
 
+mod alternatives;
 mod bindings;
 pub mod builder;
 mod calls;
@@ -18,7 +19,7 @@ mod symbols;
 mod terms;
 mod texts;
 
-pub use calls::{checks, runs, runs_of, CheckCall, RunCall};
+pub use calls::{asks, asks_of, checks, runs, runs_of, AskCall, CheckCall, RunCall};
 pub use capitals::{changed_case, respelled_text};
 pub use damage::{damaged, noise};
 pub use special::special_text;
@@ -66,13 +67,15 @@ pub enum Family {
     Growth,
     /// Facts and goals over a few numbers.
     Channels,
+    /// Many ways to the same goal.
+    Alternatives,
     /// Sheets at a limit or one past it.
     Limits,
     /// Any other sheet with some bytes or lines changed.
     Damaged,
 }
 
-pub const FAMILIES: [Family; 19] = [
+pub const FAMILIES: [Family; 20] = [
     Family::Formulas,
     Family::Shadowing,
     Family::Sharing,
@@ -90,6 +93,7 @@ pub const FAMILIES: [Family; 19] = [
     Family::Recursion,
     Family::Growth,
     Family::Channels,
+    Family::Alternatives,
     Family::Limits,
     Family::Damaged,
 ];
@@ -98,7 +102,7 @@ pub const FAMILIES: [Family; 19] = [
 /// longer names, and a third an O line. Sheets at a limit, where the length of a line counts, have no longer names, and
 /// some have N lines of their own.
 pub fn sheet(seed: u64) -> (Family, Vec<u8>) {
-    let family = FAMILIES[(seed % FAMILIES.len() as u64) as usize];
+    let family = family(seed);
     let mut sheet = of_family(family, &mut Random::new(seed));
     if !matches!(family, Family::Channels | Family::Limits) {
         sheet = with_numbers(sheet, &mut Random::new(seed ^ 0x204));
@@ -110,6 +114,11 @@ pub fn sheet(seed: u64) -> (Family, Vec<u8>) {
     };
     let sheet = with_capitals(sheet, ending, random);
     (family, with_order(sheet, &mut Random::new(seed ^ 0x207)))
+}
+
+/// The family of a seed's sheet.
+pub fn family(seed: u64) -> Family {
+    FAMILIES[(seed % FAMILIES.len() as u64) as usize]
 }
 
 pub fn of_family(family: Family, random: &mut Random) -> Vec<u8> {
@@ -131,6 +140,7 @@ pub fn of_family(family: Family, random: &mut Random) -> Vec<u8> {
         Family::Recursion => terms::recursion(random),
         Family::Growth => terms::growth(random),
         Family::Channels => numbers::channels(random),
+        Family::Alternatives => alternatives::alternatives(random),
         Family::Limits => limits::limits(random),
         Family::Damaged => {
             let other = FAMILIES[random.below(FAMILIES.len() - 1)];

@@ -52,6 +52,75 @@ fn search(lent: &mut Lent, name: &str, sheet: &[u8]) {
     );
 }
 
+/// The time of k proofs beside the walk and the writing, both as the first proof's take them for each unit and each byte. Whether all
+/// proofs fit is known only when the last has been found.
+pub fn several_proofs() {
+    println!("Several proofs: reading and clearing taken off. One proof asked for, over the run without a number; then k proofs,");
+    println!("  their walk and their writing as the first takes them; the last number is (time - writing) over the walk, at most 2");
+    let lent = &mut Lent::new();
+    for (name, sheet) in sheets::short_searches() {
+        several_ways(lent, name, &sheet);
+    }
+    for (name, sheet) in [
+        ("64 facts", sheets::many_facts()),
+        ("a list of 16 elements parted", sheets::list_split(16)),
+    ] {
+        let all = lent.ask(&sheet, 50_000, 64);
+        let first = lent.run(&sheet, 50_000);
+        let [whole, one] = in_turn(|work| match work {
+            0 => _ = lent.ask(&sheet, all.units, 64),
+            _ => _ = lent.run(&sheet, first.units),
+        });
+        println!(
+            "  {name}: {} proofs of {} bytes and {} units in {}, the first alone in {}",
+            all.proofs,
+            all.length,
+            all.units,
+            microseconds(whole),
+            microseconds(one)
+        );
+    }
+}
+
+fn several_ways(lent: &mut Lent, name: &str, sheet: &[u8]) {
+    let (trivial, either) = (trivial(), sheets::doubled(sheet, 6));
+    let one = lent.run(sheet, 50_000);
+    let told = |proofs: u32| lent.ask(&either, 50_000, proofs);
+    // As many as fit into a text and the largest budget.
+    let tried = [64, 48, 32, 24, 16, 12, 8, 6, 4, 3, 2].map(told);
+    let all = *tried
+        .iter()
+        .find(|run| run.outcome == Outcome::Proved)
+        .expect("two proofs fit");
+    let proofs = all.proofs;
+    let short = one.units - 1;
+    let [written, asked, spent, cleared, one_unit, nothing, several, all_cleared, either_read] =
+        in_turn(|work| match work {
+            0 => _ = lent.run(sheet, one.units),
+            1 => _ = lent.ask(sheet, one.units, 1),
+            2 => _ = lent.run(sheet, short),
+            3 => _ = lent.run(&trivial, short),
+            4 => _ = lent.run(sheet, 1),
+            5 => _ = lent.run(&trivial, 1),
+            6 => _ = lent.ask(&either, all.units, proofs),
+            7 => _ = lent.run(&trivial, all.units),
+            _ => _ = lent.run(&either, 1),
+        });
+    let walk = without(spent, cleared + without(one_unit, nothing)) * f64::from(all.units) / f64::from(short);
+    let writing = without(written, spent) * all.length as f64 / one.length as f64;
+    let several = without(several, all_cleared + without(either_read, nothing));
+    println!(
+        "  {name}: {:.2}; {proofs} proofs of {} bytes and {} units in {}, walk {}, writing {}; {:.2}",
+        asked / written,
+        all.length,
+        all.units,
+        microseconds(several),
+        microseconds(walk),
+        microseconds(writing),
+        without(several, writing) / walk
+    );
+}
+
 /// Clearing alone, at each budget.
 pub fn clearing() {
     println!("Clearing the lent buffers (a goal `true`), by budget:");

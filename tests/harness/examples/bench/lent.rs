@@ -1,6 +1,6 @@
 //! Lent buffers, made once.
 
-use rules::{check_here, run_here, Run, Verdict};
+use rules::{ask_here, check_here, run_here, Request, Run, Verdict};
 
 pub struct Lent {
     table: Vec<u32>,
@@ -22,6 +22,14 @@ impl Lent {
         let work = &mut self.work[..64 * budget as usize];
         // SAFETY: a main thread has 8 MB of stack; `memory` tries less in processes of their own.
         unsafe { run_here(sheet, budget, &mut self.table, work, &mut self.answer) }
+    }
+
+    /// A run for so many proofs.
+    pub fn ask(&mut self, sheet: &[u8], budget: u32, proofs: u32) -> Run {
+        let work = &mut self.work[..64 * budget as usize];
+        let request = Request { budget, proofs };
+        // SAFETY: a main thread has 8 MB of stack; `memory` tries less in processes of their own.
+        unsafe { ask_here(sheet, request, &mut self.table, work, &mut self.answer) }
     }
 
     /// The text of the run before.

@@ -19,6 +19,7 @@ fn main() {
     }
     rivals::searches();
     engine::searches();
+    engine::several_proofs();
     engine::clearing();
     engine::growth();
     engine::reader();

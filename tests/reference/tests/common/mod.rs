@@ -2,6 +2,7 @@
 // Each test is a crate of its own and uses a part of this.
 #![allow(dead_code)]
 
+pub mod derivations;
 pub mod naive;
 
 use reference::{Outcome, Refusal};

@@ -5,14 +5,14 @@
 use std::collections::HashMap;
 
 #[derive(Clone, PartialEq, Debug)]
-enum Term {
+pub(super) enum Term {
     Variable(u8),
     /// Function symbols; numbers (W-204), made constants and leftover variables under their whole spelling.
     Applied(String, Vec<Term>),
 }
 
 #[derive(Clone, PartialEq, Debug)]
-enum Formula {
+pub(super) enum Formula {
     Atom(String, Vec<Term>),
     True,
     And(Box<Formula>, Box<Formula>),
@@ -25,9 +25,9 @@ enum Formula {
 pub struct Judge {
     functions: HashMap<String, usize>,
     /// W-207: whether the first line is `O latest`.
-    latest: bool,
-    program: Vec<Formula>,
-    goal: Formula,
+    pub(super) latest: bool,
+    pub(super) program: Vec<Formula>,
+    pub(super) goal: Formula,
 }
 
 const MOST_NODES: usize = 3_000;
@@ -157,10 +157,11 @@ struct Reading<'a> {
     variables: Vec<String>,
 }
 
-struct Sequent {
-    program: Vec<Formula>,
-    goal: Formula,
-    level: usize,
+#[derive(Clone)]
+pub(super) struct Sequent {
+    pub(super) program: Vec<Formula>,
+    pub(super) goal: Formula,
+    pub(super) level: usize,
 }
 
 impl<'a> Reading<'a> {
@@ -329,7 +330,7 @@ fn stands_in(term: &Term, variable: u8) -> bool {
     }
 }
 
-fn free(formula: &Formula, variable: u8) -> bool {
+pub(super) fn free(formula: &Formula, variable: u8) -> bool {
     match formula {
         Formula::Atom(_, arguments) => arguments.iter().any(|term| stands_in(term, variable)),
         Formula::True => false,
@@ -352,7 +353,7 @@ fn replaced_in(term: &Term, variable: u8, by: &Term) -> Term {
 }
 
 /// The formula with a closed term for a free variable.
-fn replaced(formula: &Formula, variable: u8, by: &Term) -> Formula {
+pub(super) fn replaced(formula: &Formula, variable: u8, by: &Term) -> Formula {
     let part = |formula: &Formula| Box::new(replaced(formula, variable, by));
     match formula {
         Formula::Atom(name, arguments) => Formula::Atom(
@@ -369,13 +370,13 @@ fn replaced(formula: &Formula, variable: u8, by: &Term) -> Formula {
     }
 }
 
-struct Member {
-    prefix: Vec<u8>,
-    head: Formula,
-    body: Option<Formula>,
+pub(super) struct Member {
+    pub(super) prefix: Vec<u8>,
+    pub(super) head: Formula,
+    pub(super) body: Option<Formula>,
 }
 
-fn members(clause: &Formula) -> Vec<Member> {
+pub(super) fn members(clause: &Formula) -> Vec<Member> {
     match clause {
         Formula::Atom(..) => vec![Member {
             prefix: Vec::new(),

@@ -1,6 +1,6 @@
-use borrow.Author.Tests.{lt-ltb, le-ltb, eq-eqb, ne-eqb}
-use Rattle.sheet_format.specs.Buffers.{demanded}
+use borrow.Author.Tests.{lt-ltb, le-ltb}
 use Rattle.engine.specs.Answering.{runRefusal}
+use Rattle.engine.proofs.size_checks.Laws.{refused-ask, refused-work, refused-none}
 use borrow.Author.Needs.{needs}
 use Rattle.engine.proofs.size_checks.run_refusal.Statement.{statement}
 use Rattle.engine.proofs.size_checks.run_refusal.Tie as tie
@@ -14,51 +14,23 @@ unfolding runRefusal
 returns-2 c = simp (runRefusal, lt-ltb _ _ (c .if2 .taken), le-ltb _ _ (c .before .if1 .left))
 
 returns-3 : tie.Need-returns-3
-unfolding runRefusal
-returns-3 c = simp (runRefusal, eq-eqb _ _ (c .if3 .taken), le-ltb _ _ (c .before .before .if1 .left), le-ltb _ _ (c .before .if2 .left))
+returns-3 c =
+    let at-ask = c .before in
+    refused-ask _ _ _ _ _ (at-ask .before .before .if1 .left) (at-ask .before .if2 .left) (at-ask .ask-refusal .ensures) (c .if3 .taken)
 
 returns-4 : tie.Need-returns-4
-unfolding runRefusal
 returns-4 c =
-    simp (
-      runRefusal,
-      lt-ltb _ _ (c .if4 .taken),
-      le-ltb _ _ (c .before .before .before .if1 .left),
-      le-ltb _ _ (c .before .before .if2 .left),
-      ne-eqb _ _ (c .before .if3 .left),
-    )
+    let at-if3 = c .before .before in
+    let at-ask = at-if3 .before in
+    refused-work _ _ _ _ _ (at-ask .before .before .if1 .left) (at-ask .before .if2 .left) (at-ask .ask-refusal .ensures) _
+    (at-if3 .if3 .left) (c .before .widen .ensures .0) (c .if4 .taken)
 
 returns-5 : tie.Need-returns-5
-unfolding runRefusal demanded
 returns-5 c =
-    let at-if2 = c .before .before .before .before in
-    let at-if1 = at-if2 .before in
-    simp (
-      runRefusal,
-      ← c .before .widen .ensures .0,
-      lt-ltb _ _ (c .if5 .taken),
-      le-ltb _ _ (at-if1 .if1 .left),
-      le-ltb _ _ (at-if2 .if2 .left),
-      ne-eqb _ _ (c .before .before .before .if3 .left),
-      le-ltb _ _ (c .before .before .if4 .left),
-    )
-
-returns-6 : tie.Need-returns-6
-unfolding runRefusal demanded
-returns-6 c =
-    let at-if2 = c .before .before .before .before in
-    let at-if1 = at-if2 .before in
-    simp (
-      runRefusal,
-      ← c .before .widen .ensures .0,
-      le-ltb _ _ (c .if5 .left),
-      le-ltb _ _ (at-if1 .if1 .left),
-      le-ltb _ _ (at-if2 .if2 .left),
-      ne-eqb _ _ (c .before .before .before .if3 .left),
-      le-ltb _ _ (c .before .before .if4 .left),
-    )
+    let at-if3 = c .before .before in
+    let at-ask = at-if3 .before in
+    refused-none _ _ _ _ _ (at-ask .before .before .if1 .left) (at-ask .before .if2 .left) (at-ask .ask-refusal .ensures) _
+    (at-if3 .if3 .left) (c .before .widen .ensures .0) (c .if4 .left)
 
 pub run-refusal-spec : {M : Type 1} → statement M
-run-refusal-spec =
-    tie.close
-    (tie.spec returns returns-2 returns-3 returns-4 (λ c κs. search needs) (λ c. search needs) returns-5 returns-6)
+run-refusal-spec = tie.close (tie.spec returns returns-2 (λ c κs. search needs) returns-3 (λ c κs. search needs) (λ c. search needs) returns-4 returns-5)
