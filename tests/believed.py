@@ -19,6 +19,7 @@ STATEMENTS = [
     ("engine_spec", "Handed", ["handed"]),
     ("checker_spec", "Handed", ["handed"]),
     ("rules", "RulesRun", ["RulesRun"]),
+    ("rules", "RulesAsk", ["RulesAsk"]),
     ("rules", "RulesCheck", ["RulesCheck"]),
 ]
 # What a theorem says to be exactly another definition here is not to be believed: T6 of the judgement as a function.

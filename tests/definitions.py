@@ -32,8 +32,8 @@ unfolding computeRun computeJudgement countLf checkSheet turnBackIf checkText
 computeCheck bytes text t w = checkText bytes text t w
 """
 OUTCOMES = {"proved": "reportedProved", "no": "reportedNo", "spent": "reportedSpent"}
-# The largest budget of a run for several proofs that is computed: the prover is slow.
-LARGEST_BUDGET = 2_000
+# The largest budget of a run for several proofs that is computed: 63 proofs within 2,000 units take more steps than the prover has.
+LARGEST_BUDGET = 1_000
 # Work numbers for a text of 300 lines; a text of more lines is refused, and the stored ones have fewer.
 WORK = 64 * 300
 

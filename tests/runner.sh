@@ -61,6 +61,10 @@ expect_text 'units 257' 'R\tspent\t256\n' "$@" <"$work/limit.sheet"
 # Request W-202: with a number it prints the text with at most so many proofs; what is no number from 1 to 64 is refusal 13. The stored
 # runs with the runner's budget and a table that is long enough; those that are refused under 12 have a shorter answer buffer.
 before=$compared
+# docs/SHEETS.md, "The other ways".
+expect_text 'examples/ways.sheet' \
+    'R\tproved\t10\nB\t0\told_vic\nD\tclause\t1\told_vic\nD\tleft\nD\tclause\t2\nR\tproved\t18\nB\t0\told_vic\nD\tclause\t1\told_vic\nD\tright\nD\tclause\t3\nR\tproved\t21\nB\t0\tlyric\nD\tclause\t1\tlyric\nD\tright\nD\tclause\t4\nR\tno\t24\n' \
+    "$@" 4 <"$(dirname "$cases")/../examples/ways.sheet"
 for sheet in "$cases"/ways/*.sheet; do
     read -r budget proofs table _ <"${sheet%.sheet}.args"
     want=${sheet%.sheet}.want
