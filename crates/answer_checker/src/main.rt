@@ -1,6 +1,8 @@
 // The checker on two files, a sheet and an answer text, which the arguments name: prints what `checker_output` makes of them. Of each
 // file it reads at most one byte more than is allowed: then refusal 1 or 4 is told, as it is of the whole (`FrontsSuffice` in
 // checker_output).
+#![tactic(auto)]
+
 use checker_output::{LINE_BYTES, SHEET_BYTES, TEXT_BYTES};
 use libc::STDOUT_FILENO;
 

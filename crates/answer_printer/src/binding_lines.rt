@@ -12,7 +12,7 @@ use sheet_format::limits;
 use term_printer::Bounds;
 
 // Names of variables, from the first on: a bit for each says whether it stands free, the lowest for the first.
-#[derive(Drop)]
+#[derive(Clone, Copy)]
 pub struct Names {
     pub first: u32,
     pub bits: u32,

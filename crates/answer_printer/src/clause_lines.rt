@@ -13,7 +13,7 @@ use term_printer::cursor::emit_to;
 use term_printer::{Bounds, term_to};
 
 // So many variables, from the first on.
-#[derive(Drop)]
+#[derive(Clone, Copy)]
 pub struct Variables {
     pub first: usize,
     pub count: u32,

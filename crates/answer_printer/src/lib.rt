@@ -1,6 +1,8 @@
 // The answer printer: texts of proofs, written one after another into bytes of its own, and copied into the answer buffer where
 // they fit.
 // Each function is a definition of the crate printing, and its contract says so.
+#![tactic(auto)]
+
 mod binding_lines;
 mod clause_lines;
 mod line_parts;
@@ -26,21 +28,21 @@ use term_printer::Bounds;
 use term_printer::path_links::link_path;
 
 // The most bytes that may be written, and how many are.
-#[derive(Drop)]
+#[derive(Clone, Copy)]
 pub struct Room {
     pub limit: u32,
     pub at: u32,
 }
 
 // A search: the node of its goal, and its units.
-#[derive(Drop)]
+#[derive(Clone, Copy)]
 pub struct Search {
     pub goal: u32,
     pub units: u32,
 }
 
 // A proved search: the node of its goal, the units, and the link to the first line of its path.
-#[derive(Drop)]
+#[derive(Clone, Copy)]
 pub struct Proved {
     pub goal: u32,
     pub units: u32,

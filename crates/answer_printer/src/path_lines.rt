@@ -33,7 +33,7 @@ pub fn plain_to(limit: u32, out: &mut [u8], p: Cursor, k: u32) -> Cursor
 }
 
 // A line of the path: its record, and its kind.
-#[derive(Drop)]
+#[derive(Clone, Copy)]
 pub struct PathLine {
     pub record: u32,
     pub kind: u32,

@@ -1,1 +1,2 @@
 // The answer text: definitions and laws only, see specs/ and proofs/.
+#![tactic(auto)]

@@ -1,4 +1,6 @@
 // The checker: a sheet is read and a text is judged line by line, in buffers that the caller lends (document 01).
+#![tactic(auto)]
+
 ghost use Rattle.std.specs.Prelude.{◌≡◌, ◌≤◌, length, replicate};
 ghost use Rattle.sheet_format.specs.Limits.{max_sheet_bytes, table_numbers, max_text_bytes};
 ghost use Rattle.sheet_format.specs.Buffers.{demanded};

@@ -1,4 +1,6 @@
 // What the answer checker prints for a sheet and an answer text.
+#![tactic(auto)]
+
 ghost use Rattle.std.specs.Prelude.{◌≤◌, ◌≡◌, length, take};
 ghost use Rattle.line_writer.specs.Appending.{Fits};
 ghost use Rattle.line_writer.specs.RefusalLine.{refusal_line_bytes};

@@ -1,1 +1,2 @@
 // What the checker answers and what each lent buffer then holds: definitions and theorems only, see specs/ and proofs/.
+#![tactic(auto)]

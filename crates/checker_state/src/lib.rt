@@ -1,4 +1,6 @@
 // What the checker holds between two lines: the sequent that is due, its members, the line that is due.
+#![tactic(auto)]
+
 pub mod hypothesis_chains;
 pub mod open_sequents;
 pub mod places;
@@ -6,7 +8,7 @@ pub mod registers;
 pub mod starts;
 
 // What the table of the sheet has: how many symbols and clauses, and the node of the goal.
-#[derive(Drop)]
+#[derive(Clone, Copy)]
 pub struct Shape {
     pub symbols: u32,
     pub clauses: u32,
@@ -14,7 +16,7 @@ pub struct Shape {
 }
 
 // A line of the text: its number, counted from 0, the position reached in it, and where it ends.
-#[derive(Drop)]
+#[derive(Clone, Copy)]
 pub struct Line {
     pub number: u32,
     pub at: usize,

@@ -1,5 +1,7 @@
 // The members of a clause, found one by one by walking down the clause's nodes in the table: what the engine tries and what the
 // checker looks up. It names nothing of either.
+#![tactic(auto)]
+
 ghost use Rattle.std.specs.Prelude.{◌≡◌};
 ghost use Rattle.clause_members.specs.Members.{found, with_leaf, side_of, chain_at, push_name, push_free, reverse_free, pass_chain};
 ghost use Rattle.clause_members.specs.Members.{find_member, member, head_of};
@@ -12,7 +14,7 @@ use sheet_format::limits;
 
 // A member of a clause: its node in the table, and the names of its prefix, outermost first, as digits to base 8, lowest first. On the
 // way down: the node that the walk has come to, and the names that the U nodes above it bind.
-#[derive(Drop)]
+#[derive(Clone, Copy)]
 pub struct Found {
     pub leaf: u32,
     pub names: u32,
@@ -20,7 +22,7 @@ pub struct Found {
 }
 
 // A side of an & node, and the number that the member has there.
-#[derive(Drop)]
+#[derive(Clone, Copy)]
 struct Side {
     node: u32,
     place: u32,

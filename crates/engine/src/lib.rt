@@ -1,4 +1,6 @@
 // The engine: a sheet is read, searched within a budget and answered, in buffers that the caller lends (document 01).
+#![tactic(auto)]
+
 mod listing;
 mod report;
 mod size_checks;

@@ -16,7 +16,7 @@ use outcomes::{Outcome, Run};
 use term_printer::path_links::clear_variables;
 
 // What is searched for: the number of the sheet's clauses, the goal's node, the budget and the number of proofs.
-#[derive(Drop)]
+#[derive(Clone, Copy)]
 pub struct Query {
     pub clauses: u32,
     pub goal: u32,
@@ -25,7 +25,7 @@ pub struct Query {
 }
 
 // The registers after the last act, the length of the texts so far, and how many proofs are still wanted.
-#[derive(Drop)]
+#[derive(Clone, Copy)]
 pub struct Progress {
     pub registers: Registers,
     pub at: u32,

@@ -26,6 +26,7 @@ paths_derivations cs g c n = record {
 -- To what stands in the first list something in the second corresponds.
 paired_with : {A B : Type 0} (R : A → B → Type 0) (a : A) (x : List A) (y : List B) → Mem a x → Paired R x y → (b : B) × (Mem b y × R a b)
 unfolding Paired
+paired_with R a [] y h p = elim h [ ]
 paired_with R a (c ∷ x) [] here p = absurd p
 paired_with R a (c ∷ x) (b ∷ y) here p = (b, (here, p.0))
 paired_with R a (c ∷ x) [] (there h) p = absurd p

@@ -1,4 +1,6 @@
 // Taking whatever goal is due. Each function is a definition of the crate machine, and its contract says so.
+#![tactic(auto)]
+
 mod connectives;
 pub mod goals;
 mod quantifiers;

@@ -25,7 +25,7 @@ pub const CHILD_LIMIT: u32 = 8;
 const FEW_NODES: usize = 8;
 
 // A range of the text.
-#[derive(Drop)]
+#[derive(Clone, Copy)]
 pub struct Range {
     pub start: usize,
     pub end: usize,
@@ -164,7 +164,7 @@ fn mark_before(j: u32, n: u32) -> u8
 }
 
 // What a match comes to with a stack that is lent: where it ends, unless more nodes are open than the stack has room for.
-#[derive(Drop)]
+#[derive(Clone, Copy)]
 pub struct LentMatch {
     pub full: bool,
     pub reach: Reach,

@@ -1,4 +1,6 @@
 // Comparing instances of sheet terms without unfolding them.
+#![tactic(auto)]
+
 mod brief_comparisons;
 pub mod frames;
 mod instance_ranges;
@@ -29,14 +31,14 @@ const BRIEF_DEPTH: u32 = 3;
 const ELEMENTS: u32 = class_elements::COUNT as u32;
 
 // An instance of a sheet term: a node of the table, with a frame for its names.
-#[derive(Drop)]
+#[derive(Clone, Copy)]
 pub struct Instance {
     pub node: u32,
     pub frame: u32,
 }
 
 // Two elements, with the frames of the two sides.
-#[derive(Drop)]
+#[derive(Clone, Copy)]
 pub struct Pair {
     pub left: u32,
     pub right: u32,
@@ -46,7 +48,7 @@ pub struct Pair {
 
 // What a look at two elements finds: whether their terms may be the same, and 1 if that depends on the children of two applications,
 // which are to be compared next (specs/OpenPairs.antt).
-#[derive(Drop)]
+#[derive(Clone, Copy)]
 pub struct Comparison {
     pub same: bool,
     pub opens: usize,

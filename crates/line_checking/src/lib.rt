@@ -1,8 +1,10 @@
 // The checker's judgement of an answer text on flat memory: see specs/ for the definitions, proofs/ for the simulation.
+#![tactic(auto)]
+
 pub mod text_stages;
 
 // All of the checker's state that is not in the work buffer. A pointer is the number of a record plus 1, and 0 for none.
-#[derive(Drop)]
+#[derive(Clone, Copy)]
 pub struct Registers {
     // What is due (module `text_stages`).
     pub stage: u32,
@@ -21,7 +23,7 @@ pub struct Registers {
 
 // The links of a hypothesis (specs/HypothesisChains.antt): how many hypotheses there are from it on, a jump to an older one, and how many
 // members the jump passes.
-#[derive(Drop)]
+#[derive(Clone, Copy)]
 pub struct Links {
     pub depth: u32,
     pub jump: u32,
@@ -29,7 +31,7 @@ pub struct Links {
 }
 
 // A clause of a program and the number of one of its members.
-#[derive(Drop)]
+#[derive(Clone, Copy)]
 pub enum Place {
     At(u32, u32, u32),
     Nowhere,

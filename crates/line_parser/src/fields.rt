@@ -7,7 +7,7 @@ ghost use Rattle.line_parser.specs.Fields.{field_len, first_number, number_answe
 use sheet_format::limits;
 
 // A field as a number: its value and the field's length, or no number.
-#[derive(Drop)]
+#[derive(Clone, Copy)]
 pub enum Number {
     Value(u32, usize),
     Bad,

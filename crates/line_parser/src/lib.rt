@@ -1,4 +1,6 @@
 // Reading a line of a sheet, without its LF: its letter tells its kind. A line that is malformed is refused with number 6.
+#![tactic(auto)]
+
 mod fields;
 mod line_kinds;
 pub mod lines;

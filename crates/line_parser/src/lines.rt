@@ -11,7 +11,7 @@ use outcomes::refusals;
 use sheet_format::limits;
 
 // The node numbers of an A line: how many, and the first four, 0 where there are fewer.
-#[derive(Drop)]
+#[derive(Clone, Copy)]
 pub struct Nodes {
     pub count: u32,
     pub a: u32,
@@ -21,7 +21,7 @@ pub struct Nodes {
 }
 
 // A line that makes a node.
-#[derive(Drop)]
+#[derive(Clone, Copy)]
 pub enum NodeLine {
     Variable(u32),
     Numeral(u32),
@@ -34,7 +34,7 @@ pub enum NodeLine {
     Forall(u32, u32),
 }
 
-#[derive(Drop)]
+#[derive(Clone, Copy)]
 pub enum Line {
     // A declaration: whether it is a function symbol, the length of the name, which starts at offset 2, and the arity.
     Declare(bool, usize, u32),
@@ -46,14 +46,14 @@ pub enum Line {
 }
 
 // The rest of a line as one number, or the refusal's number: 6.
-#[derive(Drop)]
+#[derive(Clone, Copy)]
 pub enum One {
     Only(u32),
     Refused(u32),
 }
 
 // The rest of a line as two numbers, or the refusal's number: 6.
-#[derive(Drop)]
+#[derive(Clone, Copy)]
 pub enum Two {
     Both(u32, u32),
     Refused(u32),

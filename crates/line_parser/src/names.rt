@@ -104,7 +104,7 @@ pub fn read_name(s: &[u8]) -> &[u8]
 }
 
 // What the part says that `read_name` returned: a name of so many bytes, or none. An enum cannot hold the part itself.
-#[derive(Drop)]
+#[derive(Clone, Copy)]
 pub enum Name {
     Of(usize),
     NotAName,

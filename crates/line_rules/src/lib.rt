@@ -1,4 +1,6 @@
 // The line of each kind: one rule for each.
+#![tactic(auto)]
+
 pub mod binding_lines;
 pub mod clause_rules;
 pub mod connective_rules;

@@ -11,7 +11,7 @@ use sheet_format::limits;
 use term_scanner::scan_term;
 
 // The names of a prefix, `count` digits to base 8, outermost first and lowest first; their terms are at most of this level.
-#[derive(Drop)]
+#[derive(Clone, Copy)]
 pub struct Prefix {
     pub names: u32,
     pub count: u32,

@@ -1,4 +1,6 @@
 // Lines of text into a lent buffer: bytes, numbers in base ten, the line that tells a refusal.
+#![tactic(auto)]
+
 ghost use Rattle.std.specs.Prelude.{◌+◌, ◌≤◌, ◌<◌, ◌≡◌, [], ◌∷◌, length, take};
 ghost use Rattle.sheet_format.specs.Bytes.{digits, decimal};
 ghost use Rattle.line_writer.specs.Appending.{Appends};

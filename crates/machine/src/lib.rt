@@ -1,11 +1,13 @@
 // The engine's machine: see specs/ for its definitions, proofs/ for the simulation of the search.
+#![tactic(auto)]
+
 pub mod fields;
 pub mod lines;
 pub mod modes;
 pub mod tags;
 
 // All of the machine's state that is not in the work buffer. A pointer is the number of a record plus 1, and 0 for none.
-#[derive(Drop)]
+#[derive(Clone, Copy)]
 pub struct Registers {
     // The number of acts done, which is the number of the record that the next act may write.
     pub acts: u32,

@@ -1,5 +1,7 @@
 // The walk in the lent work buffer: one act, and at most so many acts. Each function is a definition of the crate machine, and
 // its contract says so.
+#![tactic(auto)]
+
 ghost use Rattle.std.specs.Prelude.{ℕ, ◌≤◌, ◌<◌, ◌≡◌};
 ghost use Rattle.machine.specs.Records.{made};
 ghost use Rattle.machine.specs.Words.{increment};

@@ -1,4 +1,6 @@
 // The machine's work buffer: chains of assumptions, cells, words, records, the trail, frames, registers, choice points.
+#![tactic(auto)]
+
 pub mod assumption_chains;
 pub mod cells;
 pub mod choice_points;

@@ -1,4 +1,6 @@
 // The machine's acts on a pair of arguments: matching, with range checks.
+#![tactic(auto)]
+
 pub mod comparing;
 mod occurs_check;
 pub mod pairs;

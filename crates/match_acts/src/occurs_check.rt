@@ -15,7 +15,7 @@ use machine_memory::words::{increment, name_of};
 use memory::{field, widen};
 
 // What a node of a range check comes to: failure, or the variable to lower (0 for none), its level then, and the nodes left.
-#[derive(Drop)]
+#[derive(Clone, Copy)]
 pub enum Visit {
     Fails,
     Passes(u32, u32, u32),

@@ -1,5 +1,7 @@
 // Total access to lent numbers and bytes, and to records of 64 numbers: past the end a read gives 0 and a write does nothing. So no
 // caller has to prove an index, and every contract above is an equation on lists.
+#![tactic(auto)]
+
 ghost use Rattle.std.specs.Prelude.{◌≡◌, ◌<◌, ◌≤◌, ◌++◌, length, get_or, set, drop, replicate};
 ghost use Rattle.memory.specs.Records.{field, put_field};
 

@@ -1,4 +1,6 @@
 // The lent table of 8,192 numbers: symbols, nodes, clauses and the order in force, read field by field. A read past the end gives 0.
+#![tactic(auto)]
+
 pub mod fingerprints;
 pub mod kinds;
 pub mod layout;

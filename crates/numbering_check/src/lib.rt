@@ -1,5 +1,7 @@
 // Numbering by first showing, checked in the answer text. The levels of first showings are kept in lent numbers, so that a text is gone
 // through once.
+#![tactic(auto)]
+
 mod first_levels;
 mod level_cache;
 

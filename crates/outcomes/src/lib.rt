@@ -1,4 +1,6 @@
 // What the engine and the checker hand back (document 01, "proved, no, spent or one numbered refusal with its line").
+#![tactic(auto)]
+
 pub mod codes;
 pub mod refusals;
 
@@ -6,13 +8,13 @@ ghost use Rattle.std.specs.Prelude.{◌≡◌};
 ghost use Rattle.outcomes.specs.Outcomes.{refused_run};
 
 // Document 01's number of a refusal, and the line.
-#[derive(Drop)]
+#[derive(Clone, Copy)]
 pub struct Refusal {
     pub number: u32,
     pub line: u32,
 }
 
-#[derive(Drop)]
+#[derive(Clone, Copy)]
 pub enum Outcome {
     Proved,
     No,
@@ -21,14 +23,14 @@ pub enum Outcome {
 }
 
 // What the caller asks for: at most so many units, and at most so many proofs (request W-202).
-#[derive(Drop)]
+#[derive(Clone, Copy)]
 pub struct Request {
     pub budget: u32,
     pub proofs: u32,
 }
 
 // Outcome and units are those of the last R line. Units, number of proofs and text length are 0 where the run is refused.
-#[derive(Drop)]
+#[derive(Clone, Copy)]
 pub struct Run {
     pub outcome: Outcome,
     pub units: u32,
@@ -37,7 +39,7 @@ pub struct Run {
 }
 
 // The line of a text that breaks.
-#[derive(Drop)]
+#[derive(Clone, Copy)]
 pub enum Verdict {
     Valid,
     Invalid(u32),

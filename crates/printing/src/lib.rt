@@ -1,4 +1,6 @@
 // The answer printer on flat memory: see specs/ for its definitions, proofs/ for the text that it writes.
+#![tactic(auto)]
+
 pub mod fields;
 
 // The number of lines that a link tells apart (specs/Links.antt).
@@ -8,7 +10,7 @@ pub const LINE_CODES: u32 = 8;
 pub const NO_ROOM: u32 = 65536;
 
 // Where the next byte goes, and how many leftover variables and made constants have been numbered.
-#[derive(Drop)]
+#[derive(Clone, Copy)]
 pub struct Cursor {
     pub at: u32,
     pub variables: u32,

@@ -1,1 +1,2 @@
 // What engine and checker promise together, see specs/ and proofs/.
+#![tactic(auto)]

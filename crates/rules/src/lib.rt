@@ -1,4 +1,6 @@
 // The interface for C and Rust (include/rules.h): what the engine and the checker hand back, as numbers.
+#![tactic(auto)]
+
 ghost use Rattle.std.specs.Prelude.{◌≡◌, [], ◌∷◌, get_or};
 ghost use Rattle.engine_spec.specs.Handed.{asked, handed as handedRun};
 ghost use Rattle.checker_spec.specs.Handed.{handed as handedCheck};

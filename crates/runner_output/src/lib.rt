@@ -1,4 +1,6 @@
 // What the sheet runner prints for a sheet: document 01, "The sheet runner reads a sheet from standard input ...".
+#![tactic(auto)]
+
 ghost use Rattle.std.specs.Prelude.{◌≡◌, take};
 ghost use Rattle.line_writer.specs.Appending.{Fits};
 ghost use Rattle.runner_output.specs.RunnerOutput.{runner_output, proofs_asked};

@@ -1,1 +1,2 @@
 // The search: definitions and laws only, see specs/ and proofs/.
+#![tactic(auto)]

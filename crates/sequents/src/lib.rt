@@ -1,1 +1,2 @@
 // Derivations: definitions and laws only, see specs/ and proofs/.
+#![tactic(auto)]

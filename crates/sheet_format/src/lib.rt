@@ -1,3 +1,5 @@
 // The sheet format, see specs/ and proofs/.
+#![tactic(auto)]
+
 pub mod letters;
 pub mod limits;

@@ -9,7 +9,7 @@ use table_builder::orders::put_order;
 const ORDER_LINE_BYTES: usize = 9;
 
 // Where the lines to be read begin, and the number of the first of them.
-#[derive(Drop)]
+#[derive(Clone, Copy)]
 pub struct Start {
     pub at: usize,
     pub line: u32,

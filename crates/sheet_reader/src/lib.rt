@@ -1,4 +1,6 @@
 // Reading a sheet: its lines are taken one after the other, to the Q line or the first refusal.
+#![tactic(auto)]
+
 pub mod first_line;
 pub mod sheet_lines;
 

@@ -11,7 +11,7 @@ use table_builder::applications::{Arguments, insert_application};
 use table_builder::node_info::{Counts, Taken};
 use table_builder::symbols::insert_declaration;
 
-#[derive(Drop)]
+#[derive(Clone, Copy)]
 pub enum Read {
     // The numbers of symbols, nodes and clauses, and the goal's node.
     Done(Counts, u32),

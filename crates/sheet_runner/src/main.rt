@@ -1,6 +1,8 @@
 // The sheet runner of document 01: reads a sheet from standard input and prints what `runner_output` makes of it. It reads at most
 // one byte more than a sheet may have: then refusal 1 is told, as it is of the whole (`FrontSuffices` in runner_output). Its argument,
 // if it has one, is the number of proofs to print at most (request W-202).
+#![tactic(auto)]
+
 use libc::{STDIN_FILENO, STDOUT_FILENO};
 
 // The number of proofs that the arguments ask for, 1 where there are none. Several arguments are no number, so they count as 0, which is

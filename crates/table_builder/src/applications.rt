@@ -12,7 +12,7 @@ use outcomes::refusals;
 use sheet_format::limits;
 
 // The nodes of the arguments, the first `count` of the four.
-#[derive(Drop)]
+#[derive(Clone, Copy)]
 pub struct Arguments {
     pub count: u32,
     pub first: u32,

@@ -1,4 +1,6 @@
 // The node table, filled line by line.
+#![tactic(auto)]
+
 pub mod applications;
 mod arguments;
 pub mod node_info;

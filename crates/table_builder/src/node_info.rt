@@ -13,7 +13,7 @@ use node_table::{
 use sheet_format::limits;
 
 // How many symbols, nodes and clauses there are.
-#[derive(Drop)]
+#[derive(Clone, Copy)]
 pub struct Counts {
     pub symbols: u32,
     pub nodes: u32,
@@ -21,7 +21,7 @@ pub struct Counts {
 }
 
 // A line is taken, refused with a number, or the Q line with the goal's node.
-#[derive(Drop)]
+#[derive(Clone, Copy)]
 pub enum Taken {
     Next(Counts),
     Stop(u32),
@@ -30,7 +30,7 @@ pub enum Taken {
 
 // The seven numbers of a node: kind + 16 * number of children, label (symbol, number or variable), children, what it is. Of a U node,
 // in the place of the second to fourth child: what the U nodes from it on come to.
-#[derive(Drop)]
+#[derive(Clone, Copy)]
 pub struct NodeRecord {
     pub head: u32,
     pub label: u32,

@@ -1,5 +1,7 @@
 // The printer of terms: names from the lent sheet, arguments in brackets. Each function is a definition of the crate printing,
 // and its contract says so.
+#![tactic(auto)]
+
 mod bindings;
 pub mod cursor;
 pub mod numbering;
@@ -23,7 +25,7 @@ use node_table::{child, child_count, label};
 use printing::Cursor;
 
 // How many bindings are looked through at a time, and the last position that is written.
-#[derive(Drop)]
+#[derive(Clone, Copy)]
 pub struct Bounds {
     pub turns: u32,
     pub limit: u32,

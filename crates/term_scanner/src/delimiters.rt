@@ -11,7 +11,7 @@ pub const WORD_BITS: u32 = 64;
 
 // The nearest delimiter is the lowest bit of `top`, which has `count` bits. When it has 64 it goes to the lent words, of which so
 // many are in use.
-#[derive(Drop)]
+#[derive(Clone, Copy)]
 pub struct DelimiterStack {
     pub top: u64,
     pub count: u32,

@@ -1,4 +1,6 @@
 // Terms of an answer text, read in place.
+#![tactic(auto)]
+
 pub mod blocks;
 pub mod delimiters;
 pub mod folded_ranges;
@@ -38,7 +40,7 @@ const MOST_WORDS: usize = 1023;
 
 // What a term begins with: a symbol or a number without arguments, where it ends, and its level; or a symbol with arguments, where the
 // first one begins, and how many there are.
-#[derive(Drop)]
+#[derive(Clone, Copy)]
 pub enum Head {
     Leaf(usize, u32),
     Open(usize, u32),
@@ -46,7 +48,7 @@ pub enum Head {
 }
 
 // A scan between two steps: the position, the highest level so far, how many brackets are open, what is due, the delimiters to come.
-#[derive(Drop)]
+#[derive(Clone, Copy)]
 pub struct TermScan {
     pub at: usize,
     pub level: u32,

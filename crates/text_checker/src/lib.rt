@@ -1,5 +1,7 @@
 // Judging an answer text line by line: the first line that breaks, or valid. Each function is a definition of the crate
 // line_checking, and its contract says so.
+#![tactic(auto)]
+
 mod derivation_lines;
 
 ghost use Rattle.std.specs.Prelude.{◌≡◌, List, ℕ, ◌+◌, ◌<◌, ◌≤◌, length};

@@ -1,1 +1,2 @@
 // Unification under labels: definitions and laws only, see specs/ and proofs/.
+#![tactic(auto)]
