@@ -1,0 +1,10 @@
+use Rattle.memory.proofs.Records.{and_put}
+use Rattle.line_checking.specs.Sequents.{put_hypothesis}
+use Rattle.checker_state.proofs.open_sequents.put_hypothesis.Goals as goal
+
+pub returns : goal.returns
+unfolding put_hypothesis
+returns c =
+    and_put _ _ _
+    (and_put _ _ _ (and_put _ _ _ c.put_field.ensures c.put_field-2.ensures)
+    c.put_field-3.ensures) c.put_field-4.ensures

@@ -1,0 +1,11 @@
+use Rattle.text_checker.proofs.Laws.{order_broken, order_counted}
+use Rattle.text_checker.proofs.order_line.Goals as goal
+
+pub returns-then-stage-eq-BROKEN : goal.returns-then-stage-eq-BROKEN
+returns-then-stage-eq-BROKEN c = (λ w. order_broken _ _ _ _ _ c.if-stage-eq-BROKEN.true, λ b. absurd (b c.if-stage-eq-BROKEN.true))
+
+pub returns : goal.returns
+returns c = (
+  λ w. order_counted _ _ _ _ _ _ c.if-stage-eq-BROKEN.false (c.count_line.ensures.0 w),
+  c.count_line.ensures.1,
+)
