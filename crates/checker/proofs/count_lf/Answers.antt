@@ -1,0 +1,21 @@
+use Prim.Native.Nat.{◌-◌}
+use mathlib.Core.Logic.{⊎_elim}
+use borrow.Author.Rules.{rules}
+use Rattle.checker.proofs.LineFeeds.{count_start, count_here, count_other, count_end}
+use Rattle.checker.proofs.count_lf.Goals as goal
+
+pub loop-i-init : goal.loop-i-init
+loop-i-init c = count_start _
+
+pub overflow_add-n : goal.overflow_add-n
+overflow_add-n c = let h = c.loop-i.invariant.few in search rules
+
+pub loop-i-preserved : goal.loop-i-preserved
+loop-i-preserved c =
+    ⊎_elim
+    (λ w. count_here _ _ _ _ c.loop-i.invariant c.loop-i-test.true w.0.taken w.1)
+    (λ w. count_other _ _ _ _ c.loop-i.invariant c.loop-i-test.true w.0.left w.1)
+    c.if-text-i-eq10.branch
+
+pub returns : goal.returns
+returns c = count_end _ _ _ c.loop-i.invariant c.loop-i-test.false
