@@ -9,18 +9,12 @@ use Rattle.checker.proofs.SizeChecks.{early_passed, check_refused_lem, check_sho
 use borrow.Author.Rules.{rules}
 use Rattle.checker.proofs.check.Goals as goal
 
--- Past the first test, none of refusals 1, 2 and 4 arises.
-passed : (c : tie.Else1) → Passed c.before.before.before.before.before.before.args.sheet.now
-    c.before.before.before.before.before.before.args.text.now
-    (length c.before.before.before.before.before.before.args.table.now)
-passed c = early_passed _ _ _ (sym c.before.check-refusal.ensures ∙ c.if1.false)
-
 pub returns-then-number-ne0 : goal.returns-then-number-ne0
 returns-then-number-ne0 c = check_refused_lem _ _ _ _ _ _ c.check_refusal-number.ensures c.if-number-ne0.true c.refused_check.ensures
 
 pub overflow_mul-m : goal.overflow_mul-m
 overflow_mul-m c =
-    let few = (passed c).text_fits in
+    let few = (early_passed _ _ _ (sym c.check_refusal-number.ensures ∙ c.if-number-ne0.false)).text_fits in
     let most = count_lf_most c.args.text.now in
     let e = c.count_lf-m.ensures in
     search rules
@@ -31,11 +25,11 @@ returns-then-work-m c =
     c.count_lf-m.ensures c.if-work-m.true c.refused_check-then-work-m.ensures
 
 pub slice_bounds-check_in_parts-end : goal.slice_bounds-check_in_parts-end
-slice_bounds-check_in_parts-end c = (passed c).table_fits
+slice_bounds-check_in_parts-end c = (early_passed _ _ _ (sym c.check_refusal-number.ensures ∙ c.if-number-ne0.false)).table_fits
 
 pub slice_bounds-check_in_parts-end-2 : goal.slice_bounds-check_in_parts-end-2
 slice_bounds-check_in_parts-end-2 c =
-    sym (length-take-le 8192 c.args.table.now (passed c).table_fits)
+    sym (length-take-le 8192 c.args.table.now (early_passed _ _ _ (sym c.check_refusal-number.ensures ∙ c.if-number-ne0.false)).table_fits)
 
 pub slice_bounds-check_in_parts-end-4 : goal.slice_bounds-check_in_parts-end-4
 slice_bounds-check_in_parts-end-4 c =
@@ -44,7 +38,7 @@ slice_bounds-check_in_parts-end-4 c =
 pub check_in_parts-requires : goal.check_in_parts-requires
 check_in_parts-requires c =
     let start = c.args in
-    let p = passed (c) in (
+    let p = early_passed _ _ _ (sym c.check_refusal-number.ensures ∙ c.if-number-ne0.false) in (
       p.sheet_fits,
       part_fits 8192 start.table.now p.table_fits,
       p.text_fits,

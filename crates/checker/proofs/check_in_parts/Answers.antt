@@ -6,6 +6,6 @@ returns c =
     let start = c.args in
     let called = c.judge_sheet-r in (
       called.ensures,
-      zeros_all start.t.now called.new.1.1.0 _ called.auto.1.1.0 c.zero_front.ensures,
-      zeros_all start.w.now called.new.1.1.1.0 _ called.auto.1.1.1.0 c.zero_front-2.ensures,
+      zeros_all start.t.now called.new.t _ called.auto.t c.zero_front.ensures,
+      zeros_all start.w.now called.new.w _ called.auto.w c.zero_front-2.ensures,
     )
