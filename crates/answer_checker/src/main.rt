@@ -1,62 +1,96 @@
 // The checker on two files, a sheet and an answer text, which the arguments name: prints what `checker_output` makes of them. Of each
 // file it reads at most one byte more than is allowed: then refusal 1 or 4 is told, as it is of the whole (`FrontsSuffice` in
-// checker_output).
+// checker_output). What can't be read is not judged: standard error says why.
 #![tactic(auto)]
 
 use checker_output::{LINE_BYTES, SHEET_BYTES, TEXT_BYTES};
-use libc::STDOUT_FILENO;
+use front_reader::read_front;
+use std::env::{Env, FillError};
+use std::fs::File;
+use std::io::Print;
+use std::{io, str};
 
-// The file that argument i names, open for reading; below 0 where there is none, and then standard error says why.
-fn open_named(i: usize) -> i32 {
-    let mut path = io::buffer();
-    let n = os::arg(i, &mut path);
-    if os::errno() != 0 {
-        os::fail(b"usage: answer_checker SHEET TEXT");
-        return -1;
+// The longest argument that is read.
+const ARGUMENT_BYTES: usize = 4096;
+
+// The system's words for an error, without the number that stands behind them.
+fn words(text: &str) -> &str {
+    match text.split_once(" (os error ") {
+        Some((front, _)) => front,
+        None => text,
     }
-    let fd = os::open_read(&path[..n]);
-    if fd < 0 {
-        os::fail(&path[..n]);
-    }
-    fd
 }
 
-// Whether n bytes, read into a buffer of this size, are all that there is or more than is allowed. A read that fails gives a short
-// count too, and what came before it is not to be judged.
-fn is_whole(fd: i32, n: usize, size: usize) -> bool {
-    if n == size {
-        return true;
-    }
-    let mut one = [0u8; 1];
-    libc::read(fd, &mut one) == 0
+// A line on standard error: what failed, a colon, and why.
+fn fail(rt: &HostRuntime, what: &[u8], why: &str) -> io::Result<()> {
+    let to = rt.stderr();
+    to.write_all(what)?;
+    to.write_all(b": ")?;
+    to.write_all(why.as_bytes())?;
+    to.write_all(b"\n")
 }
 
-fn check_files(sheet_file: i32, text_file: i32) {
+fn fail_with(rt: &HostRuntime, what: &[u8], error: io::Error) -> io::Result<()> {
+    let text = format!(in rt.alloc(); "{error}")?;
+    fail(rt, what, words(text.as_str()))
+}
+
+// The file that argument i names, open for reading; none where there is no such file, and then standard error says why.
+fn open_named(rt: &HostRuntime, i: usize) -> io::Result<Option<File>> {
+    let mut buffer = [0u8; ARGUMENT_BYTES];
+    let n = match rt.arg(i, &mut buffer) {
+        Ok(n) => n,
+        Err(FillError::NotPresent) => {
+            fail(rt, b"usage: answer_checker SHEET TEXT", "Invalid argument")?;
+            return Ok(None);
+        }
+        Err(FillError::TooLong) => {
+            fail(
+                rt,
+                b"usage: answer_checker SHEET TEXT",
+                "File name too long",
+            )?;
+            return Ok(None);
+        }
+    };
+    let path = match str::from_utf8(&buffer[..n]) {
+        Ok(path) => path,
+        Err(_) => {
+            fail(rt, &buffer[..n], "not UTF-8")?;
+            return Ok(None);
+        }
+    };
+    match File::open(rt, path) {
+        Ok(file) => Ok(Some(file)),
+        Err(error) => {
+            fail_with(rt, path.as_bytes(), error)?;
+            Ok(None)
+        }
+    }
+}
+
+fn check_files(rt: &HostRuntime, mut sheet_file: File, mut text_file: File) -> io::Result<()> {
     let mut sheet = [0u8; SHEET_BYTES];
-    let n = io::read_full(sheet_file, &mut sheet);
+    let n = match read_front(&mut sheet_file, &mut sheet) {
+        Ok(n) => n,
+        Err(error) => return fail_with(rt, b"sheet", error),
+    };
     let mut text = [0u8; TEXT_BYTES];
-    let m = io::read_full(text_file, &mut text);
-    if !is_whole(sheet_file, n, SHEET_BYTES) {
-        os::fail(b"sheet");
-        return;
-    }
-    if !is_whole(text_file, m, TEXT_BYTES) {
-        os::fail(b"text");
-        return;
-    }
+    let m = match read_front(&mut text_file, &mut text) {
+        Ok(m) => m,
+        Err(error) => return fail_with(rt, b"text", error),
+    };
     let mut out = [0u8; LINE_BYTES];
     let k = checker_output::checker_output(&sheet[..n], &text[..m], &mut out);
-    io::write_all(STDOUT_FILENO, &out[..k]);
+    rt.stdout().write_all(&out[..k])
 }
 
-fn main() {
-    let sheet_file = open_named(1);
-    if sheet_file < 0 {
-        return;
-    }
-    let text_file = open_named(2);
-    if text_file < 0 {
-        return;
-    }
-    check_files(sheet_file, text_file);
+fn main(rt: HostRuntime) -> io::Result<()> {
+    let Some(sheet_file) = open_named(&rt, 1)? else {
+        return Ok(());
+    };
+    let Some(text_file) = open_named(&rt, 2)? else {
+        return Ok(());
+    };
+    check_files(&rt, sheet_file, text_file)
 }

@@ -3,28 +3,31 @@
 // if it has one, is the number of proofs to print at most (request W-202).
 #![tactic(auto)]
 
-use libc::{STDIN_FILENO, STDOUT_FILENO};
+use front_reader::read_front;
+use std::env::{Env, FillError};
+use std::io;
+use std::io::Print;
 
 // The number of proofs that the arguments ask for, 1 where there are none. Several arguments are no number, so they count as 0, which is
-// refused; an argument longer than the buffer has length 0 here, and the empty argument is no number either.
-fn proofs_wanted() -> u32 {
-    let count = os::arg_count();
-    if count < 2 {
-        return 1;
+// refused; an argument longer than the buffer counts as the empty one, which is no number either.
+fn proofs_wanted(rt: &impl Env) -> u32 {
+    let mut argument = [0u8; 4096];
+    match rt.arg(2, &mut argument) {
+        Err(FillError::NotPresent) => {}
+        _ => return 0,
     }
-    if count > 2 {
-        return 0;
+    match rt.arg(1, &mut argument) {
+        Ok(n) => runner_output::proofs_asked(&argument[..n]),
+        Err(FillError::NotPresent) => 1,
+        Err(FillError::TooLong) => runner_output::proofs_asked(b""),
     }
-    let mut argument = io::buffer();
-    let n = os::arg(1, &mut argument);
-    runner_output::proofs_asked(&argument[..n])
 }
 
-fn main() {
-    let proofs = proofs_wanted();
+fn main(rt: HostRuntime) -> io::Result<()> {
+    let proofs = proofs_wanted(&rt);
     let mut sheet = [0u8; runner_output::SHEET_BYTES];
-    let n = io::read_full(STDIN_FILENO, &mut sheet);
+    let n = read_front(&mut rt.stdin(), &mut sheet)?;
     let mut out = [0u8; runner_output::ANSWER_BYTES];
     let m = runner_output::runner_output(&sheet[..n], proofs, &mut out);
-    io::write_all(STDOUT_FILENO, &out[..m]);
+    rt.stdout().write_all(&out[..m])
 }
