@@ -40,8 +40,7 @@ fn report_run(r: Run, res: &mut [u32]) -> u32
 }
 
 // Calls engine::run for one proof; the outcome's number is returned.
-#[unsafe(no_mangle)]
-pub extern "C" fn rules_run(
+pub fn rules_run(
     sheet: &[u8],
     budget: u32,
     table: &mut [u32],
@@ -79,8 +78,7 @@ fn report_ask(r: Run, res: &mut [u32]) -> u32
 }
 
 // Calls engine::run for as many proofs as the request asks for (W-202); the outcome's number is returned.
-#[unsafe(no_mangle)]
-pub extern "C" fn rules_ask(
+pub fn rules_ask(
     sheet: &[u8],
     request: &[u32],
     table: &mut [u32],
@@ -117,8 +115,7 @@ fn report_check(v: Verdict, res: &mut [u32]) -> u32
 }
 
 // Calls checker::check; the verdict's number is returned.
-#[unsafe(no_mangle)]
-pub extern "C" fn rules_check(
+pub fn rules_check(
     sheet: &[u8],
     text: &[u8],
     table: &mut [u32],
