@@ -1,6 +1,6 @@
 /* The proof engine for house rule sheets, and the checker of its answer texts.
  *
- * Link librules.a (rt staticlib rules). The header is C99 and C++.
+ * Link librules.a (tools/products.sh writes it). The header is C99 and C++.
  *
  * The functions answer for every input: there is nothing a caller must see to but that each pointer is aligned for
  * its type (pointers to numbers for uint32_t) and points to as many elements as the length after it says (where that

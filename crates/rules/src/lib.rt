@@ -2,8 +2,8 @@
 #![tactic(auto)]
 
 ghost use Rattle.std.specs.Prelude.{◌≡◌, [], ◌∷◌, get_or};
-ghost use Rattle.engine_spec.specs.Handed.{asked, handed as handedRun};
-ghost use Rattle.checker_spec.specs.Handed.{handed as handedCheck};
+ghost use Rattle.engine_spec.specs.Handed.{asked, handed as handed_run};
+ghost use Rattle.checker_spec.specs.Handed.{handed as handed_check};
 ghost use Rattle.rules.specs.Results.{put_front};
 ghost use Rattle.rules.specs.RulesRun.{run_numbers, RulesRun};
 ghost use Rattle.rules.specs.RulesAsk.{requested, ask_numbers, RulesAsk};
@@ -26,7 +26,7 @@ fn put_run(res: &mut [u32], outcome: u32, units: u32, length: u32, number: u32, 
 }
 
 fn report_run(r: Run, res: &mut [u32]) -> u32
-    ensures { (result ≡ (handedRun r).outcome) × (res.new ≡ put_front (run_numbers (handedRun r)) res.old) }
+    ensures { (result ≡ (handed_run r).outcome) × (res.new ≡ put_front (run_numbers (handed_run r)) res.old) }
 {
     let units = r.units;
     let length = r.length;
@@ -70,7 +70,7 @@ fn read_request(request: &[u32]) -> Request
 
 // The numbers of rules_run, and the number of proofs after them.
 fn report_ask(r: Run, res: &mut [u32]) -> u32
-    ensures { (result ≡ (handedRun r).outcome) × (res.new ≡ put_front (ask_numbers (handedRun r)) res.old) }
+    ensures { (result ≡ (handed_run r).outcome) × (res.new ≡ put_front (ask_numbers (handed_run r)) res.old) }
 {
     let outcome = report_run(r, res);
     put(res, 5, r.proofs);
@@ -105,7 +105,7 @@ fn put_check(res: &mut [u32], verdict: u32, line: u32, number: u32) -> u32
 }
 
 fn report_check(v: Verdict, res: &mut [u32]) -> u32
-    ensures { (result ≡ (handedCheck v).verdict) × (res.new ≡ put_front (check_numbers (handedCheck v)) res.old) }
+    ensures { (result ≡ (handed_check v).verdict) × (res.new ≡ put_front (check_numbers (handed_check v)) res.old) }
 {
     match v {
         Verdict::Valid => put_check(res, codes::VALID, 0, 0),
