@@ -1,37 +1,40 @@
 #!/usr/bin/env python3
-"""Computes the definitions `engineRun` and `checkText` on the stored cases and compares the whole result with the known one.
+"""Computes the definitions `engine_run` and `check_text` on the stored cases and compares the whole result with the known one.
 
 The definitions are what a reader must believe, so they are run on outside vectors too: each case becomes an equation that the prover must
-accept by computation, in a copy of the repository (the crates below `promises` as rt ci proved them). Of a run, for one proof or for several:
-outcome, units, number of proofs and text, or refusal and line. Of a check: valid, or the line that breaks, or refusal and line, for the text of each case, for that text without its
-last LF, without its last line and with a line more (document 01 says which line breaks), for the stored texts with their verdicts, and for
-damaged texts, as the independent implementation judges them (tests/reference)."""
+accept by computation. They stand in a crate of their own, `stored_cases`, in a copy of the repository in which `rt ci` proves it, over the
+crates that it has proved. Of a run, for one proof or for several: outcome, units, number of proofs and text, or refusal and line. Of a
+check: valid, or the line that breaks, or refusal and line, for the text of each case, for that text without its last LF, without its last
+line and with a line more (document 01 says which line breaks), for the stored texts with their verdicts, and for damaged texts, as the
+independent implementation judges them (tests/reference)."""
 import glob
 import os
 import random
-import shutil
 import subprocess
 import sys
 import tempfile
 
-ROOT = os.path.dirname(os.path.dirname(os.path.abspath(__file__)))
+from copies import ROOT, copy_to, rt_ci
+
+CRATE = "stored_cases"
+LIBRARIES = "sheet_format answer_texts text_judging engine_spec checker_spec"
 HEADER = """-- The stored cases, computed.
 use Prim.Native.Nat.{ℕ}
-use mathlib.Core.Path.{_≡_, refl}
-use mathlib.Core.List.{List, [], _∷_, _++_}
-use Rattle·sheet_format.specs.Bytes.{ascii}
-use Rattle·sheet_format.specs.Sheets.{refusal, turnBackIf}
-use Rattle·answer_texts.specs.Judgements.{valid, invalid}
-use Rattle·text_judging.proofs.Computing.{computeJudgement}
-use Rattle·engine_spec.specs.EngineRun.{reportedProved, reportedNo, reportedSpent, Result, turnedBack, answered}
-use Rattle·engine_spec.proofs.Computing.{computeRun}
-use Rattle·checker_spec.specs.CheckText.{Checked, judged, checkRefused, countLf, checkSheet, checkText}
+use mathlib.Core.Path.{◌≡◌, refl}
+use mathlib.Core.List.{List, [], ◌∷◌, ◌++◌}
+use Rattle.sheet_format.specs.Bytes.{ascii}
+use Rattle.sheet_format.specs.Sheets.{refusal, turn_back_if}
+use Rattle.answer_texts.specs.Judgements.{valid, invalid}
+use Rattle.text_judging.proofs.Computing.{compute_judgement}
+use Rattle.engine_spec.specs.EngineRun.{reported_proved, reported_no, reported_spent, turned_back, answered}
+use Rattle.engine_spec.proofs.Computing.{compute_run}
+use Rattle.checker_spec.specs.CheckText.{Checked, judged, check_refused, count_lf, check_sheet, check_text}
 
-unfoldable computeCheck : List ℕ → List ℕ → ℕ → ℕ → Checked
-unfolding computeRun computeJudgement countLf checkSheet turnBackIf checkText
-computeCheck bytes text t w = checkText bytes text t w
+unfoldable compute_check : List ℕ → List ℕ → ℕ → ℕ → Checked
+unfolding compute_run compute_judgement count_lf check_sheet turn_back_if check_text
+compute_check bytes text t w = check_text bytes text t w
 """
-OUTCOMES = {"proved": "reportedProved", "no": "reportedNo", "spent": "reportedSpent"}
+OUTCOMES = {"proved": "reported_proved", "no": "reported_no", "spent": "reported_spent"}
 # The largest budget of a run for several proofs that is computed: 63 proofs within 2,000 units take more steps than the prover has.
 LARGEST_BUDGET = 1_000
 # Work numbers for a text of 300 lines; a text of more lines is refused, and the stored ones have fewer.
@@ -57,7 +60,7 @@ def ran(sheet, expected, budget=256, proofs=1, lent=(8192, 16384, 16384)):
     the outcome and units of the last R line and the number of proofs (W-202)."""
     if expected.startswith(b"X"):
         _, number, line = expected.decode().split("\t")
-        right = f"turnedBack (refusal {number} {line.strip()})"
+        right = f"turned_back (refusal {number} {line.strip()})"
     else:
         told = [line.split("\t")[1:] for line in expected.decode().split("\n") if line.startswith("R\t")]
         outcome, units = told[-1]
@@ -65,7 +68,7 @@ def ran(sheet, expected, budget=256, proofs=1, lent=(8192, 16384, 16384)):
         text = byte_list(expected)
         right = f"answered (record {{ outcome = {OUTCOMES[outcome]}; units = {units}; proofs = {found}; text = {text} }})"
     ask = f"(record {{ budget = {budget}; proofs = {proofs} }})"
-    return f"computeRun {byte_list(sheet)} {ask} {' '.join(map(str, lent))} ≡ {right}", "computeRun"
+    return f"compute_run {byte_list(sheet)} {ask} {' '.join(map(str, lent))} ≡ {right}", "compute_run"
 
 
 def ran_at_its_units(sheet, expected):
@@ -78,10 +81,10 @@ def ran_at_its_units(sheet, expected):
 def checked(sheet, text, verdict):
     """The equation of a check; the verdict is None for valid, a line, or a pair of refusal and line."""
     if isinstance(verdict, tuple):
-        right = f"checkRefused (refusal {verdict[0]} {verdict[1]})"
+        right = f"check_refused (refusal {verdict[0]} {verdict[1]})"
     else:
         right = "judged valid" if verdict is None else f"judged (invalid {verdict})"
-    return f"computeCheck {byte_list(sheet)} {byte_list(text)} 8192 {WORK} ≡ {right}", "computeCheck"
+    return f"compute_check {byte_list(sheet)} {byte_list(text)} 8192 {WORK} ≡ {right}", "compute_check"
 
 
 def verdict_of(printed):
@@ -167,23 +170,34 @@ def several():
                 yield checked(sheet, want, parts[0].count(b"\n") + 1)
 
 
+def write_crate(folder, proofs):
+    """The crate of the equations in the copy: a file of proofs, and no code."""
+    crate = os.path.join(folder, "crates", CRATE)
+    files = {"src/lib.rt": "// See proofs/.\n#![tactic(auto)]\n", "proofs/Lib.antt": "pub mod Stored\n", "proofs/Stored.antt": proofs}
+    for name, text in files.items():
+        path = os.path.join(crate, name)
+        os.makedirs(os.path.dirname(path), exist_ok=True)
+        with open(path, "w", encoding="utf8") as f:
+            f.write(text)
+    with open(os.path.join(folder, "crates.txt"), "a") as f:
+        f.write(f"{CRATE}: {LIBRARIES}\n")
+    subprocess.run(["rt", "fmt"], cwd=crate, check=True)
+
+
 def main():
     parts, runs, checks = [HEADER], 0, 0
     for number, (equation, name) in enumerate(equations()):
-        runs, checks = runs + (name == "computeRun"), checks + (name == "computeCheck")
+        runs, checks = runs + (name == "compute_run"), checks + (name == "compute_check")
         parts.append(f"case{number} : {equation}\nunfolding {name}\ncase{number} = refl\n")
-    with tempfile.TemporaryDirectory() as work:
-        copy = os.path.join(work, "main")
-        shutil.copytree(ROOT, copy, ignore=shutil.ignore_patterns(".git", "tests"), symlinks=True)
-        proofs = os.path.join(copy, "crates", "promises", "proofs")
-        with open(os.path.join(proofs, "Stored.antt"), "w") as f:
-            f.write("\n".join(parts))
-        with open(os.path.join(proofs, "Lib.antt"), "a") as f:
-            f.write("pub mod Stored\n")
-        run = subprocess.run(["rt", "dev", "promises"], cwd=copy, capture_output=True, text=True)
-    if run.returncode != 0:
-        print(run.stdout + run.stderr)
-        sys.exit("a definition differs from a stored case")
+    with tempfile.TemporaryDirectory() as copy:
+        copy_to(copy)
+        write_crate(copy, "\n".join(parts))
+        status, lines = rt_ci(copy, [], lambda line: None)
+    proved = [line for line in lines if line == f"rt: {CRATE} proved" or line.startswith(f"rt: {CRATE} is kept: ")]
+    if status or not proved:
+        print("\n".join(line for line in lines if not line.startswith(("statements ", "library "))))
+        sys.exit("a definition differs from a stored case, or the copy is not proved")
+    print(proved[0])
     print(f"definitions: {runs} runs and {checks} checks computed, all as expected")
 
 
