@@ -35,7 +35,7 @@ class Module:
         block, parted = [], False
         for line in open(path, encoding="utf8"):
             line = line.rstrip("\n")
-            use = re.match(r"use Rattle·([a-z_]+)(?:·specs)?\.specs\.([\w.]+)\.\{(.*)\}$", line)
+            use = re.match(r"use Rattle\.([a-z_]+)\.specs\.([\w.]+)\.\{(.*)\}$", line)
             if use:
                 for item in use.group(3).split(","):
                     old, _, new = item.strip().partition(" as ")
