@@ -1,24 +1,23 @@
 -- One law for each way through a turn of a loop or through a call; the hypotheses are the facts on the code's path.
-use Prim.Native.Nat.{ℕ, suc, ◌+◌, ◌≤◌, ◌<◌}
+use Rattle.std.specs.Prelude.{Option, Some, None}
+use Prim.Native.Nat.{ℕ, ◌≤◌, ◌<◌}
 use native.Mathlib.Omega.{arith}
-use mathlib.Core.Path.{◌≡◌, sym, ap, ◌∙◌}
+use mathlib.Core.Path.{◌≡◌, ap, ◌∙◌}
 use mathlib.Core.List.{List, ◌++◌}
 use borrow.Author.Tests.{lt-ltb, le-ltb}
-use lib.ListN.{length, get_or, set, take, drop, replicate, length-replicate}
-use lib.Seq.{paste-suc}
+use lib.ListN.{length, take, drop, length-replicate}
 use Rattle.sheet_format.specs.Bytes.{ascii}
 use Rattle.sheet_format.specs.Limits.{max_text_bytes}
 use Rattle.node_table.specs.Layout.{mask_of}
 use Rattle.machine.specs.declared.Registers.{Registers}
 use Rattle.machine.specs.Records.{made}
 use Rattle.printing.specs.declared.Cursor.{Cursor}
-use Rattle.printing.specs.Output.{Written, written}
 use Rattle.printing.specs.Numbering.{Printer, printer}
 use Rattle.printing.specs.WriteLines.{result_to, bindings_to, lines_to}
 use Rattle.printing.specs.PathLinks.{Linked, linked, link_path}
 use Rattle.printing.proofs.Passes.{limit_room}
 use Rattle.printing.specs.Writer.{text_limit, cursor_from, proof_pass, prepare, first_link, own_bytes, Answered, answered, append_proof}
-use Rattle.printing.specs.Writer.{copied, write_proof}
+use Rattle.printing.specs.Writer.{Fitted, fitted, copied, write_proof}
 
 module _ (sheet t : List ℕ) (turns limit : ℕ) where
   -- The passes.
@@ -34,19 +33,6 @@ pub links_prepared : (w w₁ : List ℕ) (r : Registers) (e : ℕ) → linked w�
 unfolding prepare first_link
 links_prepared w w₁ r e e₁ = simp (prepare, first_link, ← e₁)
 
--- A turn of the loop that copies.
-pub copy_more : (from to₀ to : List ℕ) (i : ℕ) → i < length from → i < length to₀ → to ≡ take i from ++ drop i to₀
-    → set to i (get_or from i 0) ≡ take (i + 1) from ++ drop (i + 1) to₀
-copy_more from to₀ to i hf ht e =
-    let z : 0 + i ≡ i = omega arith in
-    let y : 0 + suc i ≡ i + 1 = omega arith in
-    let x : suc i ≡ i + 1 = omega arith in
-    ap (λ (l : List ℕ). set l i (get_or from i 0)) e
-    ∙ ap (λ (k : ℕ). set (take i from ++ drop k to₀) k (get_or from i 0)) (sym z)
-    ∙ paste-suc to₀ 0 from i 0 (omega arith) hf
-    ∙ ap (λ (k : ℕ). take (suc i) from ++ drop k to₀) y
-    ∙ ap (λ (k : ℕ). take k from ++ drop (i + 1) to₀) x
-
 -- A text is appended by a pass over the linked path.
 pub text_appended : (sheet t : List ℕ) (goal : ℕ) (w : List ℕ) (r : Registers) (units limit : ℕ) (own : List ℕ) (at e : ℕ)
     (w₁ w₂ o : List ℕ) (g : Cursor) → linked w₁ e ≡ linked (prepare (made w r)) (first_link (made w r))
@@ -61,13 +47,13 @@ text_appended sheet t goal w r units limit own at e w₁ w₂ o g e₁ e₂ =
     ap (λ (x : Printer). answered x.memory x.buffer x.cursor.at) p
 
 -- Bytes that do not fit are not copied.
-pub copied_unfit : (own out : List ℕ) (limit at : ℕ) → limit < at → written out 65536 ≡ copied limit own at out
+pub copied_unfit : (own out : List ℕ) (limit at : ℕ) → limit < at → fitted out None ≡ copied limit own at out
 unfolding copied
 copied_unfit own out limit at h = simp (copied, lt-ltb limit at h)
 
 -- Bytes that fit are copied.
 pub copied_front : (own out out' : List ℕ) (limit at n : ℕ) → at ≤ limit → n ≡ at → out' ≡ take n own ++ drop n out
-    → written out' at ≡ copied limit own at out
+    → fitted out' (Some at) ≡ copied limit own at out
 unfolding copied
 copied_front own out out' limit at n h en eo = rw (eo, en) (simp (copied, le-ltb limit at h))
 
@@ -82,12 +68,12 @@ room_both out limit k el low ek =
 
 -- The text is appended to nothing, and copied.
 pub proof_written : (sheet t : List ℕ) (goal : ℕ) (w : List ℕ) (r : Registers) (units : ℕ) (out : List ℕ) (limit : ℕ) (w₁ own : List ℕ)
-    (at : ℕ) (out' : List ℕ) (n : ℕ) → limit ≡ text_limit out
+    (at : ℕ) (out' : List ℕ) (n : Option ℕ) → limit ≡ text_limit out
     → answered w₁ own at ≡ append_proof sheet t goal (made w r) units limit own_bytes 0
-    → written out' n ≡ copied limit own at out → answered w₁ out' n ≡ write_proof sheet t goal (made w r) units out
+    → fitted out' n ≡ copied limit own at out → answered w₁ out' n ≡ write_proof sheet t goal (made w r) units out
 unfolding write_proof
 proof_written sheet t goal w r units out limit w₁ own at out' n el e₁ e₂ =
     let a : answered w₁ own at ≡ append_proof sheet t goal (made w r) units (text_limit out) own_bytes 0 = rw el at e₁ in
-    let b : written out' n ≡ copied (text_limit out) own at out = rw el at e₂ in
-    ap (λ (x : Written). answered w₁ x.buffer x.at) b ∙ ap (λ (x : Answered). answered x.memory
-    (copied (text_limit out) x.buffer x.length out).buffer (copied (text_limit out) x.buffer x.length out).at) a
+    let b : fitted out' n ≡ copied (text_limit out) own at out = rw el at e₂ in
+    ap (λ (x : Fitted). answered w₁ x.buffer x.length) b ∙ ap (λ (x : Answered ℕ). answered x.memory
+    (copied (text_limit out) x.buffer x.length out).buffer (copied (text_limit out) x.buffer x.length out).length) a

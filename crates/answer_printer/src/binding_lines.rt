@@ -9,7 +9,7 @@ use super::line_parts::{bytes_to, last_term, number_to};
 use machine_memory::words::variable_word;
 use printing::Cursor;
 use sheet_format::limits;
-use term_printer::Bounds;
+use term_printer::{Bounds, Source};
 
 // Names of variables, from the first on: a bit for each says whether it stands free, the lowest for the first.
 #[derive(Clone, Copy)]
@@ -20,8 +20,7 @@ pub struct Names {
 
 // The line of the first name, if it stands free.
 fn binding_to(
-    sheet: &[u8],
-    t: &[u32],
+    source: &Source<'_>,
     bounds: Bounds,
     names: Names,
     w: &mut [u32],
@@ -30,7 +29,7 @@ fn binding_to(
 ) -> Cursor
     requires { bounds.limit ≤ 65535 }
     ensures { printer w.new out.new result ≡ cond (eqb (names.bits % 2) 1)
-        (term_line sheet.now t.now bounds.turns bounds.limit
+        (term_line source.now.sheet.now source.now.table.now bounds.turns bounds.limit
         (number_to bounds.limit (bytes_to bounds.limit (printer w.old out.old p) (ascii "B\t")) names.first)
         (ascii "\t") (variable_word names.first)) (printer w.old out.old p) }
 {
@@ -43,13 +42,12 @@ fn binding_to(
     let mut q = bytes_to(limit, out, p, b"B\t");
     q = number_to(limit, out, q, v);
     q = bytes_to(limit, out, q, b"\t");
-    last_term(sheet, t, bounds, w, out, q, variable_word(v))
+    last_term(source, bounds, w, out, q, variable_word(v))
 }
 
 // The free variables of the eight, ascending, by their bits.
 pub fn bindings_to(
-    sheet: &[u8],
-    t: &[u32],
+    source: &Source<'_>,
     bounds: Bounds,
     bits: u32,
     w: &mut [u32],
@@ -57,22 +55,18 @@ pub fn bindings_to(
     p: Cursor,
 ) -> Cursor
     requires { bounds.limit ≤ 65535 }
-    ensures { printer w.new out.new result ≡ bindings_to sheet.now t.now bounds.turns
+    ensures { printer w.new out.new result ≡ bindings_to source.now.sheet.now source.now.table.now bounds.turns
         bounds.limit 8 bits 0 (printer w.old out.old p) }
 {
-    let mut left: u32 = limits::VARIABLE_NAMES;
     let mut rest = bits;
-    let mut name: u32 = 0;
     let mut q = p;
-    while 0 < left {
+    for name in 0..limits::VARIABLE_NAMES {
         let names = Names {
             first: name,
             bits: rest,
         };
-        q = binding_to(sheet, t, bounds, names, w, out, q);
+        q = binding_to(source, bounds, names, w, out, q);
         rest = rest / 2;
-        name += 1;
-        left -= 1;
     }
     q
 }

@@ -10,7 +10,7 @@ use machine_memory::words::{TAGS, VARIABLE_TAG, truncate};
 use memory::{field, widen};
 use printing::Cursor;
 use term_printer::cursor::emit_to;
-use term_printer::{Bounds, term_to};
+use term_printer::{Bounds, Source, term_to};
 
 // So many variables, from the first on.
 #[derive(Clone, Copy)]
@@ -21,8 +21,7 @@ pub struct Variables {
 
 // The terms of a prefix.
 pub fn prefix_to(
-    sheet: &[u8],
-    t: &[u32],
+    source: &Source<'_>,
     bounds: Bounds,
     w: &mut [u32],
     out: &mut [u8],
@@ -30,33 +29,20 @@ pub fn prefix_to(
     prefix: Variables,
 ) -> Cursor
     requires { (bounds.limit ≤ 65535) × (prefix.first + prefix.count < 8589934592) }
-    ensures { printer w.new out.new result ≡ prefix_to sheet.now t.now bounds.turns
+    ensures { printer w.new out.new result ≡ prefix_to source.now.sheet.now source.now.table.now bounds.turns
         bounds.limit prefix.count (printer w.old out.old p) prefix.first }
 {
-    let mut left = prefix.count;
-    let mut next = prefix.first;
     let mut q = p;
-    while 0 < left {
+    for x in prefix.first..prefix.first + widen(prefix.count) {
         let e = emit_to(bounds.limit, out, q, b'\t');
-        q = term_to(
-            sheet,
-            t,
-            bounds,
-            w,
-            out,
-            e,
-            truncate(TAGS * next + VARIABLE_TAG),
-        );
-        next += 1;
-        left -= 1;
+        q = term_to(source, bounds, w, out, e, truncate(TAGS * x + VARIABLE_TAG));
     }
     q
 }
 
 // The place of a member and the terms of its prefix, of record u.
 pub fn clause_to(
-    sheet: &[u8],
-    t: &[u32],
+    source: &Source<'_>,
     bounds: Bounds,
     w: &mut [u32],
     out: &mut [u8],
@@ -64,7 +50,7 @@ pub fn clause_to(
     u: u32,
 ) -> Cursor
     requires { bounds.limit ≤ 65535 }
-    ensures { printer w.new out.new result ≡ clause_to sheet.now t.now bounds.turns
+    ensures { printer w.new out.new result ≡ clause_to source.now.sheet.now source.now.table.now bounds.turns
         bounds.limit (printer w.old out.old p) u }
 {
     let place = field(w, u, fields::USE_PLACE);
@@ -74,6 +60,6 @@ pub fn clause_to(
     let limit = bounds.limit;
     let mut q = bytes_to(limit, out, p, b"D\tclause\t");
     q = number_to(limit, out, q, place);
-    q = prefix_to(sheet, t, bounds, w, out, q, prefix);
+    q = prefix_to(source, bounds, w, out, q, prefix);
     emit_to(limit, out, q, b'\n')
 }

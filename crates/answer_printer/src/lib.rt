@@ -11,10 +11,9 @@ pub mod short_texts;
 
 ghost use Rattle.std.specs.Prelude.{◌≡◌, List, ◌++◌, ℕ, ◌<◌, ◌≤◌, length, take, drop};
 ghost use Rattle.machine.specs.Records.{made};
-ghost use Rattle.printing.specs.Output.{written};
 ghost use Rattle.printing.specs.Numbering.{printer};
 ghost use Rattle.printing.specs.PathLinks.{linked};
-ghost use Rattle.printing.specs.Writer.{proof_pass, prepare, first_link, answered, append_proof, copied, write_proof};
+ghost use Rattle.printing.specs.Writer.{proof_pass, prepare, first_link, answered, fitted, append_proof, copied, write_proof};
 
 use binding_lines::bindings_to;
 use line_parts::result_to;
@@ -24,8 +23,8 @@ use node_table::mask;
 use path_lines::lines_to;
 use printing::Cursor;
 use short_texts::{MAX_BYTES, text_limit};
-use term_printer::Bounds;
 use term_printer::path_links::link_path;
+use term_printer::{Bounds, Source};
 
 // The most bytes that may be written, and how many are.
 #[derive(Clone, Copy)]
@@ -41,18 +40,16 @@ pub struct Search {
     pub units: u32,
 }
 
-// A proved search: the node of its goal, the units, and the link to the first line of its path.
+// A proved search, and the link to the first line of its path.
 #[derive(Clone, Copy)]
 pub struct Proved {
-    pub goal: u32,
-    pub units: u32,
+    pub search: Search,
     pub path: u32,
 }
 
 // The text of a proved search.
 pub fn proof_pass(
-    sheet: &[u8],
-    t: &[u32],
+    source: &Source<'_>,
     bounds: Bounds,
     proved: Proved,
     w: &mut [u32],
@@ -60,13 +57,13 @@ pub fn proof_pass(
     p: Cursor,
 ) -> Cursor
     requires { bounds.limit ≤ 65535 }
-    ensures { printer w.new out.new result ≡ proof_pass sheet.now t.now bounds.turns
-        bounds.limit proved.goal proved.units proved.path (printer w.old out.old p) }
+    ensures { printer w.new out.new result ≡ proof_pass source.now.sheet.now source.now.table.now bounds.turns
+        bounds.limit proved.search.goal proved.search.units proved.path (printer w.old out.old p) }
 {
-    let bits = mask(t, proved.goal);
-    let mut q = result_to(bounds.limit, out, p, b"R\tproved\t", proved.units);
-    q = bindings_to(sheet, t, bounds, bits, w, out, q);
-    lines_to(sheet, t, bounds, w, out, q, proved.path)
+    let bits = mask(source.table, proved.search.goal);
+    let mut q = result_to(bounds.limit, out, p, b"R\tproved\t", proved.search.units);
+    q = bindings_to(source, bounds, bits, w, out, q);
+    lines_to(source, bounds, w, out, q, proved.path)
 }
 
 // Links the path in the order taken; the result is the link to the first line.
@@ -76,22 +73,9 @@ pub fn prepare(w: &mut [u32], r: Registers) -> u32
     link_path(r.acts, w, r.path, r.line, 0)
 }
 
-// The first n bytes of one buffer become those of another.
-fn copy_front(from: &[u8], to: &mut [u8], n: usize)
-    requires { (n ≤ length from.now) × (n ≤ length to.old) }
-    ensures { to.new ≡ take n from.now ++ drop n to.old }
-{
-    let mut i: usize = 0;
-    while i < n {
-        to[i] = from[i];
-        i += 1;
-    }
-}
-
 // The text of a proved search, written after what `own` holds already and numbered from 0; the result is where it ends.
 fn append_text(
-    sheet: &[u8],
-    t: &[u32],
+    source: &Source<'_>,
     search: Search,
     w: &mut [u32],
     r: Registers,
@@ -99,7 +83,7 @@ fn append_text(
     room: Room,
 ) -> u32
     requires { room.limit ≤ 65535 }
-    ensures { answered w.new own.new result ≡ append_proof sheet.now t.now search.goal
+    ensures { answered w.new own.new result ≡ append_proof source.now.sheet.now source.now.table.now search.goal
         (made w.old r) search.units room.limit own.old room.at }
 {
     let path = prepare(w, r);
@@ -107,17 +91,13 @@ fn append_text(
         turns: r.acts,
         limit: room.limit,
     };
-    let proved = Proved {
-        goal: search.goal,
-        units: search.units,
-        path,
-    };
+    let proved = Proved { search, path };
     let p = Cursor {
         at: room.at,
         variables: 0,
         constants: 0,
     };
-    let g = proof_pass(sheet, t, bounds, proved, w, own, p);
+    let g = proof_pass(source, bounds, proved, w, own, p);
     g.at
 }
 
@@ -136,22 +116,30 @@ pub fn append_proof(
         (made w.old r) r.acts room.limit own.old room.at }
 {
     let units = r.acts;
-    append_text(sheet, t, Search { goal, units }, w, r, own, room)
+    append_text(
+        &Source { sheet, table: t },
+        Search { goal, units },
+        w,
+        r,
+        own,
+        room,
+    )
 }
 
-// The bytes of `own` that were written, copied once they are known to fit, and their number; 65,536 where they do not fit.
-pub fn copy_out(own: &[u8], room: Room, out: &mut [u8]) -> u32
+// The bytes of `own` that were written, copied once they are known to fit, and their number; none where they do not fit.
+pub fn copy_out(own: &[u8], room: Room, out: &mut [u8]) -> Option<u32>
     requires { (room.limit ≤ length own.now) × (room.limit ≤ length out.old) }
-    ensures { written out.new result ≡ copied room.limit own.now room.at out.old }
+    ensures { fitted out.new result ≡ copied room.limit own.now room.at out.old }
 {
     if room.limit < room.at {
-        return printing::NO_ROOM;
+        return None;
     }
-    copy_front(own, out, widen(room.at));
-    room.at
+    let n = widen(room.at);
+    out[..n].copy_from_slice(&own[..n]);
+    Some(room.at)
 }
 
-// The answer of a proved search, and its length; 65,536 where it does not fit.
+// The answer of a proved search, and its length; none where it does not fit.
 pub fn write_proof(
     sheet: &[u8],
     t: &[u32],
@@ -160,7 +148,7 @@ pub fn write_proof(
     r: Registers,
     units: u32,
     out: &mut [u8],
-) -> u32
+) -> Option<u32>
     ensures { answered w.new out.new result ≡ write_proof sheet.now t.now goal
         (made w.old r) units out.old }
 {
@@ -168,6 +156,6 @@ pub fn write_proof(
     let search = Search { goal, units };
     let room = Room { limit, at: 0 };
     let mut own = [0u8; MAX_BYTES];
-    let at = append_text(sheet, t, search, w, r, &mut own, room);
+    let at = append_text(&Source { sheet, table: t }, search, w, r, &mut own, room);
     copy_out(&own, Room { limit, at }, out)
 }

@@ -10,7 +10,7 @@ use printing::Cursor;
 use term_printer::cursor::emit_to;
 use term_printer::numbering::with_position;
 use term_printer::output::{write_bytes, write_number};
-use term_printer::{Bounds, term_to};
+use term_printer::{Bounds, Source, term_to};
 
 pub fn bytes_to(limit: u32, out: &mut [u8], p: Cursor, bs: &[u8]) -> Cursor
     ensures { (m : List ℕ) → printer m out.new result ≡ bytes_to limit (printer m out.old p) bs.now }
@@ -37,8 +37,7 @@ pub fn result_to(limit: u32, out: &mut [u8], p: Cursor, bs: &[u8], units: u32) -
 
 // The term of word a, which ends its line.
 pub fn last_term(
-    sheet: &[u8],
-    t: &[u32],
+    source: &Source<'_>,
     bounds: Bounds,
     w: &mut [u32],
     out: &mut [u8],
@@ -47,9 +46,9 @@ pub fn last_term(
 ) -> Cursor
     requires { bounds.limit ≤ 65535 }
     ensures { printer w.new out.new result ≡ emit_to bounds.limit
-        (term_to sheet.now t.now bounds.turns bounds.limit
+        (term_to source.now.sheet.now source.now.table.now bounds.turns bounds.limit
         (printer w.old out.old p) a) lf }
 {
-    let q = term_to(sheet, t, bounds, w, out, p, a);
+    let q = term_to(source, bounds, w, out, p, a);
     emit_to(bounds.limit, out, q, b'\n')
 }

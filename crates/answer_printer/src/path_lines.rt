@@ -11,25 +11,19 @@ use machine_memory::cells::record_of;
 use machine_memory::words::{constant_word, variable_word};
 use memory::field;
 use printing::Cursor;
-use term_printer::Bounds;
+use term_printer::{Bounds, Source};
 
-// The five lines that have no term.
+// The five lines that have no term. The kind is a number since it stands in lent memory.
 pub fn plain_to(limit: u32, out: &mut [u8], p: Cursor, k: u32) -> Cursor
     ensures { (m : List ℕ) → printer m out.new result ≡ bytes_to limit (printer m out.old p) (plain_bytes k) }
 {
-    if k == lines::TRUE {
-        return bytes_to(limit, out, p, b"D\ttrue\n");
+    match k {
+        lines::TRUE => bytes_to(limit, out, p, b"D\ttrue\n"),
+        lines::AND => bytes_to(limit, out, p, b"D\tand\n"),
+        lines::LEFT => bytes_to(limit, out, p, b"D\tleft\n"),
+        lines::RIGHT => bytes_to(limit, out, p, b"D\tright\n"),
+        _ => bytes_to(limit, out, p, b"D\tassume\n"),
     }
-    if k == lines::AND {
-        return bytes_to(limit, out, p, b"D\tand\n");
-    }
-    if k == lines::LEFT {
-        return bytes_to(limit, out, p, b"D\tleft\n");
-    }
-    if k == lines::RIGHT {
-        return bytes_to(limit, out, p, b"D\tright\n");
-    }
-    bytes_to(limit, out, p, b"D\tassume\n")
 }
 
 // A line of the path: its record, and its kind.
@@ -41,8 +35,7 @@ pub struct PathLine {
 
 // The line.
 pub fn line_to(
-    sheet: &[u8],
-    t: &[u32],
+    source: &Source<'_>,
     bounds: Bounds,
     w: &mut [u32],
     out: &mut [u8],
@@ -50,32 +43,31 @@ pub fn line_to(
     line: PathLine,
 ) -> Cursor
     requires { bounds.limit ≤ 65535 }
-    ensures { printer w.new out.new result ≡ line_to sheet.now t.now bounds.turns
+    ensures { printer w.new out.new result ≡ line_to source.now.sheet.now source.now.table.now bounds.turns
         bounds.limit (printer w.old out.old p) line.record line.kind }
 {
     let limit = bounds.limit;
     let u = line.record;
-    let k = line.kind;
-    if k < lines::SOME {
-        return plain_to(limit, out, p, k);
+    match line.kind {
+        lines::TRUE | lines::AND | lines::LEFT | lines::RIGHT | lines::ASSUME => plain_to(
+            limit, out, p, line.kind,
+        ),
+        lines::SOME => {
+            let a = variable_word(field(w, u, fields::VARIABLES));
+            let q = bytes_to(limit, out, p, b"D\tsome\t");
+            last_term(source, bounds, w, out, q, a)
+        }
+        lines::ALL => {
+            let q = bytes_to(limit, out, p, b"D\tall\t");
+            last_term(source, bounds, w, out, q, constant_word(u))
+        }
+        _ => clause_to(source, bounds, w, out, p, u),
     }
-    if k == lines::SOME {
-        let a = variable_word(field(w, u, fields::VARIABLES));
-        let q = bytes_to(limit, out, p, b"D\tsome\t");
-        return last_term(sheet, t, bounds, w, out, q, a);
-    }
-    if k == lines::ALL {
-        let a = constant_word(u);
-        let q = bytes_to(limit, out, p, b"D\tall\t");
-        return last_term(sheet, t, bounds, w, out, q, a);
-    }
-    clause_to(sheet, t, bounds, w, out, p, u)
 }
 
 // The lines from link e on, at most so many as bindings are looked through.
 pub fn lines_to(
-    sheet: &[u8],
-    t: &[u32],
+    source: &Source<'_>,
     bounds: Bounds,
     w: &mut [u32],
     out: &mut [u8],
@@ -83,13 +75,12 @@ pub fn lines_to(
     e: u32,
 ) -> Cursor
     requires { bounds.limit ≤ 65535 }
-    ensures { printer w.new out.new result ≡ lines_to sheet.now t.now bounds.turns
+    ensures { printer w.new out.new result ≡ lines_to source.now.sheet.now source.now.table.now bounds.turns
         bounds.limit bounds.turns (printer w.old out.old p) e }
 {
-    let mut left = bounds.turns;
     let mut link = e;
     let mut q = p;
-    while 0 < left {
+    for _turn in 0..bounds.turns {
         let pointer = link / printing::LINE_CODES;
         if pointer == 0 {
             return q;
@@ -100,9 +91,8 @@ pub fn lines_to(
             record: u,
             kind: link % printing::LINE_CODES,
         };
-        q = line_to(sheet, t, bounds, w, out, q, line);
+        q = line_to(source, bounds, w, out, q, line);
         link = next;
-        left -= 1;
     }
     q
 }

@@ -1,7 +1,7 @@
 // The texts of no and spent, in two passes. Each function is a definition of the crate printing, and its contract says so.
 ghost use Rattle.std.specs.Prelude.{◌≡◌, ◌<◌, ◌≤◌};
 ghost use Rattle.printing.specs.Output.{written};
-ghost use Rattle.printing.specs.Writer.{text_limit, append_result, write_short, write_no, write_spent};
+ghost use Rattle.printing.specs.Writer.{text_limit, fitted, append_result, write_short, write_no, write_spent};
 
 use super::Room;
 use sheet_format::limits;
@@ -13,10 +13,7 @@ pub const MAX_BYTES: usize = limits::MAX_TEXT_BYTES as usize;
 pub fn text_limit(out: &[u8]) -> u32
     ensures { (result ≡ text_limit out.now) × (result ≤ 65535) }
 {
-    if out.len() < MAX_BYTES {
-        return out.len() as u32;
-    }
-    limits::MAX_TEXT_BYTES
+    out.len().min(MAX_BYTES) as u32
 }
 
 // The R line of no or spent, written after what `own` holds already: bs are the bytes before the units.
@@ -28,26 +25,26 @@ pub fn append_result(bs: &[u8], units: u32, own: &mut [u8], room: Room) -> u32
     emit(own, room.limit, to, b'\n')
 }
 
-pub fn write_short(bs: &[u8], units: u32, out: &mut [u8]) -> u32
-    ensures { written out.new result ≡ write_short bs.now units out.old }
+pub fn write_short(bs: &[u8], units: u32, out: &mut [u8]) -> Option<u32>
+    ensures { fitted out.new result ≡ write_short bs.now units out.old }
 {
     let limit = text_limit(out);
     let room = Room { limit, at: 0 };
     let length = append_result(bs, units, &mut out[..0], room);
     if limit < length {
-        return printing::NO_ROOM;
+        return None;
     }
-    append_result(bs, units, out, room)
+    Some(append_result(bs, units, out, room))
 }
 
-pub fn write_no(units: u32, out: &mut [u8]) -> u32
-    ensures { written out.new result ≡ write_no units out.old }
+pub fn write_no(units: u32, out: &mut [u8]) -> Option<u32>
+    ensures { fitted out.new result ≡ write_no units out.old }
 {
     write_short(b"R\tno\t", units, out)
 }
 
-pub fn write_spent(budget: u32, out: &mut [u8]) -> u32
-    ensures { written out.new result ≡ write_spent budget out.old }
+pub fn write_spent(budget: u32, out: &mut [u8]) -> Option<u32>
+    ensures { fitted out.new result ≡ write_spent budget out.old }
 {
     write_short(b"R\tspent\t", budget, out)
 }

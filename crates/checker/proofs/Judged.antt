@@ -1,21 +1,19 @@
 -- Past refusals 1 to 5: the sheet's refusal, or the judgement of the text.
-use Prim.Native.Nat.{ℕ, zero, suc, ◌*◌, ◌≤◌}
-use native.Mathlib.Omega.{arith}
+use Prim.Native.Nat.{ℕ, ◌*◌, ◌≤◌}
 use mathlib.Core.Path.{◌≡◌, refl, ◌∙◌, ap, subst}
 use mathlib.Core.List.{List}
 use lib.ListN.{length}
-use borrow.Author.Tests.{ne_eqb}
 use Rattle.sheet_format.specs.Limits.{numbers_per_unit}
 use Rattle.outcomes.specs.declared.Refusal.{Refusal}
 use Rattle.outcomes.specs.declared.Verdict.{Verdict}
+use Rattle.outcomes.specs.declared.Verdict.TheVariants.{Refused as TurnedBack}
 use Rattle.outcomes.specs.Outcomes.{verdict_code, verdict_line, verdict_number}
 use Rattle.sheet_format.specs.Buffers.{demanded}
 use Rattle.sheet_format.specs.Sheets.{read_sheet}
 use Rattle.node_table.specs.Decoding.{decode_sheet}
 use Rattle.table_builder.specs.declared.node_info.Counts.{Counts}
-use Rattle.sheet_reader.specs.declared.sheet_lines.Read.{Read}
-use Rattle.sheet_reader.specs.declared.sheet_lines.Read.TheVariants.{Done, Refused}
-use Rattle.sheet_reader.specs.Reader.{read_of, WellRead, NamesRead, ReadContract}
+use Rattle.std.specs.Prelude.{Option, Some, None, Ok, Err}
+use Rattle.sheet_reader.specs.Reader.{Read, read_of, WellRead, NamesRead, ReadContract}
 use Rattle.text_judging.specs.Judging.{judge}
 use Rattle.line_checking.specs.Judging.{Judged, judge_text}
 use Rattle.line_checking.specs.Judging.{judged as judgedText}
@@ -24,18 +22,18 @@ use Rattle.line_checking.proofs.Simulation.{simulates}
 use Rattle.checker_spec.specs.CheckText.{judged, count_lf, check_sheet}
 use Rattle.checker_spec.specs.Promises.{handed_back}
 use Rattle.checker_spec.specs.Handed.{handed}
-use Rattle.checker.specs.Checking.{refused_check, verdict_at}
+use Rattle.checker.specs.Checking.{verdict_at}
 use Rattle.checker.proofs.LineFeeds.{count_lf_lines}
 
 -- A verdict is handed back as the judgement that it stands for.
-verdict_handed : (n : ℕ) → handed (verdict_at n) ≡ handed_back (judged (judgement_of n))
+verdict_handed : (n : Option ℕ) → handed (verdict_at n) ≡ handed_back (judged (judgement_of n))
 unfolding handed handed_back verdict_at judgement_of verdict_code verdict_line verdict_number
-verdict_handed zero = refl
-verdict_handed (suc k) = rw (ne_eqb (suc k) 0 (λ e. omega arith))
+verdict_handed None = refl
+verdict_handed (Some k) = refl
 
 -- A sheet that was read: the judgement.
-pub text_judged : (bytes text t t' : List ℕ) (x : Read) (k : Counts) (goal : ℕ) (w w' : List ℕ) (n : ℕ) (v : Verdict)
-    → ReadContract bytes t t' x → x ≡ Done k goal → demanded (count_lf text) ≤ length w
+pub text_judged : (bytes text t t' : List ℕ) (x : Read) (k : Counts) (goal : ℕ) (w w' : List ℕ) (n : Option ℕ) (v : Verdict)
+    → ReadContract bytes t t' x → x ≡ Ok (k, goal) → demanded (count_lf text) ≤ length w
     → judgedText w' n ≡ judge_text bytes t' k.symbols k.clauses goal text w → v ≡ verdict_at n
     → handed v ≡ handed_back (check_sheet text (read_sheet bytes))
 unfolding read_of WellRead NamesRead check_sheet demanded
@@ -48,10 +46,9 @@ text_judged bytes text t t' x k goal w w' n v c e room d q =
     rw (q, z.read, ← j) (verdict_handed n)
 
 -- Refusals 6 to 11.
-pub sheet_refused : (bytes text t t' : List ℕ) (x : Read) (f : Refusal) (v : Verdict) → ReadContract bytes t t' x → x ≡ Refused f
-    → v ≡ refused_check f.number f.line
-    → handed v ≡ handed_back (check_sheet text (read_sheet bytes))
+pub sheet_refused : (bytes text t t' : List ℕ) (x : Read) (f : Refusal) → ReadContract bytes t t' x → x ≡ Err f
+    → handed (TurnedBack f) ≡ handed_back (check_sheet text (read_sheet bytes))
 unfolding read_of check_sheet handed handed_back verdict_code verdict_line verdict_number
-sheet_refused bytes text t t' x f v c e d =
+sheet_refused bytes text t t' x f c e =
     let z = subst (ReadContract bytes t t') e c in
-    rw (d, z.read)
+    rw z.read refl

@@ -2,14 +2,20 @@
 -- the demanded parts of table and work buffer end as zeros.
 use Prim.Native.Nat.{ℕ, ◌*◌, ◌≤◌, ◌<◌}
 use native.Mathlib.Omega.{arith}
-use mathlib.Core.Path.{◌≡◌, refl, sym, ◌∙◌, ap}
+use mathlib.Core.Path.{◌≡◌, refl, ap}
 use mathlib.Core.Bool.{Bool, true, false, cond}
 use mathlib.Core.List.{List, ◌++◌}
 use lib.Dec.{ltb}
 use lib.ListN.{length, take, drop, replicate}
 use lib.Seq.{length-take-le}
 use borrow.Author.Tests.{ltb-false, lt-ltb, le-ltb, le-leb, lt-leb}
+use Rattle.std.specs.Prelude.{Some, None}
 use Rattle.outcomes.specs.declared.Verdict.{Verdict}
+use Rattle.outcomes.specs.declared.Verdict.TheVariants.{Refused}
+use Rattle.outcomes.specs.declared.Refusal.{Refusal}
+use Rattle.outcomes.specs.declared.refusals.Reason.{Reason}
+use Rattle.outcomes.specs.declared.refusals.Reason.TheVariants.{SheetTooLong, TableTooShort, TextTooLong, WorkTooShort}
+use Rattle.outcomes.specs.Refusals.{number_of, refused_for}
 use Rattle.outcomes.specs.Outcomes.{verdict_code, verdict_line, verdict_number}
 use Rattle.sheet_format.specs.Limits.{max_sheet_bytes, table_numbers, max_text_bytes, numbers_per_unit}
 use Rattle.sheet_format.specs.Buffers.{demanded, zeroed}
@@ -22,23 +28,25 @@ use Rattle.checker.specs.Checking.{check_refusal, refused_check}
 use Rattle.checker_spec.proofs.Passed.{Passed, passed_checks}
 use Rattle.sheet_reader.proofs.sheet_lines.Refusals.{refused_late}
 
--- Where a test of refusals 1, 2 and 4 holds, the check is refused with its number, which is at most 5.
-shut : (a b c : Bool) (r : Checked) (n : ℕ) → n ≡ cond a 1 (cond b 2 (cond c 4 0)) → (n ≡ 0 → ⊥)
-    → (turn_back_if check_refused a 1 (turn_back_if check_refused b 2 (turn_back_if check_refused c 4 r)) ≡ check_refused (refusal n 0)) × (n ≤ 5)
+-- Where a test of refusals 1, 2 and 4 holds, the check is refused for its reason, whose number is at most 5.
+shut : (a b c : Bool) (r : Checked) (reason : Reason) → Some reason ≡ cond a (Some SheetTooLong) (cond b (Some TableTooShort) (cond c (Some TextTooLong) None))
+    → (turn_back_if check_refused a 1 (turn_back_if check_refused b 2 (turn_back_if check_refused c 4 r)) ≡ check_refused (refusal (number_of reason) 0))
+    × (number_of reason ≤ 5)
 unfolding turn_back_if
-shut true b c r n q h = (ap (λ (k : ℕ). check_refused (refusal k 0)) (sym q), omega arith)
-shut false true c r n q h = (ap (λ (k : ℕ). check_refused (refusal k 0)) (sym q), omega arith)
-shut false false true r n q h = (ap (λ (k : ℕ). check_refused (refusal k 0)) (sym q), omega arith)
-shut false false false r n q h = absurd (h q)
+shut true b c r reason q = let e : reason ≡ SheetTooLong = cc in rw e (refl, omega arith)
+shut false true c r reason q = let e : reason ≡ TableTooShort = cc in rw e (refl, omega arith)
+shut false false true r reason q = let e : reason ≡ TextTooLong = cc in rw e (refl, omega arith)
+shut false false false r reason q = cc
 
--- Where no number arises, the tests of refusals 1, 2, 3 and 5 all fail.
-none_shut : (a b c : Bool) → ◌≡◌ {A = ℕ} (cond a 1 (cond b 2 (cond c 4 0))) 0 → (a ≡ false) × (b ≡ false) × (c ≡ false)
-none_shut true b c q = absurd (omega arith)
-none_shut false true c q = absurd (omega arith)
-none_shut false false true q = absurd (omega arith)
+-- Where none arises, the tests of refusals 1, 2 and 4 all fail.
+none_shut : (a b c : Bool) → cond a (Some SheetTooLong) (cond b (Some TableTooShort) (cond c (Some TextTooLong) None)) ≡ None
+    → (a ≡ false) × (b ≡ false) × (c ≡ false)
+none_shut true b c q = cc
+none_shut false true c q = cc
+none_shut false false true q = cc
 none_shut false false false q = (refl, refl, refl)
 
-pub early_passed : (bytes text : List ℕ) (t : ℕ) → check_refusal (length bytes) t (length text) ≡ 0 → Passed bytes text t
+pub early_passed : (bytes text : List ℕ) (t : ℕ) → check_refusal (length bytes) t (length text) ≡ None → Passed bytes text t
 unfolding check_refusal
 early_passed bytes text t q =
     let o = none_shut (ltb max_sheet_bytes (length bytes)) (ltb t table_numbers) (ltb max_text_bytes (length text)) q in
@@ -53,13 +61,13 @@ late bytes text = go (read_sheet bytes) refl
     go (refused r) q = lt-leb r.number 5 (refused_late bytes r q)
     go (sheet s) q = refl
 
--- Turned back by an early number: no buffer changes.
-turned_back_lem : (bytes text table work : List ℕ) (n : ℕ) (v : Verdict)
-    → check_text bytes text (length table) (length work) ≡ check_refused (refusal n 0) → n ≤ 5 → v ≡ refused_check n 0
+-- Turned back for an early reason: no buffer changes.
+turned_back_lem : (bytes text table work : List ℕ) (reason : Reason) (v : Verdict)
+    → check_text bytes text (length table) (length work) ≡ check_refused (refusal (number_of reason) 0) → number_of reason ≤ 5 → v ≡ refused_check reason 0
     → CheckContract bytes text table work table work (handed v)
 unfolding handed handed_back verdict_code verdict_line verdict_number table_after work_after is_early
-turned_back_lem bytes text table work n v g l e =
-    let z = le-leb n 5 l in
+turned_back_lem bytes text table work reason v g l e =
+    let z = le-leb (number_of reason) 5 l in
     record {
       value = rw (e, g);
       table_end = rw (g, z);
@@ -67,35 +75,35 @@ turned_back_lem bytes text table work n v g l e =
     }
 
 -- Refusals 1, 2 and 4.
-pub check_refused_lem : (bytes text table work : List ℕ) (n : ℕ) (v : Verdict) → n ≡ check_refusal (length bytes) (length table) (length text)
-    → (n ≡ 0 → ⊥) → v ≡ refused_check n 0
-    → CheckContract bytes text table work table work (handed v)
+pub check_refused_lem : (bytes text table work : List ℕ) (reason : Reason) (f : Refusal)
+    → Some reason ≡ check_refusal (length bytes) (length table) (length text) → f ≡ refused_for reason 0
+    → CheckContract bytes text table work table work (handed (Refused f))
 unfolding check_refusal check_text
-check_refused_lem bytes text table work n v q h e =
+check_refused_lem bytes text table work reason f q e =
     let g = shut (ltb max_sheet_bytes (length bytes)) (ltb (length table) table_numbers) (ltb max_text_bytes (length text))
-    (turn_back_if check_refused (ltb (length work) (demanded (count_lf text))) 5 (check_sheet text (read_sheet bytes))) n q h in
-    turned_back_lem bytes text table work n v g.0 g.1 e
+    (turn_back_if check_refused (ltb (length work) (demanded (count_lf text))) 5 (check_sheet text (read_sheet bytes))) reason q in
+    turned_back_lem bytes text table work reason (Refused f) g.0 g.1 (ap Refused e)
 
 -- Refusal 5.
-pub check_short : (bytes text table work : List ℕ) (n m : ℕ) (v : Verdict) → n ≡ check_refusal (length bytes) (length table) (length text)
-    → n ≡ 0 → m ≡ count_lf text → length work < numbers_per_unit * m
-    → v ≡ refused_check 5 0 → CheckContract bytes text table work table work (handed v)
+pub check_short : (bytes text table work : List ℕ) (m : ℕ) (f : Refusal) → check_refusal (length bytes) (length table) (length text) ≡ None
+    → m ≡ count_lf text → length work < numbers_per_unit * m
+    → f ≡ refused_for WorkTooShort 0 → CheckContract bytes text table work table work (handed (Refused f))
 unfolding turn_back_if demanded
-check_short bytes text table work n m v q z em h e =
-    let p = early_passed bytes text (length table) (sym q ∙ z) in
+check_short bytes text table work m f q em h e =
+    let p = early_passed bytes text (length table) q in
     let g : check_text bytes text (length table) (length work) ≡ check_refused (refusal 5 0) =
     rw (passed_checks bytes text (length table) (length work) p, ← em, lt-ltb (length work) (numbers_per_unit * m) h) in
-    turned_back_lem bytes text table work 5 v g (omega arith) e
+    turned_back_lem bytes text table work WorkTooShort (Refused f) g (omega arith) (ap Refused e)
 
 -- None: the parts lent end as zeros.
-pub check_passed : (bytes text table work t w : List ℕ) (n m : ℕ) (v : Verdict)
-    → n ≡ check_refusal (length bytes) (length table) (length text) → n ≡ 0 → m ≡ count_lf text → numbers_per_unit * m ≤ length work
+pub check_passed : (bytes text table work t w : List ℕ) (m : ℕ) (v : Verdict)
+    → check_refusal (length bytes) (length table) (length text) ≡ None → m ≡ count_lf text → numbers_per_unit * m ≤ length work
     → handed v ≡ handed_back (check_sheet text (read_sheet bytes)) → t ≡ replicate (length (take 8192 table)) 0
     → w ≡ replicate (length (take (numbers_per_unit * m) work)) 0
     → CheckContract bytes text table work (t ++ drop 8192 table) (w ++ drop (numbers_per_unit * m) work) (handed v)
 unfolding turn_back_if table_after work_after zeroed demanded
-check_passed bytes text table work t w n m v q z em h i et ew =
-    let p = early_passed bytes text (length table) (sym q ∙ z) in
+check_passed bytes text table work t w m v q em h i et ew =
+    let p = early_passed bytes text (length table) q in
     let g : check_text bytes text (length table) (length work) ≡ check_sheet text (read_sheet bytes) =
     rw (passed_checks bytes text (length table) (length work) p, ← em, le-ltb (length work) (numbers_per_unit * m) h) in
     let l = late bytes text in

@@ -8,14 +8,13 @@ ghost use Rattle.sheet_format.specs.Sheets.{read_sheet};
 ghost use Rattle.checker_spec.specs.CheckText.{count_lf, check_sheet};
 ghost use Rattle.checker_spec.specs.Promises.{handed_back, CheckContract};
 ghost use Rattle.checker_spec.specs.Handed.{handed};
-ghost use Rattle.checker.specs.Checking.{check_refusal, refused_check, verdict_at};
+ghost use Rattle.checker.specs.Checking.{check_refusal, verdict_at};
 
 use checker_state::Shape;
-use memory::zero_front;
-use outcomes::{Refusal, Verdict, refusals};
+use outcomes::refusals::Reason;
+use outcomes::{Refusal, Verdict};
 use sheet_format::limits;
 use sheet_format::limits::{NUMBERS_PER_UNIT, TABLE_NUMBERS};
-use sheet_reader::sheet_lines::Read;
 
 const MAX_BYTES: usize = limits::MAX_TEXT_BYTES as usize;
 
@@ -24,47 +23,39 @@ fn count_lf(text: &[u8]) -> usize
     ensures { result ≡ count_lf text.now }
 {
     let mut n: usize = 0;
-    let mut i: usize = 0;
-    while i < text.len() {
-        if text[i] == b'\n' {
+    for &b in text {
+        if b == b'\n' {
             n += 1;
         }
-        i += 1;
     }
     n
 }
 
-// The first of refusals 1, 2 and 4 that arises, or 0.
-fn check_refusal(sheet: usize, table: usize, text: usize) -> u32
+// The first of refusals 1, 2 and 4 that arises.
+fn check_refusal(sheet: usize, table: usize, text: usize) -> Option<Reason>
     ensures { result ≡ check_refusal sheet table text }
 {
     if limits::MAX_SHEET_BYTES < sheet {
-        return refusals::SHEET_TOO_LONG;
+        return Some(Reason::SheetTooLong);
     }
     if table < TABLE_NUMBERS {
-        return refusals::TABLE_TOO_SHORT;
+        return Some(Reason::TableTooShort);
     }
     if MAX_BYTES < text {
-        return refusals::TEXT_TOO_LONG;
+        return Some(Reason::TextTooLong);
     }
-    0
+    None
 }
 
-fn refused_check(number: u32, line: u32) -> Verdict
-    ensures { result ≡ refused_check number line }
-{
-    let f = Refusal { number, line };
-    Verdict::Refused(f)
-}
-
-// The verdict for the first line that breaks; 0 where none does.
-fn verdict_at(line: u32) -> Verdict
+// The verdict for the first line that breaks.
+#[tactic(auto, unfolding(crate::specs::Checking::verdict_at))]
+fn verdict_at(line: Option<u32>) -> Verdict
     ensures { result ≡ verdict_at line }
 {
-    if line == 0 {
-        return Verdict::Valid;
+    match line {
+        Some(number) => Verdict::Invalid(number),
+        None => Verdict::Valid,
     }
-    Verdict::Invalid(line)
 }
 
 // The sheet is read and the text judged.
@@ -73,9 +64,8 @@ fn judge_sheet(sheet: &[u8], text: &[u8], t: &mut [u32], w: &mut [u32]) -> Verdi
         × (demanded (count_lf text.now) ≤ length w.old) }
     ensures { handed result ≡ handed_back (check_sheet text.now (read_sheet sheet.now)) }
 {
-    let read = sheet_reader::read_sheet(sheet, t);
-    match read {
-        Read::Done(k, goal) => {
+    match sheet_reader::read_sheet(sheet, t) {
+        Ok((k, goal)) => {
             let shape = Shape {
                 symbols: k.symbols,
                 clauses: k.clauses,
@@ -84,7 +74,7 @@ fn judge_sheet(sheet: &[u8], text: &[u8], t: &mut [u32], w: &mut [u32]) -> Verdi
             let line = text_checker::judge_text(sheet, t, shape, text, w);
             verdict_at(line)
         }
-        Read::Refused(f) => refused_check(f.number, f.line),
+        Err(refusal) => Verdict::Refused(refusal),
     }
 }
 
@@ -96,10 +86,8 @@ fn check_in_parts(sheet: &[u8], text: &[u8], t: &mut [u32], w: &mut [u32]) -> Ve
         × (t.new ≡ replicate (length t.old) 0) × (w.new ≡ replicate (length w.old) 0) }
 {
     let r = judge_sheet(sheet, text, t, w);
-    let n = t.len();
-    zero_front(t, n);
-    let m = w.len();
-    zero_front(w, m);
+    t.fill(0);
+    w.fill(0);
     r
 }
 
@@ -108,13 +96,12 @@ pub fn check(sheet: &[u8], text: &[u8], table: &mut [u32], work: &mut [u32]) -> 
     ensures { CheckContract sheet.now text.now table.old work.old table.new
         work.new (handed result) }
 {
-    let number = check_refusal(sheet.len(), table.len(), text.len());
-    if number != 0 {
-        return refused_check(number, 0);
+    if let Some(reason) = check_refusal(sheet.len(), table.len(), text.len()) {
+        return Verdict::Refused(Refusal::new(reason, 0));
     }
     let m = NUMBERS_PER_UNIT * count_lf(text);
     if work.len() < m {
-        return refused_check(refusals::WORK_TOO_SHORT, 0);
+        return Verdict::Refused(Refusal::new(Reason::WorkTooShort, 0));
     }
     check_in_parts(sheet, text, &mut table[..TABLE_NUMBERS], &mut work[..m])
 }

@@ -22,6 +22,7 @@ pub const TEXT_BYTES: usize = limits::MAX_TEXT_BYTES as usize + 1;
 // shortest lines have six bytes.
 const LINES: usize = 31000;
 
+#[tactic(auto, using(line_writer::proofs::Laws::decimal_length))]
 fn put_invalid(out: &mut [u8], line: u32) -> usize
     requires { refusal_line_bytes ≤ length out.old }
     ensures { (result ≤ refusal_line_bytes) × (take result out.new ≡ invalid_line line) }

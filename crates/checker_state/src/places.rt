@@ -4,38 +4,41 @@ ghost use Rattle.std.specs.Prelude.{◌≡◌};
 ghost use Rattle.line_checking.specs.Members.{clause_from, hypothesis_from, oldest_from, place_from};
 
 use super::hypothesis_chains::step_before;
-use line_checking::Place;
 use memory::field;
 use node_table::{clause_node, layout, members, order_number};
 use scanning::fields;
 
 // Member k of the sheet's clauses, of which there are so many.
-pub fn clause_from(clauses: u32, t: &[u32], k: u32) -> Place
+pub fn clause_from(clauses: u32, t: &[u32], k: u32) -> Option<(u32, u32, u32)>
     ensures { result ≡ clause_from clauses t.now 0 k }
 {
-    let mut i: u32 = 0;
     let mut left = k;
-    while i < clauses {
+    for i in 0..clauses {
         let node = clause_node(t, i);
         let count = members(t, node);
         if left < count {
-            return Place::At(node, 0, left);
+            return Some((node, 0, left));
         }
         left -= count;
-        i += 1;
     }
-    Place::Nowhere
+    None
 }
 
 // Member k counted from the hypothesis h on, of at most n hypotheses, then the sheet's clauses: the order of `O latest`. Where k passes
 // all members up to a jump's target, the walk goes on there.
-pub fn hypothesis_from(n: u32, t: &[u32], clauses: u32, w: &[u32], h: u32, k: u32) -> Place
+pub fn hypothesis_from(
+    n: u32,
+    t: &[u32],
+    clauses: u32,
+    w: &[u32],
+    h: u32,
+    k: u32,
+) -> Option<(u32, u32, u32)>
     ensures { result ≡ hypothesis_from n t.now clauses w.now h k }
 {
-    let mut turns = n;
     let mut next = h;
     let mut left = k;
-    while 0 < turns {
+    for _turn in 0..n {
         if next == 0 {
             return clause_from(clauses, t, left);
         }
@@ -43,9 +46,8 @@ pub fn hypothesis_from(n: u32, t: &[u32], clauses: u32, w: &[u32], h: u32, k: u3
         let node = field(w, q, fields::HYPOTHESIS_NODE);
         let count = members(t, node);
         if left < count {
-            return Place::At(node, field(w, q, fields::HYPOTHESIS_FRAME), left);
+            return Some((node, field(w, q, fields::HYPOTHESIS_FRAME), left));
         }
-        turns -= 1;
         let passed = field(w, q, fields::HYPOTHESIS_PASSED);
         if left < passed {
             next = field(w, q, fields::HYPOTHESIS_NEXT);
@@ -59,12 +61,18 @@ pub fn hypothesis_from(n: u32, t: &[u32], clauses: u32, w: &[u32], h: u32, k: u3
 }
 
 // Member k in the default order (request W-207): the walk goes from the hypothesis h, in at most n steps, until one starts at k or before.
-pub fn oldest_from(n: u32, t: &[u32], clauses: u32, w: &[u32], h: u32, k: u32) -> Place
+pub fn oldest_from(
+    n: u32,
+    t: &[u32],
+    clauses: u32,
+    w: &[u32],
+    h: u32,
+    k: u32,
+) -> Option<(u32, u32, u32)>
     ensures { result ≡ oldest_from n t.now clauses w.now h k }
 {
-    let mut turns = n;
     let mut next = h;
-    while 0 < turns {
+    for _turn in 0..n {
         if next == 0 {
             return clause_from(clauses, t, k);
         }
@@ -74,18 +82,17 @@ pub fn oldest_from(n: u32, t: &[u32], clauses: u32, w: &[u32], h: u32, k: u32) -
             let node = field(w, q, fields::HYPOTHESIS_NODE);
             let number = k - start;
             if number < members(t, node) {
-                return Place::At(node, field(w, q, fields::HYPOTHESIS_FRAME), number);
+                return Some((node, field(w, q, fields::HYPOTHESIS_FRAME), number));
             }
-            return Place::Nowhere;
+            return None;
         }
         next = step_before(w, next, k);
-        turns -= 1;
     }
     clause_from(clauses, t, k)
 }
 
 // Member k of the hypotheses from h on and the sheet's clauses, in the order in force (request W-207).
-pub fn place_from(t: &[u32], clauses: u32, w: &[u32], h: u32, k: u32) -> Place
+pub fn place_from(t: &[u32], clauses: u32, w: &[u32], h: u32, k: u32) -> Option<(u32, u32, u32)>
     ensures { result ≡ place_from t.now clauses w.now h k }
 {
     if order_number(t) == layout::DEFAULT_ORDER {

@@ -4,7 +4,7 @@ ghost use Rattle.std.specs.Prelude.{◌≡◌, List, ℕ, ◌-◌};
 ghost use Rattle.line_checking.specs.Sequents.{made, start, with_stage, broken, with_binding, with_sequent, with_counts, free_from, bound_from};
 ghost use Rattle.line_checking.specs.Sequents.{bound};
 
-use line_checking::{Registers, text_stages};
+use line_checking::{Registers, TextStage};
 use node_table::{bit_of, mask};
 use sheet_format::limits;
 
@@ -13,7 +13,7 @@ pub fn start() -> Registers
     ensures { result ≡ start }
 {
     Registers {
-        stage: text_stages::OPENING,
+        stage: TextStage::Opening,
         node: 0,
         frame: 0,
         hypotheses: 0,
@@ -25,19 +25,17 @@ pub fn start() -> Registers
 }
 
 // What is due.
-pub fn with_stage(r: Registers, k: u32) -> Registers
-    ensures { result ≡ with_stage r k }
+pub fn with_stage(r: Registers, stage: TextStage) -> Registers
+    ensures { result ≡ with_stage r stage }
 {
-    let mut s = r;
-    s.stage = k;
-    s
+    Registers { stage, ..r }
 }
 
 // The line was wrong.
 pub fn broken(r: Registers) -> Registers
     ensures { (w : List ℕ) → made w result ≡ broken w r }
 {
-    with_stage(r, text_stages::BROKEN)
+    with_stage(r, TextStage::Broken)
 }
 
 // A B line for variable v is due.
@@ -45,14 +43,13 @@ pub fn with_binding(r: Registers, v: u32, f: u32) -> Registers
     ensures { result ≡ with_binding r v f }
 {
     Registers {
-        stage: text_stages::BINDING,
+        stage: TextStage::Binding,
         node: v,
         frame: f,
         hypotheses: 0,
         level: 0,
         rest: 0,
-        made: r.made,
-        leftover: r.leftover,
+        ..r
     }
 }
 
@@ -61,14 +58,13 @@ pub fn with_sequent(r: Registers, n: u32, f: u32, h: u32, i: u32, q: u32) -> Reg
     ensures { result ≡ with_sequent r n f h i q }
 {
     Registers {
-        stage: text_stages::SEQUENT,
+        stage: TextStage::Deriving,
         node: n,
         frame: f,
         hypotheses: h,
         level: i,
         rest: q,
-        made: r.made,
-        leftover: r.leftover,
+        ..r
     }
 }
 
@@ -76,26 +72,25 @@ pub fn with_sequent(r: Registers, n: u32, f: u32, h: u32, i: u32, q: u32) -> Reg
 pub fn with_counts(r: Registers, m: u32, l: u32) -> Registers
     ensures { result ≡ with_counts r m l }
 {
-    let mut s = r;
-    s.made = m;
-    s.leftover = l;
-    s
+    Registers {
+        made: m,
+        leftover: l,
+        ..r
+    }
 }
 
 const NAMES: usize = limits::VARIABLE_NAMES as usize;
 
-// The first variable from v on that is in the mask; 8 or more if none is.
+// The first variable from v on that is in the mask; 8 or more if none is. No Option: `bound_from` takes every number from 8 on as none.
 pub fn free_from(mask: u32, v: usize) -> usize
     ensures { result ≡ free_from (8 - v) mask v }
 {
-    let mut at = v;
-    while at < NAMES {
+    for at in v..NAMES {
         if bit_of(mask, at as u32) == 1 {
             return at;
         }
-        at += 1;
     }
-    at
+    v.max(NAMES)
 }
 
 // The B line for variable v is due, or the goal where there is none.

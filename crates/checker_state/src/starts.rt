@@ -15,12 +15,9 @@ const LAST: usize = limits::MAX_NUMBER as usize;
 pub fn sheet_members(clauses: u32, t: &[u32]) -> usize
     ensures { result ≡ sheet_members clauses t.now 0 }
 {
-    let mut i: u32 = 0;
     let mut total: usize = 0;
-    while i < clauses {
-        let node = clause_node(t, i);
-        total += widen(members(t, node));
-        i += 1;
+    for i in 0..clauses {
+        total += widen(members(t, clause_node(t, i)));
     }
     total
 }
@@ -29,10 +26,7 @@ pub fn sheet_members(clauses: u32, t: &[u32]) -> usize
 pub fn saturate(n: usize) -> u32
     ensures { result ≡ saturate n }
 {
-    if n < LAST {
-        return n as u32;
-    }
-    limits::MAX_NUMBER
+    n.min(LAST) as u32
 }
 
 // The start of a hypothesis that is made after the hypothesis h.

@@ -1,8 +1,7 @@
 // Trying a member. Each function is a definition of the crate machine, and its contract says so.
 ghost use Rattle.std.specs.Prelude.{◌≡◌};
 ghost use Rattle.machine.specs.Records.{made};
-ghost use Rattle.machine.specs.Words.{increment};
-ghost use Rattle.machine.specs.Backchaining.{tried, try_member, try_next};
+ghost use Rattle.machine.specs.Backchaining.{try_member, try_next};
 ghost use Rattle.machine_memory.specs.Settling.{settled};
 
 use super::effects::{put_try, tried};
@@ -16,6 +15,7 @@ use match_acts::pairs::{due_pairs, pairs_from};
 use node_table::label;
 
 // The predicates agree: the argument pairs are due; next are the registers at the next member.
+#[tactic(auto, unfolding(machine::specs::Backchaining::try_member))]
 pub fn try_member(
     t: &[u32],
     c: u32,
@@ -36,6 +36,7 @@ pub fn try_member(
 
 // One act: the member that is due. First the predicates are compared; if they differ the try fails, and the next member is due. The
 // prefix is looked for only where they agree.
+#[tactic(auto, unfolding(machine::specs::Backchaining::try_next, machine::specs::Backchaining::try_found))]
 pub fn try_next(t: &[u32], c: u32, w: &mut [u32], r: Registers) -> Registers
     ensures { settled w.new result ≡ try_next t.now c w.old r }
 {

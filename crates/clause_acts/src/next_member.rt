@@ -1,7 +1,7 @@
 // The member that is due for an atom, the one after it, and its prefix. Each function is a definition of the crate machine, and its
 // contract says so.
-ghost use Rattle.std.specs.Prelude.{◌≡◌};
-ghost use Rattle.machine.specs.Words.{increment};
+ghost use Rattle.std.specs.Prelude.{◌≡◌, ◌-◌, cond, eqb, None, Some};
+ghost use Rattle.memory.specs.Records.{field};
 ghost use Rattle.machine.specs.Backchaining.{clause_of, clause_frame, after_assumption, next_clause, next_member, put_prefix};
 
 use clause_members::Found;
@@ -15,29 +15,37 @@ use memory::field;
 use node_table::{clause_node, layout, members, order_number};
 use sheet_format::limits;
 
+// Field f of the assumption whose member is due; none where the member is one of the sheet's.
+fn hypothesis_field(w: &[u32], r: Registers, f: u32) -> Option<u32>
+    ensures { result ≡ cond (eqb r.hypothesis 0) None (Some (field w.now (r.hypothesis - 1) f)) }
+{
+    if r.hypothesis == 0 {
+        return None;
+    }
+    Some(field(w, r.hypothesis - 1, f))
+}
+
 // The clause whose member is due: its node and its frame.
+#[tactic(auto, unfolding(machine::specs::Backchaining::clause_of))]
 pub fn clause_of(t: &[u32], w: &[u32], r: Registers) -> u32
     ensures { result ≡ clause_of t.now w.now r }
 {
-    let h = r.hypothesis;
-    if h == 0 {
-        return clause_node(t, r.clause);
+    match hypothesis_field(w, r, fields::ASSUMPTION_NODE) {
+        Some(node) => node,
+        None => clause_node(t, r.clause),
     }
-    field(w, h - 1, fields::ASSUMPTION_NODE)
 }
 
+#[tactic(auto, unfolding(machine::specs::Backchaining::clause_frame))]
 pub fn clause_frame(w: &[u32], r: Registers) -> u32
     ensures { result ≡ clause_frame w.now r }
 {
-    let h = r.hypothesis;
-    if h == 0 {
-        return 0;
-    }
-    field(w, h - 1, fields::ASSUMPTION_FRAME)
+    hypothesis_field(w, r, fields::ASSUMPTION_FRAME).unwrap_or(0)
 }
 
 // After an assumption: by default the one made after it, with `O latest` the one made before it or else the sheet's first clause
 // (request W-207); p is the place of the member.
+#[tactic(auto, unfolding(machine::specs::Backchaining::after_assumption))]
 pub fn after_assumption(t: &[u32], c: u32, w: &[u32], r: Registers, p: u32) -> Registers
     ensures { result ≡ after_assumption t.now c w.now r p }
 {
@@ -48,6 +56,7 @@ pub fn after_assumption(t: &[u32], c: u32, w: &[u32], r: Registers, p: u32) -> R
 }
 
 // At the first member of the clause after it.
+#[tactic(auto, unfolding(machine::specs::Backchaining::next_clause))]
 pub fn next_clause(t: &[u32], c: u32, w: &[u32], r: Registers) -> Registers
     ensures { result ≡ next_clause t.now c w.now r }
 {
@@ -59,6 +68,7 @@ pub fn next_clause(t: &[u32], c: u32, w: &[u32], r: Registers) -> Registers
 }
 
 // At the member after it.
+#[tactic(auto, unfolding(machine::specs::Backchaining::next_member))]
 pub fn next_member(t: &[u32], c: u32, w: &[u32], r: Registers) -> Registers
     ensures { result ≡ next_member t.now c w.now r }
 {
@@ -70,6 +80,7 @@ pub fn next_member(t: &[u32], c: u32, w: &[u32], r: Registers) -> Registers
 }
 
 // The frame of the try: the clause's, with fresh variables of the goal's level for the prefix of the member.
+#[tactic(auto, unfolding(machine::specs::Backchaining::put_prefix))]
 pub fn put_prefix(w: &mut [u32], r: Registers, m: Found)
     ensures { w.new ≡ put_prefix w.old r m }
 {

@@ -1,5 +1,5 @@
 -- The k-th member of the clause at a node, found by walking down the table. A leaf is the node of an atom or of an implication.
-use Rattle.std.specs.Prelude.{ℕ, zero, suc, ◌-◌, ◌/◌, ◌%◌, true, false, cond, List, eqb, ltb}
+use Rattle.std.specs.Prelude.{ℕ, zero, suc, ◌-◌, ◌/◌, ◌%◌, ◌≡◌, Bool, true, false, cond, List, eqb, ltb}
 use Rattle.sheet_format.specs.Limits.{max_nodes, variable_names}
 use Rattle.node_table.specs.Layout.{and_kind, implies_kind, kind_of, child_of, mask_of, bit_of, members_of}
 use Rattle.node_table.specs.Chains.{below_of, chain_names, chain_count, name_before, one_more}
@@ -58,6 +58,10 @@ find_member (suc f) t k m =
       | false ↦
           elim (eqb (kind_of t (pass_chain t m).leaf) and_kind) [ true ↦ find_member f t k (pass_chain t m) | false ↦ pass_chain t m ]
     ]
+
+-- What a walk finds that may leave the names aside: the same leaf and, with the names, the same in all.
+abbrev pub FoundAs : Bool → Found → Found → Type 0
+FoundAs names r m = (r.leaf ≡ m.leaf) × (names ≡ true → r ≡ m)
 
 -- At any node of a table.
 unfoldable pub member : List ℕ → ℕ → ℕ → Found

@@ -1,12 +1,12 @@
 -- A run that passes refusals 1 to 5 and 13: what the reader, the machine and the writer do together is what document 01 says of the sheet.
-use Prim.Native.Nat.{ℕ, zero, suc, min, ◌+◌, ◌-◌, ◌*◌, ◌≤◌, ◌<◌}
+use Prim.Native.Nat.{ℕ, zero, suc, min, ◌+◌, ◌-◌, ◌≤◌, ◌<◌}
 use native.Mathlib.Omega.{arith}
 use mathlib.Core.Path.{◌≡◌, refl, sym, ◌∙◌, ap, ap₂, subst}
 use mathlib.Core.Bool.{Bool, true, false, ◌||◌, cond}
 use mathlib.Core.List.{List, [], ◌∷◌, ◌++◌}
 use lib.Dec.{eqb, leb, ltb}
 use lib.ListN.{length, drop, length-append, length-replicate}
-use borrow.Author.Tests.{leb-true, leb-false, ltb-true, ltb-false, eqb-true, eqb-false, lt-ltb, le-ltb, eq-eqb, ne_eqb, lt-leb}
+use borrow.Author.Tests.{leb-true, leb-false, ltb-true, ltb-false, eqb-true, lt-ltb, le-ltb, eq-eqb, ne_eqb, lt-leb}
 use Rattle.outcomes.specs.declared.Refusal.{Refusal}
 use Rattle.outcomes.specs.declared.Request.{Request}
 use Rattle.outcomes.specs.declared.Outcome.{Outcome}
@@ -14,20 +14,19 @@ use Rattle.outcomes.specs.declared.Outcome.TheVariants.{Proved, No, Spent}
 use Rattle.outcomes.specs.declared.Run.{Run}
 use Rattle.outcomes.specs.Outcomes.{outcome_code, refusal_number, refusal_line, refused_run}
 use Rattle.search.specs.Search.{proved, no_proof, ends, spent, start, SearchOutcome, search}
-use Rattle.enumeration.specs.Enumeration.{Proof, End, enough, exhausted, units_spent, Enumeration, next_proof, enumerate, enumerate_from}
+use Rattle.enumeration.specs.Enumeration.{End, enough, exhausted, units_spent, Enumeration, next_proof, enumerate, enumerate_from}
 use Rattle.enumeration.specs.Smaller.{one_proof}
 use Rattle.enumeration.proofs.Promises.{one_proof as one_proof_lem}
-use Rattle.sheet_format.specs.Limits.{max_budget, max_text_bytes, numbers_per_unit}
+use Rattle.sheet_format.specs.Limits.{max_budget, max_text_bytes}
 use Rattle.sheet_format.specs.Buffers.{demanded}
 use Rattle.sheet_format.specs.Bytes.{ascii, lf, decimal}
 use Rattle.sheet_format.specs.Sheets.{Sheet, rules_of}
 use Rattle.node_table.specs.Decoding.{decode_sheet}
 use Rattle.node_table.specs.WellMade.{WellMade, Named}
 use Rattle.table_builder.specs.declared.node_info.Counts.{Counts}
-use Rattle.sheet_reader.specs.declared.sheet_lines.Read.{Read}
-use Rattle.sheet_reader.specs.declared.sheet_lines.Read.TheVariants.{Done, Refused}
-use Rattle.sheet_reader.specs.Reader.{read_of, WellRead, NamedRead, ReadContract}
-use Rattle.machine.specs.Records.{Made, proved_mode, no_mode}
+use Rattle.std.specs.Prelude.{Ok, Err}
+use Rattle.sheet_reader.specs.Reader.{Read, read_of, WellRead, NamedRead, ReadContract}
+use Rattle.machine.specs.Records.{Made, proved_mode}
 use Rattle.machine.specs.Machine.{start_memory, start_registers, run_machine}
 use Rattle.machine.specs.Simulation.{Reports}
 use Rattle.machine.proofs.Tables.{Table}
@@ -38,7 +37,8 @@ use Rattle.answer_texts.specs.Spelling.{no_text, spent_text, text_line, join}
 use Rattle.answer_texts.specs.Promises.{search_text}
 use Rattle.answer_texts.specs.Enumerations.{found_text, found_texts, last_line, enumeration_text}
 use Rattle.printing.specs.Output.{Written, written}
-use Rattle.printing.specs.Writer.{text_limit, no_room, own_bytes, append_result, copied, write_proof}
+use Rattle.std.specs.Prelude.{Option, Some, None}
+use Rattle.printing.specs.Writer.{Fitted, fitted, text_limit, own_bytes, append_result, copied, write_proof}
 use Rattle.printing.specs.Written.{Appended, reported_length}
 use Rattle.printing.proofs.Passes.{limit_low, copied_fits, copied_past, result_past, appends_result, writes_no, writes_spent}
 use Rattle.printing.proofs.Ordered.{writes_answer}
@@ -47,9 +47,9 @@ use Rattle.engine_spec.specs.EngineRun.{last_proof_units, answer_to, fit, run_sh
 use Rattle.engine_spec.specs.Promises.{outcome_number, handed_back}
 use Rattle.engine_spec.specs.Handed.{asked, handed}
 use Rattle.engine.specs.declared.listing.Query.{Query}
-use Rattle.engine.specs.declared.listing.Progress.{Progress}
-use Rattle.engine.specs.Answering.{reported, Reply, reply, report_outcome, Answering}
-use Rattle.engine.specs.Listing.{Listed, write_proofs, write_last, tell, report_proofs}
+use Rattle.engine.proofs.Modes.{due_not_proved, due_not_no}
+use Rattle.engine.specs.Answering.{is_proved, is_no, reported, Reply, reply, report_outcome, Answering}
+use Rattle.engine.specs.Listing.{Listed, write_last, tell, report_proofs}
 use Rattle.engine.specs.Searching.{report_search}
 use Rattle.engine.proofs.ListedProofs.{EndsAs, ListedAs, write_listed}
 
@@ -68,7 +68,7 @@ over n a b h = go (ltb a n) refl
 
 -- A text that does not fit: refusal 12, whatever was to be told.
 long_comes : (o : Outcome) (units proofs : ℕ) (x : Answer) (out : List ℕ) → text_limit out < length x.text
-    → Comes out (reply (reported_length x.text out).buffer (reported o units proofs (reported_length x.text out).at)) (fit (length out) x)
+    → Comes out (reply (reported_length x.text out).buffer (reported o units proofs (reported_length x.text out).length)) (fit (length out) x)
 unfolding reported_length reported fit handed handed_back answer_after text_limit outcome_code refusal_number refusal_line
 long_comes o units proofs x out h =
     let k = over (length x.text) max_text_bytes (length out) h in
@@ -77,7 +77,7 @@ long_comes o units proofs x out h =
 
 told_comes : (o : Outcome) (c : Reported) (units proofs : ℕ) (text out : List ℕ) → outcome_code o ≡ outcome_number c → refusal_number o ≡ 0
     → refusal_line o ≡ 0
-    → Comes out (reply (reported_length text out).buffer (reported o units proofs (reported_length text out).at))
+    → Comes out (reply (reported_length text out).buffer (reported o units proofs (reported_length text out).length))
     (fit (length out) (record { outcome = c; units = units; proofs = proofs; text = text }))
 unfolding reported_length reported fit handed handed_back answer_after text_limit outcome_code refusal_number refusal_line
 told_comes o c units proofs text out oc on ol = go (leb (length text) (min max_text_bytes (length out))) refl
@@ -85,11 +85,11 @@ told_comes o c units proofs text out oc on ol = go (leb (length text) (min max_t
     x : Answer
     x = record { outcome = c; units = units; proofs = proofs; text = text }
 
-    short : Bool → Written
-    short b = cond b (written (text ++ drop (length text) out) (length text)) (written out no_room)
+    short : Bool → Fitted
+    short b = cond b (fitted (text ++ drop (length text) out) (Some (length text))) (fitted out None)
 
     go : (b : Bool) → leb (length text) (min max_text_bytes (length out)) ≡ b
-        → Comes out (reply (short b).buffer (reported o units proofs (short b).at)) (fit (length out) x)
+        → Comes out (reply (short b).buffer (reported o units proofs (short b).length)) (fit (length out) x)
     go true q =
         let l = leb-true (length text) (min max_text_bytes (length out)) q in
         let h : length text ≤ max_text_bytes = omega arith in
@@ -137,19 +137,19 @@ module _ (bytes t : List ℕ) (k : Counts) (goal : ℕ) (table : WellMade t k.no
 
   -- Where the machine has proved the goal, its acts are the units told.
   proved_told : (n : ℕ) (text : List ℕ) → m.registers.mode ≡ proved_mode → m.registers.acts ≡ n
-      → written (write_proof bytes t goal m n out).buffer (write_proof bytes t goal m n out).length ≡ reported_length text out
+      → fitted (write_proof bytes t goal m n out).buffer (write_proof bytes t goal m n out).length ≡ reported_length text out
       → Comes out (report_outcome bytes t goal budget m out)
       (fit (length out) (record { outcome = reported_proved; units = n; proofs = 1; text = text }))
   unfolding report_outcome outcome_number outcome_code refusal_number refusal_line
   proved_told n text mode acts e =
       let a = m.registers.acts in
-      let e' : written (write_proof bytes t goal m a out).buffer (write_proof bytes t goal m a out).length ≡ reported_length text out =
-      subst (λ (i : ℕ). written (write_proof bytes t goal m i out).buffer
+      let e' : fitted (write_proof bytes t goal m a out).buffer (write_proof bytes t goal m a out).length ≡ reported_length text out =
+      subst (λ (i : ℕ). fitted (write_proof bytes t goal m i out).buffer
       (write_proof bytes t goal m i out).length ≡ reported_length text out) (sym acts) e in
       subst (λ (i : ℕ). Comes out (report_outcome bytes t goal budget m out)
       (fit (length out) (record { outcome = reported_proved; units = i; proofs = 1; text = text }))) acts
-      (rw (eq-eqb m.registers.mode proved_mode mode)
-      (subst (λ (x : Written). Comes out (reply x.buffer (reported Proved a 1 x.at))
+      (rw (ap is_proved mode)
+      (subst (λ (x : Fitted). Comes out (reply x.buffer (reported Proved a 1 x.length))
       (fit (length out) (record { outcome = reported_proved; units = a; proofs = 1; text = text }))) (sym e')
       (told_comes Proved reported_proved a 1 text out refl refl refl)))
 
@@ -164,8 +164,8 @@ module _ (bytes t : List ℕ) (k : Counts) (goal : ℕ) (table : WellMade t k.no
       rw (h.0, h.1, writes_no n out) (told_comes No reported_no n 0 (no_text n) out refl refl refl)
   outcome_told spent q h =
       rw (
-        ne_eqb m.registers.mode proved_mode (λ e. omega arith),
-        ne_eqb m.registers.mode no_mode (λ e. omega arith),
+        due_not_proved m.registers.mode h,
+        due_not_no m.registers.mode h,
         writes_spent budget out,
       ) (told_comes Spent reported_spent budget 0 (spent_text budget) out refl refl refl)
 
@@ -194,7 +194,7 @@ module _ (bytes t : List ℕ) (k : Counts) (goal : ℕ) (table : WellMade t k.no
     -- The position after the line is past the limit if it was before.
     last_past : limit < l.progress.at → limit < (write_last budget l.progress l.buffer limit).at
     unfolding write_last
-    last_past h = go (eqb l.progress.left 0) (eqb l.progress.registers.mode no_mode)
+    last_past h = go (eqb l.progress.left 0) (is_no l.progress.registers.mode)
       where
         at : ℕ
         at = l.progress.at
@@ -208,17 +208,17 @@ module _ (bytes t : List ℕ) (k : Counts) (goal : ℕ) (table : WellMade t k.no
 
     -- What is told where nothing was copied.
     tell_long : (text : List ℕ) → limit < length text → (x : Answer) → x.text ≡ text
-        → Comes out (reply (reported_length text out).buffer (tell (query wanted) l.progress (reported_length text out).at)) (fit (length out) x)
+        → Comes out (reply (reported_length text out).buffer (tell (query wanted) l.progress (reported_length text out).length)) (fit (length out) x)
     unfolding tell
     tell_long text h x q =
-        subst (λ (v : List ℕ). Comes out (reply (reported_length v out).buffer (tell (query wanted) l.progress (reported_length v out).at))
-        (fit (length out) x)) q (go (eqb l.progress.left 0) (eqb l.progress.registers.mode no_mode))
+        subst (λ (v : List ℕ). Comes out (reply (reported_length v out).buffer (tell (query wanted) l.progress (reported_length v out).length))
+        (fit (length out) x)) q (go (eqb l.progress.left 0) (is_no l.progress.registers.mode))
       where
         long : text_limit out < length x.text
         long = subst (λ (v : List ℕ). text_limit out < length v) (sym q) h
 
-        n : ℕ
-        n = (reported_length x.text out).at
+        n : Option ℕ
+        n = (reported_length x.text out).length
 
         go : (b c : Bool)
             → Comes out (reply (reported_length x.text out).buffer (cond b (reported Proved l.progress.registers.acts
@@ -267,7 +267,7 @@ module _ (bytes t : List ℕ) (k : Counts) (goal : ℕ) (table : WellMade t k.no
         → l.progress.at ≡ length texts → l.progress.left + length e.found ≡ wanted → (x : End) → EndsAs x e.found l.progress
         → let c = write_last budget l.progress l.buffer limit in
         let d = copied limit c.buffer c.at out in
-        Comes out (reply d.buffer (tell (query wanted) l.progress d.at))
+        Comes out (reply d.buffer (tell (query wanted) l.progress d.length))
         (fit (length out) (answer_to s budget (record { found = e.found; end = x })))
     unfolding EndsAs write_last tell answer_to enumeration_text last_line last_outcome last_units outcome_code outcome_number refusal_number refusal_line
         no_text spent_text text_line join ascii
@@ -283,7 +283,7 @@ module _ (bytes t : List ℕ) (k : Counts) (goal : ℕ) (table : WellMade t k.no
         let y = z.0 in
         let d = last_copied (no_text u) rest (ascii "R\tno\t") u refl h r own at
         (append_result (ascii "R\tno\t") u l.buffer limit l.progress.at) refl in
-        rw (ne_eqb l.progress.left 0 (λ i. omega arith), eq-eqb l.progress.registers.mode no_mode z.1, z.2, d, f)
+        rw (ne_eqb l.progress.left 0 (λ i. omega arith), ap is_no z.1, z.2, d, f)
         (told_comes No reported_no u (length e.found) (texts ++ no_text u) out refl refl refl)
     told_ended rest h r own at n units_spent z =
         let f : wanted - l.progress.left ≡ length e.found = omega arith in
@@ -291,14 +291,14 @@ module _ (bytes t : List ℕ) (k : Counts) (goal : ℕ) (table : WellMade t k.no
         let g = z.1 in
         let d = last_copied (spent_text budget) rest (ascii "R\tspent\t") budget refl h r own at
         (append_result (ascii "R\tspent\t") budget l.buffer limit l.progress.at) refl in
-        rw (ne_eqb l.progress.left 0 (λ i. omega arith), ne_eqb l.progress.registers.mode no_mode (λ i. omega arith), d, f)
+        rw (ne_eqb l.progress.left 0 (λ i. omega arith), due_not_no l.progress.registers.mode z.1, d, f)
         (told_comes Spent reported_spent budget (length e.found) (texts ++ spent_text budget) out refl refl refl)
 
     -- Whether or not they fit.
     told_listed : ListedAs bytes t k.symbols k.nodes (query wanted) table named few (text_limit out) (limit_low out) wanted max_text_bytes e [] l
         → let c = write_last budget l.progress l.buffer limit in
         let d = copied limit c.buffer c.at out in
-        Comes out (reply d.buffer (tell (query wanted) l.progress d.at)) (fit (length out) (answer_to s budget e))
+        Comes out (reply d.buffer (tell (query wanted) l.progress d.length)) (fit (length out) (answer_to s budget e))
     unfolding s answer_to enumeration_text
     told_listed h = go (ltb limit (length texts)) refl
       where
@@ -310,7 +310,7 @@ module _ (bytes t : List ℕ) (k : Counts) (goal : ℕ) (table : WellMade t k.no
 
         go : (b : Bool) → ltb (text_limit out) (length (found_texts s e.found)) ≡ b
             → Comes out (reply (copied limit c.buffer c.at out).buffer (tell (query wanted) l.progress
-            (copied limit c.buffer c.at out).at)) (fit (length out) (answer_to s budget e))
+            (copied limit c.buffer c.at out).length)) (fit (length out) (answer_to s budget e))
         go true i =
             let long = ltb-true limit (length texts) i in
             let n = length-append texts line in
@@ -341,7 +341,7 @@ module _ (bytes t : List ℕ) (k : Counts) (goal : ℕ) (table : WellMade t k.no
 
 -- A sheet that was read: what is told of the search.
 pub sheet_answers : (bytes t t' : List ℕ) (x : Read) (k : Counts) (goal : ℕ) (ask : Request) (w out out' : List ℕ) (r : Run)
-    → ReadContract bytes t t' x → x ≡ Done k goal → ask.budget ≤ max_budget → 1 ≤ ask.proofs → demanded ask.budget ≤ length w
+    → ReadContract bytes t t' x → x ≡ Ok (k, goal) → ask.budget ≤ max_budget → 1 ≤ ask.proofs → demanded ask.budget ≤ length w
     → reply out' r ≡ report_search bytes t' (record { clauses = k.clauses; goal = goal; budget = ask.budget; proofs = ask.proofs })
     (run_machine ask.budget t' k.clauses goal w) out → Answering bytes ask out out' r
 unfolding read_of WellRead NamedRead run_sheet s m asked enumeration_of report_search
@@ -375,7 +375,7 @@ sheet_answers bytes t t' x k goal ask w out out' r c e few one room d =
 
 -- Refusals 6 to 11.
 pub refusal_answers : (bytes t t' : List ℕ) (x : Read) (f : Refusal) (ask : Request) (out : List ℕ) (r : Run) → ReadContract bytes t t' x
-    → x ≡ Refused f → r ≡ refused_run f.number f.line → Answering bytes ask out out r
+    → x ≡ Err f → r ≡ refused_run f.number f.line → Answering bytes ask out out r
 unfolding read_of run_sheet handed handed_back answer_after outcome_code refusal_number refusal_line
 refusal_answers bytes t t' x f ask out r c e d =
     let z = subst (ReadContract bytes t t') e c in

@@ -1,8 +1,8 @@
 -- Refusals 1, 2, 3, 13 and 5: where one arises the run is turned back and no buffer changes; where none does, the sheet is answered and
 -- the demanded parts of table and work buffer end as zeros.
-use Prim.Native.Nat.{ℕ, ◌*◌, ◌≤◌}
+use Prim.Native.Nat.{ℕ, ◌*◌}
 use native.Mathlib.Omega.{arith}
-use mathlib.Core.Path.{◌≡◌, refl, sym, ◌∙◌, ap}
+use mathlib.Core.Path.{◌≡◌, refl, ◌∙◌, ap}
 use mathlib.Core.Bool.{Bool, true, false, ◌||◌, cond}
 use mathlib.Core.List.{List, ◌++◌}
 use lib.Dec.{eqb, leb, ltb}
@@ -11,6 +11,11 @@ use lib.Seq.{length-take-le}
 use borrow.Author.Tests.{ltb-false, eqb-false, le-ltb, ne_eqb, lt-leb}
 use Rattle.outcomes.specs.declared.Request.{Request}
 use Rattle.outcomes.specs.declared.Run.{Run}
+use Rattle.std.specs.Prelude.{Option, Some, None}
+use Rattle.outcomes.specs.declared.Refusal.{Refusal}
+use Rattle.outcomes.specs.declared.refusals.Reason.{Reason}
+use Rattle.outcomes.specs.declared.refusals.Reason.TheVariants.{SheetTooLong, TableTooShort, Budget, WorkTooShort, Proofs}
+use Rattle.outcomes.specs.Refusals.{number_of, refused_for}
 use Rattle.outcomes.specs.Outcomes.{outcome_code, refusal_number, refusal_line, refused_run}
 use Rattle.sheet_format.specs.Limits.{max_sheet_bytes, table_numbers, max_budget, max_proofs, max_text_bytes, numbers_per_unit}
 use Rattle.sheet_format.specs.Buffers.{demanded, zeroed}
@@ -24,42 +29,44 @@ use Rattle.engine.specs.Answering.{ask_refusal, run_refusal, Answering}
 use Rattle.engine_spec.proofs.Answered.{Passed}
 use Rattle.sheet_reader.proofs.sheet_lines.Refusals.{refused_late, refused_few}
 
--- The number of refusals 3 and 13, by their tests.
-abbrev ask_number : Bool → Bool → Bool → Bool → ℕ
-ask_number c d p q = cond c 3 (cond d 3 (cond p 13 (cond q 13 0)))
+-- Refusals 3 and 13, by their tests.
+abbrev first_of_asked : Bool → Bool → Bool → Bool → Option Reason
+first_of_asked c d p q = cond c (Some Budget) (cond d (Some Budget) (cond p (Some Proofs) (cond q (Some Proofs) None)))
 
--- The number of the first refusal by sizes, by all tests.
-abbrev first_number : Bool → Bool → Bool → Bool → Bool → Bool → Bool → ℕ
-first_number a b c d p q e = cond a 1 (cond b 2 (cond (eqb (ask_number c d p q) 0) (cond e 5 0) (ask_number c d p q)))
+-- The first refusal by sizes, by all tests.
+abbrev first : Bool → Bool → Bool → Bool → Bool → Bool → Bool → Option Reason
+first a b c d p q e =
+    cond a (Some SheetTooLong)
+    (cond b (Some TableTooShort) (elim (first_of_asked c d p q) [ Some reason ↦ Some reason | None ↦ cond e (Some WorkTooShort) None ]))
 
--- Where a test of refusals 1, 2, 3, 13 and 5 holds, the run is refused with its number, which is one of those that change no buffer.
-shut : (a b c d p q e : Bool) (r : Result) (n : ℕ) → n ≡ first_number a b c d p q e → (n ≡ 0 → ⊥)
+-- Where a test of refusals 1, 2, 3, 13 and 5 holds, the run is refused for its reason, which is one of those that change no buffer.
+shut : (a b c d p q e : Bool) (r : Result) (reason : Reason) → Some reason ≡ first a b c d p q e
     → (turn_back_if turned_back a 1 (turn_back_if turned_back b 2 (turn_back_if turned_back (c || d) 3 (turn_back_if turned_back (p || q) 13
-    (turn_back_if turned_back e 5 r)))) ≡ turned_back (refusal n 0)) × (leb n 5 || eqb n 13 ≡ true)
+    (turn_back_if turned_back e 5 r)))) ≡ turned_back (refusal (number_of reason) 0)) × (leb (number_of reason) 5 || eqb (number_of reason) 13 ≡ true)
 unfolding turn_back_if
-shut true b c d p q e r n z h = (ap (λ (k : ℕ). turned_back (refusal k 0)) (sym z), ap (λ (k : ℕ). leb k 5 || eqb k 13) z)
-shut false true c d p q e r n z h = (ap (λ (k : ℕ). turned_back (refusal k 0)) (sym z), ap (λ (k : ℕ). leb k 5 || eqb k 13) z)
-shut false false true d p q e r n z h = (ap (λ (k : ℕ). turned_back (refusal k 0)) (sym z), ap (λ (k : ℕ). leb k 5 || eqb k 13) z)
-shut false false false true p q e r n z h = (ap (λ (k : ℕ). turned_back (refusal k 0)) (sym z), ap (λ (k : ℕ). leb k 5 || eqb k 13) z)
-shut false false false false true q e r n z h = (ap (λ (k : ℕ). turned_back (refusal k 0)) (sym z), ap (λ (k : ℕ). leb k 5 || eqb k 13) z)
-shut false false false false false true e r n z h = (ap (λ (k : ℕ). turned_back (refusal k 0)) (sym z), ap (λ (k : ℕ). leb k 5 || eqb k 13) z)
-shut false false false false false false true r n z h = (ap (λ (k : ℕ). turned_back (refusal k 0)) (sym z), ap (λ (k : ℕ). leb k 5 || eqb k 13) z)
-shut false false false false false false false r n z h = absurd (h z)
+shut true b c d p q e r reason z = let i : reason ≡ SheetTooLong = cc in rw i (refl, refl)
+shut false true c d p q e r reason z = let i : reason ≡ TableTooShort = cc in rw i (refl, refl)
+shut false false true d p q e r reason z = let i : reason ≡ Budget = cc in rw i (refl, refl)
+shut false false false true p q e r reason z = let i : reason ≡ Budget = cc in rw i (refl, refl)
+shut false false false false true q e r reason z = let i : reason ≡ Proofs = cc in rw i (refl, refl)
+shut false false false false false true e r reason z = let i : reason ≡ Proofs = cc in rw i (refl, refl)
+shut false false false false false false true r reason z = let i : reason ≡ WorkTooShort = cc in rw i (refl, refl)
+shut false false false false false false false r reason z = cc
 
--- Where no number arises, the tests of refusals 1, 2, 3, 13 and 5 all fail.
-none_shut : (a b c d p q e : Bool) → first_number a b c d p q e ≡ 0
+-- Where none arises, the tests of refusals 1, 2, 3, 13 and 5 all fail.
+none_shut : (a b c d p q e : Bool) → first a b c d p q e ≡ None
     → (a ≡ false) × (b ≡ false) × (c ≡ false) × (d ≡ false) × (p ≡ false) × (q ≡ false) × (e ≡ false)
-none_shut true b c d p q e z = absurd (omega arith)
-none_shut false true c d p q e z = absurd (omega arith)
-none_shut false false true d p q e z = absurd (omega arith)
-none_shut false false false true p q e z = absurd (omega arith)
-none_shut false false false false true q e z = absurd (omega arith)
-none_shut false false false false false true e z = absurd (omega arith)
-none_shut false false false false false false true z = absurd (omega arith)
+none_shut true b c d p q e z = cc
+none_shut false true c d p q e z = cc
+none_shut false false true d p q e z = cc
+none_shut false false false true p q e z = cc
+none_shut false false false false true q e z = cc
+none_shut false false false false false true e z = cc
+none_shut false false false false false false true z = cc
 none_shut false false false false false false false z = (refl, refl, refl, refl, refl, refl, refl)
 
 -- Where no refusal by sizes arises, the size checks are passed.
-pub early_passed : (bytes : List ℕ) (ask : Request) (t w : ℕ) → run_refusal (length bytes) ask t w ≡ 0 → Passed bytes (asked ask) t w
+pub early_passed : (bytes : List ℕ) (ask : Request) (t w : ℕ) → run_refusal (length bytes) ask t w ≡ None → Passed bytes (asked ask) t w
 unfolding run_refusal ask_refusal asked
 early_passed bytes ask t w z =
     let o = none_shut (ltb max_sheet_bytes (length bytes)) (ltb t table_numbers) (eqb ask.budget 0) (ltb max_budget ask.budget)
@@ -110,31 +117,32 @@ late bytes ask a = reads (read_sheet bytes) refl
         fits (ltb max_text_bytes (length x.text) || ltb a (length x.text)) x
 
 -- Turned back by sizes.
-pub run_refused : (bytes : List ℕ) (ask : Request) (table work answer : List ℕ) (n : ℕ) (r : Run)
-    → n ≡ run_refusal (length bytes) ask (length table) (length work) → (n ≡ 0 → ⊥) → r ≡ refused_run n 0
+pub run_refused : (bytes : List ℕ) (ask : Request) (table work answer : List ℕ) (reason : Reason) (f : Refusal) (r : Run)
+    → Some reason ≡ run_refusal (length bytes) ask (length table) (length work) → f ≡ refused_for reason 0 → r ≡ refused_run f.number f.line
     → RunContract bytes (asked ask) table work answer table work answer (handed r)
 unfolding run_refusal ask_refusal asked engine_run engine_run_by handed handed_back outcome_code refusal_number refusal_line table_after work_after
     answer_after is_early
-run_refused bytes ask table work answer n r q h e =
+run_refused bytes ask table work answer reason f r q i e =
     let g = shut (ltb max_sheet_bytes (length bytes)) (ltb (length table) table_numbers) (eqb ask.budget 0) (ltb max_budget ask.budget)
     (eqb ask.proofs 0) (ltb max_proofs ask.proofs) (ltb (length work) (demanded ask.budget))
-    (run_sheet (asked ask) (length answer) (read_sheet bytes)) n q h in
+    (run_sheet (asked ask) (length answer) (read_sheet bytes)) reason q in
+    let d : r ≡ refused_run (number_of reason) 0 = e ∙ ap (λ (x : Refusal). refused_run x.number x.line) i in
     record {
-      value = rw (e, g.0);
+      value = rw (d, g.0);
       table_end = rw (g.0, g.1);
       work_end = rw (g.0, g.1);
       answer_end = rw g.0;
     }
 
 -- Past them: the parts lent end as zeros.
-pub run_passed : (bytes : List ℕ) (ask : Request) (table work answer answer' t w : List ℕ) (n m : ℕ) (r : Run)
-    → n ≡ run_refusal (length bytes) ask (length table) (length work) → n ≡ 0 → m ≡ ask.budget
+pub run_passed : (bytes : List ℕ) (ask : Request) (table work answer answer' t w : List ℕ) (m : ℕ) (r : Run)
+    → run_refusal (length bytes) ask (length table) (length work) ≡ None → m ≡ ask.budget
     → Answering bytes ask answer answer' r → t ≡ replicate (length (take 8192 table)) 0
     → w ≡ replicate (length (take (numbers_per_unit * m) work)) 0
     → RunContract bytes (asked ask) table work answer (t ++ drop 8192 table) (w ++ drop (numbers_per_unit * m) work) answer' (handed r)
 unfolding table_after work_after zeroed demanded asked
-run_passed bytes ask table work answer answer' t w n m r q z em i et ew =
-    let p = early_passed bytes ask (length table) (length work) (sym q ∙ z) in
+run_passed bytes ask table work answer answer' t w m r q em i et ew =
+    let p = early_passed bytes ask (length table) (length work) q in
     let g = passed_runs bytes ask (length table) (length work) (length answer) p in
     let l = late bytes ask (length answer) in
     record {

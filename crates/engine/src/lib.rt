@@ -15,11 +15,10 @@ ghost use Rattle.engine.specs.Answering.{reply, Answering};
 ghost use Rattle.engine.specs.Searching.{report_search};
 
 use listing::{Query, report_proofs};
-use memory::{widen, zero_front};
-use outcomes::{Request, Run};
+use memory::widen;
+use outcomes::{Refusal, Request, Run};
 use report::report_outcome;
 use sheet_format::limits::{NUMBERS_PER_UNIT, TABLE_NUMBERS};
-use sheet_reader::sheet_lines::Read;
 use size_checks::run_refusal;
 
 // The search for the goal that stands in the table, and its answer: of one proof, or of all that are wanted.
@@ -41,21 +40,17 @@ fn answer_sheet(sheet: &[u8], ask: Request, t: &mut [u32], w: &mut [u32], answer
         × (1 ≤ ask.proofs) × (demanded ask.budget ≤ length w.old) }
     ensures { Answering sheet.now ask answer.old answer.new result }
 {
-    let read = sheet_reader::read_sheet(sheet, t);
-    match read {
-        Read::Done(k, goal) => search(
-            sheet,
-            t,
-            Query {
+    match sheet_reader::read_sheet(sheet, t) {
+        Ok((k, goal)) => {
+            let query = Query {
                 clauses: k.clauses,
                 goal,
                 budget: ask.budget,
                 proofs: ask.proofs,
-            },
-            w,
-            answer,
-        ),
-        Read::Refused(f) => outcomes::refused_run(f.number, f.line),
+            };
+            search(sheet, t, query, w, answer)
+        }
+        Err(refusal) => Run::from(refusal),
     }
 }
 
@@ -67,10 +62,8 @@ fn run_in_parts(sheet: &[u8], ask: Request, t: &mut [u32], w: &mut [u32], answer
         × (t.new ≡ replicate (length t.old) 0) × (w.new ≡ replicate (length w.old) 0) }
 {
     let r = answer_sheet(sheet, ask, t, w, answer);
-    let n = t.len();
-    zero_front(t, n);
-    let m = w.len();
-    zero_front(w, m);
+    t.fill(0);
+    w.fill(0);
     r
 }
 
@@ -85,9 +78,8 @@ pub fn run(
     ensures { RunContract sheet.now (asked ask) table.old work.old answer.old
         table.new work.new answer.new (handed result) }
 {
-    let number = run_refusal(sheet.len(), ask, table.len(), work.len());
-    if number != 0 {
-        return outcomes::refused_run(number, 0);
+    if let Some(reason) = run_refusal(sheet.len(), ask, table.len(), work.len()) {
+        return Run::from(Refusal::new(reason, 0));
     }
     let m = NUMBERS_PER_UNIT * widen(ask.budget);
     run_in_parts(

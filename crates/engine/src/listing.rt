@@ -9,7 +9,8 @@ ghost use Rattle.engine.specs.Listing.{go_on, listed, write_proofs, write_last, 
 use super::report::fitting_run;
 use answer_printer::short_texts::{MAX_BYTES, append_result, text_limit};
 use answer_printer::{Room, append_proof, copy_out};
-use machine::{Registers, modes};
+use machine::Registers;
+use machine::modes::Mode;
 use machine_loop::run_acts;
 use machine_memory::choice_points::failed;
 use outcomes::{Outcome, Run};
@@ -32,27 +33,18 @@ pub struct Progress {
     pub left: u32,
 }
 
-// The units that are left.
-fn units_left(budget: u32, acts: u32) -> u32
-    ensures { result ≡ budget - acts }
-{
-    if acts < budget {
-        return budget - acts;
-    }
-    0
-}
-
 // The search goes on after a proof, as if it had failed, once the numbers that its text gave to variables are cleared.
 fn go_on(t: &[u32], query: Query, w: &mut [u32], r: Registers) -> Registers
     ensures { made w.new result ≡ go_on t.now query (made w.old r) }
 {
-    let left = units_left(query.budget, r.acts);
+    let left = query.budget.saturating_sub(r.acts);
     clear_variables(r.next, w);
     let s = failed(w, r);
     run_acts(left, t, query.clauses, w, s)
 }
 
 // The proofs, until there are as many as are wanted, no other is found or the texts do not fit.
+// A `while`: whether there is a further proof is what the search comes to.
 fn write_proofs(
     sheet: &[u8],
     t: &[u32],
@@ -70,7 +62,7 @@ fn write_proofs(
     let mut registers = from;
     let mut at: u32 = 0;
     let mut left = query.proofs;
-    while registers.mode == modes::PROVED {
+    while let Mode::Proved = registers.mode {
         at = append_proof(sheet, t, query.goal, w, registers, own, Room { limit, at });
         left -= 1;
         if left == 0 {
@@ -104,14 +96,14 @@ fn write_last(budget: u32, p: Progress, own: &mut [u8], limit: u32) -> u32
     if p.left == 0 {
         return at;
     }
-    if p.registers.mode == modes::NO {
-        return append_result(b"R\tno\t", p.registers.acts, own, Room { limit, at });
+    match p.registers.mode {
+        Mode::No => append_result(b"R\tno\t", p.registers.acts, own, Room { limit, at }),
+        _ => append_result(b"R\tspent\t", budget, own, Room { limit, at }),
     }
-    append_result(b"R\tspent\t", budget, own, Room { limit, at })
 }
 
 // Outcome and units of the last R line, and the number of proofs.
-fn tell(query: Query, p: Progress, length: u32) -> Run
+fn tell(query: Query, p: Progress, length: Option<u32>) -> Run
     requires { p.left ≤ query.proofs }
     ensures { result ≡ tell query p length }
 {
@@ -120,10 +112,10 @@ fn tell(query: Query, p: Progress, length: u32) -> Run
     if p.left == 0 {
         return fitting_run(Outcome::Proved, acts, found, length);
     }
-    if p.registers.mode == modes::NO {
-        return fitting_run(Outcome::No, acts, found, length);
+    match p.registers.mode {
+        Mode::No => fitting_run(Outcome::No, acts, found, length),
+        _ => fitting_run(Outcome::Spent, query.budget, found, length),
     }
-    fitting_run(Outcome::Spent, query.budget, found, length)
 }
 
 // The texts of all proofs that are wanted, from the first verdict on, and what is told of them.

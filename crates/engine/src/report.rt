@@ -3,17 +3,19 @@ ghost use Rattle.std.specs.Prelude.{◌≡◌, length};
 ghost use Rattle.machine.specs.Records.{made};
 ghost use Rattle.engine.specs.Answering.{reported, reply, report_outcome};
 
-use machine::{Registers, modes};
-use outcomes::{Outcome, Run, refusals};
-use sheet_format::limits;
+use machine::Registers;
+use machine::modes::Mode;
+use outcomes::refusals::Reason;
+use outcomes::{Outcome, Refusal, Run};
 
 // A text of this length was written, or did not fit.
-pub fn fitting_run(outcome: Outcome, units: u32, proofs: u32, length: u32) -> Run
+#[tactic(auto, unfolding(crate::specs::Answering::reported))]
+pub fn fitting_run(outcome: Outcome, units: u32, proofs: u32, length: Option<u32>) -> Run
     ensures { result ≡ reported outcome units proofs length }
 {
-    if limits::MAX_TEXT_BYTES < length {
-        return outcomes::refused_run(refusals::ANSWER_TOO_LONG, 0);
-    }
+    let Some(length) = length else {
+        return Run::from(Refusal::new(Reason::AnswerTooLong, 0));
+    };
     Run {
         outcome,
         units,
@@ -36,14 +38,18 @@ pub fn report_outcome(
         (made w.old r) answer.old }
 {
     let acts = r.acts;
-    if r.mode == modes::PROVED {
-        let n = answer_printer::write_proof(sheet, t, goal, w, r, acts, answer);
-        return fitting_run(Outcome::Proved, acts, 1, n);
+    match r.mode {
+        Mode::Proved => {
+            let n = answer_printer::write_proof(sheet, t, goal, w, r, acts, answer);
+            fitting_run(Outcome::Proved, acts, 1, n)
+        }
+        Mode::No => {
+            let n = answer_printer::short_texts::write_no(acts, answer);
+            fitting_run(Outcome::No, acts, 0, n)
+        }
+        _ => {
+            let n = answer_printer::short_texts::write_spent(budget, answer);
+            fitting_run(Outcome::Spent, budget, 0, n)
+        }
     }
-    if r.mode == modes::NO {
-        let n = answer_printer::short_texts::write_no(acts, answer);
-        return fitting_run(Outcome::No, acts, 0, n);
-    }
-    let n = answer_printer::short_texts::write_spent(budget, answer);
-    fitting_run(Outcome::Spent, budget, 0, n)
 }

@@ -3,44 +3,44 @@ ghost use Rattle.std.specs.Prelude.{◌≡◌};
 ghost use Rattle.engine.specs.Answering.{ask_refusal, run_refusal};
 
 use memory::widen;
-use outcomes::{Request, refusals};
+use outcomes::Request;
+use outcomes::refusals::Reason;
 use sheet_format::limits;
 
-// Refusals 3 and 13, in this order, or 0.
-fn ask_refusal(budget: u32, proofs: u32) -> u32
+// Refusals 3 and 13: the first that arises.
+fn ask_refusal(budget: u32, proofs: u32) -> Option<Reason>
     ensures { result ≡ ask_refusal budget proofs }
 {
     if budget == 0 {
-        return refusals::BUDGET;
+        return Some(Reason::Budget);
     }
     if limits::MAX_BUDGET < budget {
-        return refusals::BUDGET;
+        return Some(Reason::Budget);
     }
     if proofs == 0 {
-        return refusals::PROOFS;
+        return Some(Reason::Proofs);
     }
     if limits::MAX_PROOFS < proofs {
-        return refusals::PROOFS;
+        return Some(Reason::Proofs);
     }
-    0
+    None
 }
 
-// The first refusal that looks at sizes and at what is asked for alone, or 0.
-pub fn run_refusal(sheet: usize, ask: Request, table: usize, work: usize) -> u32
+// The first refusal that looks at sizes and at what is asked for alone.
+pub fn run_refusal(sheet: usize, ask: Request, table: usize, work: usize) -> Option<Reason>
     ensures { result ≡ run_refusal sheet ask table work }
 {
     if limits::MAX_SHEET_BYTES < sheet {
-        return refusals::SHEET_TOO_LONG;
+        return Some(Reason::SheetTooLong);
     }
     if table < limits::TABLE_NUMBERS {
-        return refusals::TABLE_TOO_SHORT;
+        return Some(Reason::TableTooShort);
     }
-    let number = ask_refusal(ask.budget, ask.proofs);
-    if number != 0 {
-        return number;
+    if let Some(reason) = ask_refusal(ask.budget, ask.proofs) {
+        return Some(reason);
     }
     if work < limits::NUMBERS_PER_UNIT * widen(ask.budget) {
-        return refusals::WORK_TOO_SHORT;
+        return Some(Reason::WorkTooShort);
     }
-    0
+    None
 }

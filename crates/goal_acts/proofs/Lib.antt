@@ -1,2 +1,2 @@
--- Laws of the machine's definitions in the form of the facts on the code's paths.
+-- What the proofs of this crate's functions cite.
 pub mod Laws

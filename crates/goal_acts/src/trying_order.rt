@@ -1,5 +1,5 @@
 // The order in which members are tried (request W-207): the first member of an atom, and what comes after the sheet's clauses.
-// Each function is a definition of the crate machine, and its contract says so.
+// Each function is a definition of the crate machine, and its contract says so. The order is a number, since it lies in the lent table.
 ghost use Rattle.std.specs.Prelude.{◌≡◌};
 ghost use Rattle.machine.specs.Goals.{after_sheet, from_clause, first_member};
 
@@ -9,6 +9,7 @@ use machine_memory::registers::with_member;
 use node_table::{layout, order_number};
 
 // After the sheet's c clauses: by default the oldest assumption, with `O latest` nothing; p is the place of the member.
+#[tactic(auto, unfolding(machine::specs::Goals::after_sheet))]
 pub fn after_sheet(t: &[u32], c: u32, w: &[u32], r: Registers, p: u32) -> Registers
     ensures { result ≡ after_sheet t.now c w.now r p }
 {
@@ -19,6 +20,7 @@ pub fn after_sheet(t: &[u32], c: u32, w: &[u32], r: Registers, p: u32) -> Regist
 }
 
 // The sheet's i-th clause, or what comes after the last.
+#[tactic(auto, unfolding(machine::specs::Goals::from_clause))]
 pub fn from_clause(t: &[u32], c: u32, w: &[u32], r: Registers, i: u32, p: u32) -> Registers
     ensures { result ≡ from_clause t.now c w.now r i p }
 {
@@ -29,6 +31,7 @@ pub fn from_clause(t: &[u32], c: u32, w: &[u32], r: Registers, i: u32, p: u32) -
 }
 
 // The first member: by default that of the sheet's first clause, with `O latest` that of the latest assumption.
+#[tactic(auto, unfolding(machine::specs::Goals::first_member))]
 pub fn first_member(t: &[u32], c: u32, w: &[u32], r: Registers) -> Registers
     ensures { result ≡ first_member t.now c w.now r }
 {

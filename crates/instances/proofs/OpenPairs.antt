@@ -5,12 +5,12 @@ use Prim.Native.Nat.{ℕ, zero, suc, ◌+◌, ◌-◌, ◌*◌, ◌/◌, ◌%◌
 use native.Mathlib.Omega.{arith}
 use native.Mathlib.Numerals.{add-one, sub-one}
 use mathlib.Core.Path.{◌≡◌, refl, sym, ap, ap₂, ◌∙◌, subst}
-use mathlib.Core.Bool.{Bool, true, false, cond, true≢false}
+use mathlib.Core.Bool.{Bool, true, false, cond}
 use mathlib.Core.List.{List}
 use lib.Dec.{eqb}
 use lib.ListN.{length, get_or, set, replicate, length-set}
 use lib.Seq.{get_or-set_same, get_or-set_other}
-use borrow.Author.Tests.{eqb-true, eqb-false, eq-eqb, ne_eqb, lt-ltb, le-ltb}
+use borrow.Author.Tests.{eqb-true, eqb-false}
 use Rattle.node_table.specs.Layout.{kind_of, label_of, child_of}
 use Rattle.scanning.specs.Classes.{name_element, node_element, element_of, is_name_element, element_side, element_node, element_child, root_of}
 use Rattle.scanning.specs.Classes.{separate}
@@ -18,7 +18,8 @@ use Rattle.scanning.specs.Instances.{argument_count, Compared, compared, joined,
 use Rattle.scanning.specs.Instances.{same_elements, same_by_classes}
 use Rattle.scanning.proofs.Classes.{Forest, separate_forest, forest_set, root_of_lem}
 use Rattle.instances.specs.declared.Comparison.{Comparison}
-use Rattle.instances.specs.OpenPairs.{level_of, settled, opening, Looked, looked, decided, compare_roots, compare_elements, Elements}
+use Rattle.instances.specs.declared.Comparison.TheVariants.{Settled, Opens}
+use Rattle.instances.specs.OpenPairs.{level_of, Looked, looked, decided, compare_roots, compare_elements, Elements}
 use Rattle.instances.specs.OpenPairs.{depth_limit, same_applications}
 
 -- Going on after a comparison whose terms are the same.
@@ -141,13 +142,15 @@ module _ (b t x w : List ℕ) (f g : ℕ) where
       let l : 8 * (4096 * i + j) / 8 ≡ 4096 * i + j = omega arith in
       rw (p, q, l) (omega arith, omega arith, omega arith)
 
+  -- What a look with the classes c finds of the comparison a.
+  abbrev pub Found : ℕ → List ℕ → Comparison → Compared → Type 0
+  Found r c (Settled z) a = a ≡ compared c z
+  Found r c (Opens l) a = (l % 8 ≡ 0) × (a ≡ same_pair r l c)
+
   -- What is known after a look.
   pub record Known (r : ℕ) (o : Looked) (a : Compared) : Type 0 where
     pub elements : Elements o.classes
-    pub few : o.comparison.opens < 2
-    pub level : o.comparison.level % 8 ≡ 0
-    pub opened : (o.comparison.opens ≡ 0 → ⊥) → (o.comparison.same ≡ true) × (a ≡ same_pair r o.comparison.level o.classes)
-    pub settled : o.comparison.opens ≡ 0 → a ≡ compared o.classes o.comparison.same
+    pub found : Found r o.classes o.comparison a
 
   -- A comparison of texts.
   joined_elements : (c : List ℕ) (i j : ℕ) → Elements c → j < 4096 → Elements (join_name b t x w f g c i j).classes
@@ -159,53 +162,29 @@ module _ (b t x w : List ℕ) (f g : ℕ) where
       go false = e
 
   decided_known : (r : ℕ) (o : Compared) → Elements o.classes → Known r (decided o) o
-  unfolding decided settled
-  decided_known r o e = record {
-    elements = e;
-    few = omega arith;
-    level = refl;
-    opened = λ h. absurd (h refl);
-    settled = λ h. refl;
-  }
+  unfolding decided
+  decided_known r o e = record { elements = e; found = refl }
 
   roots_known : (r i j : ℕ) (c : List ℕ) → Elements c → i < 4096 → j < 4096
       → Known r (compare_roots b t x w f g i j c) (same_roots (same_elements r b t x w f g) b t x w f g i j c)
-  unfolding compare_roots same_roots same_nodes settled opening
+  unfolding compare_roots same_roots same_nodes
   roots_known r i j c e h k =
       go (eqb i j) (is_name_element i) (is_name_element j) (eqb (label_of t (element_node i)) (label_of t (element_node j)))
     where
       go : (y z u v : Bool)
-          → Known r (cond y (looked c (settled true)) (cond z (decided (join_name b t x w f g c i j))
-          (cond u (decided (join_name b t x w f g c j i)) (looked c (cond v (opening i j) (settled false))))))
+          → Known r (cond y (looked c (Settled true)) (cond z (decided (join_name b t x w f g c i j))
+          (cond u (decided (join_name b t x w f g c j i)) (looked c (cond v (Opens (level_of i j)) (Settled false))))))
           (cond y (compared c true) (cond z (join_name b t x w f g c i j) (cond u (join_name b t x w f g c j i)
           (cond v (joined (same_children (same_elements r b t x w f g) (argument_count t (element_node i)) t i j 0 c) i j)
           (compared c false)))))
-      go true z u v = record {
-        elements = e;
-        few = omega arith;
-        level = refl;
-        opened = λ o. absurd (o refl);
-        settled = λ o. refl;
-      }
+      go true z u v = record { elements = e; found = refl }
       go false true u v = decided_known r (join_name b t x w f g c i j) (joined_elements c i j e k)
       go false false true v = decided_known r (join_name b t x w f g c j i) (joined_elements c j i e h)
       go false false false true =
           let p = level_parts i j h k in
           let z : argument_count t (element_node i) - 0 ≡ argument_count t (element_node i) = omega arith in
-          record {
-            elements = e;
-            few = omega arith;
-            level = p.2;
-            opened = λ o. (refl, rw (p.0, p.1, p.2, z) refl);
-            settled = λ o. absurd (omega arith);
-          }
-      go false false false false = record {
-        elements = e;
-        few = omega arith;
-        level = refl;
-        opened = λ o. absurd (o refl);
-        settled = λ o. refl;
-      }
+          record { elements = e; found = (p.2, rw (p.0, p.1, p.2, z) refl) }
+      go false false false false = record { elements = e; found = refl }
 
   pub compare_known : (r : ℕ) (c : List ℕ) (i j : ℕ) → Elements c → i < 4096 → j < 4096
       → Known r (compare_elements b t x w f g c i j) (same_elements (suc r) b t x w f g c i j)
@@ -219,11 +198,10 @@ module _ (b t x w : List ℕ) (f g : ℕ) where
   -- What is known after a look at two children.
   pub child_known : (i k j h p q : ℕ) (c d : List ℕ) (l : Comparison) → Elements c → p ≡ element_child t i k → q ≡ element_child t j h
       → looked d l ≡ compare_elements b t x w f g c p q
-      → Elements d × (l.opens < 2)
+      → Elements d
   child_known i k j h p q c d l e one two look =
-      let y = subst (λ (o : Looked). Known 0 o (same_elements 1 b t x w f g c p q)) (sym look)
-      (compare_known 0 c p q e (rw one (child_low t i k)) (rw two (child_low t j h))) in
-      (y.elements, y.few)
+      (subst (λ (o : Looked). Known 0 o (same_elements 1 b t x w f g c p q)) (sym look)
+      (compare_known 0 c p q e (rw one (child_low t i k)) (rw two (child_low t j h)))).elements
 
   -- the turns of the loop
 
@@ -277,17 +255,24 @@ module _ (b t x w : List ℕ) (f g : ℕ) where
     pub atoms_elements : Elements d
     atoms_elements = atoms_known.elements
 
-    pub atoms_level : l.level % 8 ≡ 0
-    atoms_level = atoms_known.level
+    -- What was found, where it is the comparison o.
+    atoms_found : (o : Comparison) → l ≡ o → Found (depth_limit - 1) d o
+        (same_elements (suc (depth_limit - 1)) b t x w f g separate (node_element 0 k) (node_element 1 m))
+    atoms_found o h =
+        subst (λ (y : Comparison). Found (depth_limit - 1) d y
+        (same_elements (suc (depth_limit - 1)) b t x w f g separate (node_element 0 k) (node_element 1 m))) h atoms_known.found
 
-    pub atoms_settled : l.opens ≡ 0 → l.same ≡ same_by_classes b t x w f g k m
-    atoms_settled h = sym (ap (λ (o : Compared). o.same) (atoms_known.settled h)) ∙ atoms_are
+    pub atoms_level : (v : ℕ) → l ≡ Opens v → v % 8 ≡ 0
+    atoms_level v h = (atoms_found (Opens v) h).0
 
-    pub atoms_opened : (z : Bool) → (l.opens ≡ 0 → ⊥) → z ≡ same_applications b t x w f g d (l.level / 8 / 4096) (l.level / 8 % 4096)
+    pub atoms_settled : (z : Bool) → l ≡ Settled z → z ≡ same_by_classes b t x w f g k m
+    atoms_settled z h = sym (ap (λ (o : Compared). o.same) (atoms_found (Settled z) h)) ∙ atoms_are
+
+    pub atoms_opened : (v : ℕ) (z : Bool) → l ≡ Opens v → z ≡ same_applications b t x w f g d (v / 8 / 4096) (v / 8 % 4096)
         → z ≡ same_by_classes b t x w f g k m
     unfolding same_applications
-    atoms_opened z h p =
-        p ∙ ap (λ (o : Compared). o.same) (fresh (depth_limit - 1) l.level d atoms_level ∙ sym (atoms_known.opened h).1) ∙ atoms_are
+    atoms_opened v z h p =
+        p ∙ ap (λ (o : Compared). o.same) (fresh (depth_limit - 1) v d (atoms_level v h) ∙ sym (atoms_found (Opens v) h).1) ∙ atoms_are
 
   -- turns
 
@@ -357,50 +342,42 @@ module _ (b t x w : List ℕ) (f g : ℕ) where
             ≡ after (λ e. after (same_open (suc (D - n)) s (n - 1)) (same_pair (D - n) (v + 1) e)) (same_elements (D - n) b t x w f g c p q)
         onward = rw (one, two) below
 
-        pub turn_differs : l.same ≡ false → same_open (D - n) s n c ≡ false
-        turn_differs h = onward ∙ go (eqb l.opens 0) refl
-          where
-            go : (z : Bool) → eqb l.opens 0 ≡ z
-                → after (λ e. after (same_open (suc (D - n)) s (n - 1)) (same_pair (D - n) (v + 1) e))
-                (same_elements (D - n) b t x w f g c p q) ≡ false
-            go true e = rw (known.settled (eqb-true l.opens 0 e), h)
-            go false e = absurd (true≢false (sym (known.opened (eqb-false l.opens 0 e)).0 ∙ h))
+        -- What was found, where it is the comparison o.
+        here : (o : Comparison) → l ≡ o → Found (D - (n + 1)) d o (same_elements (D - n) b t x w f g c p q)
+        here o h = subst (λ (y : Comparison). Found (D - (n + 1)) d y (same_elements (D - n) b t x w f g c p q)) h known.found
 
-        module _ (same : l.same ≡ true) (long : length s ≡ 2050) (s₁ s₂ : List ℕ) (first : s₁ ≡ set s (n - 1) (v + 1))
-            (second : s₂ ≡ set s₁ n l.level) where
-          rest : (e : List ℕ) → after (same_open (suc (D - n)) s (n - 1)) (same_pair (D - n) (v + 1) e) ≡ same_open (D - n) s₁ n e
+        -- The rest of the open pairs, the children of the innermost from the next one on.
+        abbrev K : List ℕ → Bool
+        K e = after (same_open (suc (D - n)) s (n - 1)) (same_pair (D - n) (v + 1) e)
+
+        pub turn_differs : (z : Bool) → l ≡ Settled z → z ≡ false → same_open (D - n) s n c ≡ false
+        turn_differs z h e = onward ∙ ap (after K) (here (Settled z) h) ∙ rw e refl
+
+        module _ (long : length s ≡ 2050) (s₁ : List ℕ) (first : s₁ ≡ set s (n - 1) (v + 1)) where
+          rest : (e : List ℕ) → K e ≡ same_open (D - n) s₁ n e
           rest e =
               let z : suc (n - 1) ≡ n = omega arith in
               sym (ap (λ (y : List ℕ). same_open (D - n) y n e) first
               ∙ ap (λ (y : ℕ). same_open (D - n) (set s (n - 1) (v + 1)) y e) (sym z)
               ∙ open_push (n - 1) (D - n) s (v + 1) e (omega arith))
 
-          leaf : l.opens ≡ 0 → same_open (D - n) s n c ≡ same_open (D - n) s₂ n d
-          leaf h =
-              onward ∙ (rw (known.settled h, same) (rest d))
-              ∙ sym (ap (λ (y : List ℕ). same_open (D - n) y n d) second ∙ open_kept n (D - n) s₁ n l.level d (omega arith))
+          pub turn_same : (z : Bool) → l ≡ Settled z → z ≡ true → same_open (D - n) s n c ≡ same_open (D - n) s₁ n d
+          turn_same z h e = onward ∙ ap (after K) (here (Settled z) h) ∙ (rw e (rest d))
 
-          opened : (l.opens ≡ 0 → ⊥) → same_open (D - n) s n c ≡ same_open (D - (n + 1)) s₂ (suc n) d
-          opened h =
+          pub turn_open : (u : ℕ) (s₂ : List ℕ) → l ≡ Opens u → s₂ ≡ set s₁ n u → same_open (D - n) s n c ≡ same_open (D - (n + 1)) s₂ (n + 1) d
+          turn_open u s₂ h second =
               let r = D - (n + 1) in
               let m : n < length s₁ = (let y = ap length first ∙ length-set s (n - 1) (v + 1) in omega arith) in
               onward
-              ∙ ap (after (λ e. after (same_open (suc (D - n)) s (n - 1)) (same_pair (D - n) (v + 1) e))) (known.opened h).1
-              ∙ after_same (λ e. after (same_open (suc (D - n)) s (n - 1)) (same_pair (D - n) (v + 1) e)) (same_open (suc r) s₁ n)
-              (λ e. rest e ∙ ap (λ (y : ℕ). same_open y s₁ n e) rank) (same_pair r l.level d)
-              ∙ sym (ap (λ (y : List ℕ). same_open r y (suc n) d) second ∙ open_push n r s₁ l.level d m)
+              ∙ ap (after K) (here (Opens u) h).1
+              ∙ after_same K (same_open (suc r) s₁ n) (λ e. rest e ∙ ap (λ (y : ℕ). same_open y s₁ n e) rank) (same_pair r u d)
+              ∙ sym (ap (λ (y : List ℕ). same_open r y (suc n) d) second ∙ open_push n r s₁ u d m)
+              ∙ ap (λ (i : ℕ). same_open r s₂ i d) (sym (add-one n))
 
-          pub turn_child : same_open (D - n) s n c ≡ same_open (D - (n + l.opens)) s₂ (n + l.opens) d
-          turn_child = go (eqb l.opens 0) refl
-            where
-              go : (y : Bool) → eqb l.opens 0 ≡ y → same_open (D - n) s n c ≡ same_open (D - (n + l.opens)) s₂ (n + l.opens) d
-              go true h =
-                  let z : n ≡ n + l.opens = (let y = eqb-true l.opens 0 h in omega arith) in
-                  leaf (eqb-true l.opens 0 h) ∙ ap (λ (i : ℕ). same_open (D - i) s₂ i d) z
-              go false h =
-                  let z : n + 1 ≡ n + l.opens = (let y = eqb-false l.opens 0 h in let o = known.few in omega arith) in
-                  opened (eqb-false l.opens 0 h) ∙ ap (λ (i : ℕ). same_open (D - (n + 1)) s₂ i d) (sym (add-one n))
-                  ∙ ap (λ (i : ℕ). same_open (D - i) s₂ i d) z
+-- Elements and frames that are equal are compared alike.
+pub compare_alike : (b t x w c : List ℕ) (f g i j f' g' i' j' : ℕ) → f ≡ f' → g ≡ g' → i ≡ i' → j ≡ j'
+    → compare_elements b t x w f g c i j ≡ compare_elements b t x w f' g' c i' j'
+compare_alike b t x w c f g i j f' g' i' j' p q y z = rw (p, q, y, z) refl
 
 -- The loop ends: the work that is left falls.
 
@@ -466,8 +443,8 @@ module _ (D n v : ℕ) (s : List ℕ) (limit : D ≡ 2050) (some : 0 < n) (few :
       let x = ap (λ (r : ℕ). turns_left r s (n - 1)) z in
       omega arith
 
-  module _ (k o l : ℕ) (s₁ s₂ : List ℕ) (child : v % 8 < k) (low : k < 8) (room : n ≡ 2050 → ⊥) (long : length s ≡ 2050) (opens : o < 2)
-      (first : s₁ ≡ set s (n - 1) (v + 1)) (second : s₂ ≡ set s₁ n l) where
+  module _ (k : ℕ) (s₁ : List ℕ) (child : v % 8 < k) (low : k < 8) (room : n ≡ 2050 → ⊥) (long : length s ≡ 2050)
+      (first : s₁ ≡ set s (n - 1) (v + 1)) where
     -- After the step to the next child.
     stepped : turns_left (D - n) s₁ n + turns (D - n) ≡ turns_left (D - n) s n
     stepped =
@@ -481,25 +458,20 @@ module _ (D n v : ℕ) (s : List ℕ) (limit : D ≡ 2050) (some : 0 < n) (few :
         let u = ap (λ (i : ℕ). times (8 - i) (turns (D - n))) q in
         omega arith
 
-    pub child_less : turns_left (D - (n + o)) s₂ (n + o) < turns_left (D - n) s n
-    child_less = go (eqb o 0) refl
-      where
-        go : (y : Bool) → eqb o 0 ≡ y → turns_left (D - (n + o)) s₂ (n + o) < turns_left (D - n) s n
-        go true h =
-            let z : n + o ≡ n = (let y = eqb-true o 0 h in omega arith) in
-            let e = ap (λ (i : ℕ). turns_left (D - i) s₂ i) z ∙ ap (λ (i : List ℕ). turns_left (D - n) i n) second
-            ∙ left_kept n (D - n) s₁ n l (omega arith) in
-            let p = stepped in
-            let q = turns_some (D - n) in
-            omega arith
-        go false h =
-            let z : n + o ≡ suc n = (let y = eqb-false o 0 h in omega arith) in
-            let m : n < length s₁ = (let y = ap length first ∙ length-set s (n - 1) (v + 1) in omega arith) in
-            let e = ap (λ (i : ℕ). turns_left (D - i) s₂ i) z ∙ ap (λ (i : List ℕ). turns_left (D - suc n) i (suc n)) second
-            ∙ left_push n (D - suc n) s₁ l m in
-            let r : D - n ≡ suc (D - suc n) = omega arith in
-            let a = ap (λ (i : ℕ). turns_left i s₁ n) r in
-            let b = ap turns r ∙ turns_next (D - suc n) in
-            let c = times_less (8 - l % 8) 8 (turns (D - suc n)) (omega arith) in
-            let p = stepped in
-            omega arith
+    pub same_less : turns_left (D - n) s₁ n < turns_left (D - n) s n
+    same_less =
+        let p = stepped in
+        let q = turns_some (D - n) in
+        omega arith
+
+    pub open_less : (l : ℕ) (s₂ : List ℕ) → s₂ ≡ set s₁ n l → turns_left (D - (n + 1)) s₂ (n + 1) < turns_left (D - n) s n
+    open_less l s₂ second =
+        let m : n < length s₁ = (let y = ap length first ∙ length-set s (n - 1) (v + 1) in omega arith) in
+        let e = ap (λ (i : ℕ). turns_left (D - i) s₂ i) (add-one n) ∙ ap (λ (i : List ℕ). turns_left (D - suc n) i (suc n)) second
+        ∙ left_push n (D - suc n) s₁ l m in
+        let r : D - n ≡ suc (D - suc n) = omega arith in
+        let a = ap (λ (i : ℕ). turns_left i s₁ n) r in
+        let b = ap turns r ∙ turns_next (D - suc n) in
+        let c = times_less (8 - l % 8) 8 (turns (D - suc n)) (omega arith) in
+        let p = stepped in
+        omega arith

@@ -5,18 +5,11 @@ use Rattle.scanning.specs.Classes.{element_count, is_name_element, element_node,
 use Rattle.scanning.specs.Instances.{child_limit, argument_count, Compared, join_name, joined, same_children, same_elements}
 use Rattle.scanning.specs.Instances.{comparison_depth}
 use Rattle.instances.specs.declared.Comparison.{Comparison}
+use Rattle.instances.specs.declared.Comparison.TheVariants.{Settled, Opens}
 
 -- Two applications whose children are compared, the first ones next, as one number.
 unfoldable pub level_of : ℕ → ℕ → ℕ
 level_of i j = child_limit * (element_count * (i % element_count) + j % element_count)
-
--- The terms are known to be the same, or not to be.
-unfoldable pub settled : Bool → Comparison
-settled z = record { same = z; opens = 0; level = 0 }
-
--- They are the same if the children of the applications i and j are.
-unfoldable pub opening : ℕ → ℕ → Comparison
-opening i j = record { same = true; opens = 1; level = level_of i j }
 
 -- What a look at two elements leaves: the classes, and what is known of their terms.
 pub record Looked : Type 0 where
@@ -29,15 +22,15 @@ looked c o = record { classes = c; comparison = o }
 
 -- A comparison of texts settles it.
 unfoldable pub decided : Compared → Looked
-decided o = looked o.classes (settled o.same)
+decided o = looked o.classes (Settled o.same)
 
 -- Two representatives.
 unfoldable pub compare_roots : List ℕ → List ℕ → List ℕ → List ℕ → ℕ → ℕ → ℕ → ℕ → List ℕ → Looked
 compare_roots b t x w f g i j c =
-    cond (eqb i j) (looked c (settled true))
+    cond (eqb i j) (looked c (Settled true))
     (cond (is_name_element i) (decided (join_name b t x w f g c i j))
     (cond (is_name_element j) (decided (join_name b t x w f g c j i))
-    (looked c (cond (eqb (label_of t (element_node i)) (label_of t (element_node j))) (opening i j) (settled false)))))
+    (looked c (cond (eqb (label_of t (element_node i)) (label_of t (element_node j))) (Opens (level_of i j)) (Settled false)))))
 
 -- Two elements.
 unfoldable pub compare_elements : List ℕ → List ℕ → List ℕ → List ℕ → ℕ → ℕ → List ℕ → ℕ → ℕ → Looked

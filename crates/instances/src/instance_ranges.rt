@@ -9,10 +9,9 @@ use super::Instance;
 use super::frames::{slot_end, slot_start};
 use memory::{byte, get, put, widen};
 use node_table::{child, child_count, kind, kinds, label, name_start};
-use scanning::{Number, Reach};
 use sheet_format::limits;
 use term_scanner::folded_ranges::same_folded;
-use term_scanner::ranges::{monus, same_range};
+use term_scanner::ranges::same_range;
 use term_scanner::symbol_names::name_size;
 use term_scanner::tokens::scan_number;
 
@@ -31,6 +30,15 @@ pub struct Range {
     pub end: usize,
 }
 
+impl Range {
+    // How many bytes it has.
+    pub fn size(self) -> usize
+        ensures { result ≡ self.end - self.start }
+    {
+        self.end.saturating_sub(self.start)
+    }
+}
+
 // Whether the terms in two ranges of the text are the same. Their bytes mostly are, so these are compared first.
 pub fn same_slots(text: &[u8], a: Range, b: Range) -> bool
     ensures { result ≡ same_slots text.now a.start a.end b.start b.end }
@@ -38,8 +46,8 @@ pub fn same_slots(text: &[u8], a: Range, b: Range) -> bool
     if a.start == b.start {
         return true;
     }
-    let n = monus(a.end, a.start);
-    if n == monus(b.end, b.start) {
+    let n = a.size();
+    if n == b.size() {
         if same_range(n, text, a.start, text, b.start) {
             return true;
         }
@@ -49,23 +57,24 @@ pub fn same_slots(text: &[u8], a: Range, b: Range) -> bool
 }
 
 // Whether the n bytes of a from s on stand at position i, and where they end.
-fn match_range(n: usize, a: &[u8], s: usize, text: &[u8], i: usize) -> Reach
+fn match_range(n: usize, a: &[u8], s: usize, text: &[u8], i: usize) -> Option<usize>
     ensures { result ≡ match_range n a.now s text.now i }
 {
-    if n <= monus(text.len(), i) {
+    let left = text.len().saturating_sub(i);
+    if n <= left {
         if same_range(n, a, s, text, i) {
-            return Reach::To(i + n);
+            return Some(i + n);
         }
         if same_folded(n, a, s, text, i) {
-            return Reach::To(i + n);
+            return Some(i + n);
         }
-        return Reach::Differs;
+        return None;
     }
-    Reach::Differs
+    None
 }
 
 // Whether the name of symbol k does.
-fn match_name(sheet: &[u8], t: &[u32], k: u32, text: &[u8], i: usize) -> Reach
+fn match_name(sheet: &[u8], t: &[u32], k: u32, text: &[u8], i: usize) -> Option<usize>
     ensures { result ≡ match_name sheet.now t.now k text.now i }
 {
     let n = name_size(sheet, t, k);
@@ -73,20 +82,18 @@ fn match_name(sheet: &[u8], t: &[u32], k: u32, text: &[u8], i: usize) -> Reach
 }
 
 // Whether the number n does: it is the number at position i.
-fn match_number(n: u32, text: &[u8], i: usize) -> Reach
+fn match_number(n: u32, text: &[u8], i: usize) -> Option<usize>
     ensures { result ≡ match_number n text.now i }
 {
-    let Number::Value(m, e) = scan_number(text, i) else {
-        return Reach::Differs;
-    };
+    let (m, e) = scan_number(text, i)?;
     if m == n {
-        return Reach::To(e);
+        return Some(e);
     }
-    Reach::Differs
+    None
 }
 
 // Whether what the label l stands for does, a symbol or a number.
-fn match_functor(sheet: &[u8], t: &[u32], l: u32, text: &[u8], i: usize) -> Reach
+fn match_functor(sheet: &[u8], t: &[u32], l: u32, text: &[u8], i: usize) -> Option<usize>
     ensures { result ≡ match_functor sheet.now t.now l text.now i }
 {
     if l < limits::MAX_SYMBOLS {
@@ -96,12 +103,12 @@ fn match_functor(sheet: &[u8], t: &[u32], l: u32, text: &[u8], i: usize) -> Reac
 }
 
 // Whether the term of name v in frame g does.
-fn match_slot(text: &[u8], w: &[u32], g: u32, v: u32, i: usize) -> Reach
+fn match_slot(text: &[u8], w: &[u32], g: u32, v: u32, i: usize) -> Option<usize>
     ensures { result ≡ match_slot text.now w.now g v i }
 {
     let s = widen(slot_start(w, g, v));
     let e = widen(slot_end(w, g, v));
-    match_range(monus(e, s), text, s, text, i)
+    match_range(e.saturating_sub(s), text, s, text, i)
 }
 
 // How many children node m has, and the j-th of them.
@@ -117,17 +124,11 @@ fn argument_of(t: &[u32], m: u32, j: u32) -> u32
     child(t, m, j) % limits::MAX_NODES
 }
 
-// 1 if node m has children, which are to be matched after its symbol.
-fn opens(t: &[u32], m: u32) -> usize
-    ensures { (result ≡ opens_of t.now m) × (result < 2) }
+// Whether node m has children, which are to be matched after its symbol.
+fn opens(t: &[u32], m: u32) -> bool
+    ensures { result ≡ opens_of t.now m }
 {
-    if kind(t, m) == kinds::VARIABLE {
-        return 0;
-    }
-    if argument_count(t, m) == 0 {
-        return 0;
-    }
-    1
+    kind(t, m) != kinds::VARIABLE && argument_count(t, m) != 0
 }
 
 // Whether the instance's symbol or number, or a name's term, stands at position i, and where it ends.
@@ -138,7 +139,7 @@ fn match_head(
     w: &[u32],
     instance: Instance,
     i: usize,
-) -> Reach
+) -> Option<usize>
     ensures { result ≡ match_head sheet.now t.now text.now w.now instance.frame
         instance.node i }
 {
@@ -163,28 +164,11 @@ fn mark_before(j: u32, n: u32) -> u8
     b')'
 }
 
-// What a match comes to with a stack that is lent: where it ends, unless more nodes are open than the stack has room for.
+// Why a match with a stack that is lent has no end: the text differs, or more nodes are open than the stack has room for.
 #[derive(Clone, Copy)]
-pub struct LentMatch {
-    pub full: bool,
-    pub reach: Reach,
-}
-
-// The match has come to its end.
-fn ended(reach: Reach) -> LentMatch
-    ensures { (result.full ≡ false) × (result.reach ≡ reach) }
-{
-    LentMatch { full: false, reach }
-}
-
-// The match has stopped for want of room.
-fn stopped() -> LentMatch
-    ensures { (result.full ≡ true) × (result.reach ≡ Reach.Differs) }
-{
-    LentMatch {
-        full: true,
-        reach: Reach::Differs,
-    }
+pub enum Stop {
+    Differs,
+    StackFull,
 }
 
 // Whether the children of the instance's node stand at position i, in brackets, and where they end. For each node that is open, whose
@@ -197,7 +181,7 @@ fn match_open(
     w: &[u32],
     instance: Instance,
     i: usize,
-) -> LentMatch
+) -> Result<usize, Stop>
     requires { (instance.node < 1024) × (0 < length stack.old) × (length stack.old ≤ 1024) }
     ensures { Matches (length stack.old) result (match_children 1023 sheet.now t.now
         text.now w.now instance.frame instance.node i) }
@@ -205,36 +189,38 @@ fn match_open(
     put(stack, 0, CHILD_LIMIT * instance.node);
     let mut n: usize = 1;
     let mut at = i;
+    // A while: nodes are opened and closed, as on a call stack.
     while 0 < n {
         let level = get(stack, n - 1);
         let m = level / CHILD_LIMIT;
         let j = level % CHILD_LIMIT;
         let count = argument_count(t, m);
-        if byte(text, at) == mark_before(j, count) {
-            at += 1;
-            if j < count {
-                if n == stack.len() {
-                    return stopped();
-                }
-                let part = Instance {
-                    node: argument_of(t, m, j),
-                    frame: instance.frame,
-                };
-                let Reach::To(e) = match_head(sheet, t, text, w, part, at) else {
-                    return ended(Reach::Differs);
-                };
-                put(stack, n - 1, level + 1);
-                put(stack, n, CHILD_LIMIT * part.node);
-                at = e;
-                n += opens(t, part.node);
-            } else {
-                n -= 1;
+        if byte(text, at) != mark_before(j, count) {
+            return Err(Stop::Differs);
+        }
+        at += 1;
+        if j < count {
+            if n == stack.len() {
+                return Err(Stop::StackFull);
+            }
+            let part = Instance {
+                node: argument_of(t, m, j),
+                ..instance
+            };
+            let Some(e) = match_head(sheet, t, text, w, part, at) else {
+                return Err(Stop::Differs);
+            };
+            put(stack, n - 1, level + 1);
+            put(stack, n, CHILD_LIMIT * part.node);
+            at = e;
+            if opens(t, part.node) {
+                n += 1;
             }
         } else {
-            return ended(Reach::Differs);
+            n -= 1;
         }
     }
-    ended(Reach::To(at))
+    Ok(at)
 }
 
 // The same with room for as many open nodes as the table has.
@@ -245,14 +231,13 @@ fn match_deep(
     w: &[u32],
     instance: Instance,
     i: usize,
-) -> Reach
+) -> Option<usize>
     requires { instance.node < 1024 }
     ensures { result ≡ match_children 1023 sheet.now t.now text.now w.now
         instance.frame instance.node i }
 {
     let mut stack = [0u32; NODES];
-    let found = match_open(&mut stack, sheet, t, text, w, instance, i);
-    found.reach
+    match_open(&mut stack, sheet, t, text, w, instance, i).ok()
 }
 
 // The same. Few terms on a sheet are nested deep, and only for these a long stack is cleared.
@@ -263,17 +248,17 @@ fn match_children(
     w: &[u32],
     instance: Instance,
     i: usize,
-) -> Reach
+) -> Option<usize>
     requires { instance.node < 1024 }
     ensures { result ≡ match_children 1023 sheet.now t.now text.now w.now
         instance.frame instance.node i }
 {
     let mut stack = [0u32; FEW_NODES];
-    let found = match_open(&mut stack, sheet, t, text, w, instance, i);
-    if found.full {
-        return match_deep(sheet, t, text, w, instance, i);
+    match match_open(&mut stack, sheet, t, text, w, instance, i) {
+        Ok(end) => Some(end),
+        Err(Stop::Differs) => None,
+        Err(Stop::StackFull) => match_deep(sheet, t, text, w, instance, i),
     }
-    found.reach
 }
 
 // Whether the instance stands at position i, and where it ends.
@@ -284,18 +269,16 @@ fn match_instance(
     w: &[u32],
     instance: Instance,
     i: usize,
-) -> Reach
+) -> Option<usize>
     requires { instance.node < 1024 }
     ensures { result ≡ match_instance 1024 sheet.now t.now text.now w.now
         instance.frame instance.node i }
 {
-    let Reach::To(e) = match_head(sheet, t, text, w, instance, i) else {
-        return Reach::Differs;
-    };
-    if opens(t, instance.node) == 0 {
-        return Reach::To(e);
+    let e = match_head(sheet, t, text, w, instance, i)?;
+    if opens(t, instance.node) {
+        return match_children(sheet, t, text, w, instance, e);
     }
-    match_children(sheet, t, text, w, instance, e)
+    Some(e)
 }
 
 // Whether the term in the range of the text is the instance.
@@ -311,7 +294,7 @@ pub fn is_instance(
     ensures { result ≡ is_instance sheet.now t.now text.now w.now range.start range.end
         instance.frame instance.node }
 {
-    let Reach::To(i) = match_instance(sheet, t, text, w, instance, range.start) else {
+    let Some(i) = match_instance(sheet, t, text, w, instance, range.start) else {
         return false;
     };
     i == range.end

@@ -6,12 +6,12 @@ pub mod frames;
 mod instance_ranges;
 mod name_classes;
 
-ghost use Rattle.std.specs.Prelude.{◌≡◌, ◌/◌, ◌%◌};
+ghost use Rattle.std.specs.Prelude.{◌≡◌, ◌+◌, ◌*◌, ◌/◌, ◌%◌};
 ghost use Rattle.scanning.specs.Instances.{same_by_classes};
 ghost use Rattle.scanning.specs.BriefComparisons.{same_atoms};
-ghost use Rattle.instances.specs.OpenPairs.{level_of, settled, looked, compare_elements, same_applications, Elements};
+ghost use Rattle.instances.specs.OpenPairs.{level_of, looked, compare_elements, same_applications, Elements};
 
-use brief_comparisons::{SAME, UNDECIDED, brief_elements};
+use brief_comparisons::brief_elements;
 use instance_ranges::{CHILD_LIMIT, argument_count};
 use memory::{get, put, widen};
 use name_classes::{child_of, join_name, root_of};
@@ -46,23 +46,12 @@ pub struct Pair {
     pub second: u32,
 }
 
-// What a look at two elements finds: whether their terms may be the same, and 1 if that depends on the children of two applications,
-// which are to be compared next (specs/OpenPairs.antt).
+// What a look at two elements finds: whether their terms are the same, or the two applications on whose children that depends, as one
+// number (`level_of`).
 #[derive(Clone, Copy)]
-pub struct Comparison {
-    pub same: bool,
-    pub opens: usize,
-    pub level: u32,
-}
-
-fn settled(same: bool) -> Comparison
-    ensures { result ≡ settled same }
-{
-    Comparison {
-        same: same,
-        opens: 0,
-        level: 0,
-    }
+pub enum Comparison {
+    Settled(bool),
+    Opens(u32),
 }
 
 // Two applications whose children are compared, as one number: a, b and the next child.
@@ -77,39 +66,31 @@ fn compare(sheet: &[u8], t: &[u32], text: &[u8], w: &[u32], c: &mut [u32], pair:
     ensures { looked c.new result ≡ compare_elements sheet.now t.now text.now
         w.now pair.left pair.right c.old pair.first pair.second }
 {
-    let f = pair.left;
-    let g = pair.right;
     let a = root_of(c, pair.first);
     let b = root_of(c, pair.second);
     if a == b {
-        return settled(true);
+        return Comparison::Settled(true);
     }
     if a < class_elements::FIRST_APPLICATION {
         let named = Pair {
-            left: f,
-            right: g,
             first: a,
             second: b,
+            ..pair
         };
-        return settled(join_name(sheet, t, text, w, c, named));
+        return Comparison::Settled(join_name(sheet, t, text, w, c, named));
     }
     if b < class_elements::FIRST_APPLICATION {
         let named = Pair {
-            left: f,
-            right: g,
             first: b,
             second: a,
+            ..pair
         };
-        return settled(join_name(sheet, t, text, w, c, named));
+        return Comparison::Settled(join_name(sheet, t, text, w, c, named));
     }
     if label(t, a / 2 % limits::MAX_NODES) == label(t, b / 2 % limits::MAX_NODES) {
-        return Comparison {
-            same: true,
-            opens: 1,
-            level: level_of(a, b),
-        };
+        return Comparison::Opens(level_of(a, b));
     }
-    settled(false)
+    Comparison::Settled(false)
 }
 
 // Whether the children of two applications of one symbol are the same. The stack has the pairs that are open, whose children are being
@@ -130,6 +111,7 @@ fn same_applications(
     let mut stack = [0u32; COMPARISON_DEPTH];
     put(&mut stack, 0, level);
     let mut n: usize = 1;
+    // A while: pairs are opened and closed, as on a call stack.
     while 0 < n {
         let top = get(&stack, n - 1);
         let both = top / CHILD_LIMIT;
@@ -140,19 +122,22 @@ fn same_applications(
             if n == COMPARISON_DEPTH {
                 return false;
             }
+            put(&mut stack, n - 1, top + 1);
             let parts = Pair {
-                left: pair.left,
-                right: pair.right,
                 first: child_of(t, a, k),
                 second: child_of(t, b, k),
+                ..pair
             };
-            let found = compare(sheet, t, text, w, c, parts);
-            if found.same {
-                put(&mut stack, n - 1, top + 1);
-                put(&mut stack, n, found.level);
-                n += found.opens;
-            } else {
-                return false;
+            match compare(sheet, t, text, w, c, parts) {
+                Comparison::Settled(same) => {
+                    if !same {
+                        return false;
+                    }
+                }
+                Comparison::Opens(next) => {
+                    put(&mut stack, n, next);
+                    n += 1;
+                }
             }
         } else {
             put(c, widen(a), b);
@@ -160,6 +145,19 @@ fn same_applications(
         }
     }
     true
+}
+
+// The elements of two atoms.
+fn atom_pair(left: Instance, right: Instance) -> Pair
+    ensures { (result.left ≡ left.frame) × (result.right ≡ right.frame) × (result.first ≡ 2 * (left.node % 1024) + 2048)
+        × (result.second ≡ 2 * (right.node % 1024) + 2049) }
+{
+    Pair {
+        left: left.frame,
+        right: right.frame,
+        first: 2 * (left.node % limits::MAX_NODES) + class_elements::FIRST_APPLICATION,
+        second: 2 * (right.node % limits::MAX_NODES) + OTHER_SIDE,
+    }
 }
 
 // Whether two atoms, instances of the nodes of two atoms, are the same, found by classes.
@@ -175,17 +173,11 @@ fn same_by_classes(
         right.frame left.node right.node }
 {
     let mut c = [0u32; class_elements::COUNT];
-    let atoms = Pair {
-        left: left.frame,
-        right: right.frame,
-        first: 2 * (left.node % limits::MAX_NODES) + class_elements::FIRST_APPLICATION,
-        second: 2 * (right.node % limits::MAX_NODES) + OTHER_SIDE,
-    };
-    let found = compare(sheet, t, text, w, &mut c, atoms);
-    if found.opens == 0 {
-        return found.same;
+    let atoms = atom_pair(left, right);
+    match compare(sheet, t, text, w, &mut c, atoms) {
+        Comparison::Settled(same) => same,
+        Comparison::Opens(level) => same_applications(sheet, t, text, w, &mut c, atoms, level),
     }
-    same_applications(sheet, t, text, w, &mut c, atoms, found.level)
 }
 
 // The same. Classes take an array of all elements, so they are used only where a brief comparison leaves it undecided.
@@ -200,15 +192,9 @@ pub fn same_atoms(
     ensures { result ≡ same_atoms sheet.now t.now text.now w.now left.frame right.frame
         left.node right.node }
 {
-    let atoms = Pair {
-        left: left.frame,
-        right: right.frame,
-        first: 2 * (left.node % limits::MAX_NODES) + class_elements::FIRST_APPLICATION,
-        second: 2 * (right.node % limits::MAX_NODES) + OTHER_SIDE,
-    };
-    let found = brief_elements(BRIEF_DEPTH, sheet, t, text, w, atoms);
-    if found == UNDECIDED {
-        return same_by_classes(sheet, t, text, w, left, right);
+    let atoms = atom_pair(left, right);
+    match brief_elements(BRIEF_DEPTH, sheet, t, text, w, atoms) {
+        Some(same) => same,
+        None => same_by_classes(sheet, t, text, w, left, right),
     }
-    found == SAME
 }

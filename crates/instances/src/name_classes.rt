@@ -34,8 +34,7 @@ pub fn root_of(c: &mut [u32], i: u32) -> u32
     ensures { rooted c.new result ≡ root_of c.old i }
 {
     let mut at = i;
-    let mut left: u32 = class_elements::ROOT_STEPS;
-    while 0 < left {
+    for _turn in 0..class_elements::ROOT_STEPS {
         let p = get(c, widen(at));
         if p == 0 {
             return at;
@@ -46,7 +45,6 @@ pub fn root_of(c: &mut [u32], i: u32) -> u32
         }
         put(c, widen(at), q);
         at = q;
-        left -= 1;
     }
     at
 }
@@ -61,17 +59,16 @@ fn side_frame(f: u32, g: u32, s: u32) -> u32
     g
 }
 
-// Where the term of name i starts and ends, in its side's frame.
-pub fn start_of(w: &[u32], f: u32, g: u32, i: u32) -> usize
-    ensures { result ≡ start_of w.now f g i }
+// The range of name i's term, in its side's frame.
+pub fn range_of(w: &[u32], pair: Pair, i: u32) -> Range
+    ensures { (result.start ≡ start_of w.now pair.left pair.right i) × (result.end ≡ end_of w.now pair.left pair.right i) }
 {
-    widen(slot_start(w, side_frame(f, g, i % 2), i / 2 % limits::VARIABLE_NAMES))
-}
-
-pub fn end_of(w: &[u32], f: u32, g: u32, i: u32) -> usize
-    ensures { result ≡ end_of w.now f g i }
-{
-    widen(slot_end(w, side_frame(f, g, i % 2), i / 2 % limits::VARIABLE_NAMES))
+    let frame = side_frame(pair.left, pair.right, i % 2);
+    let name = i / 2 % limits::VARIABLE_NAMES;
+    Range {
+        start: widen(slot_start(w, frame, name)),
+        end: widen(slot_end(w, frame, name)),
+    }
 }
 
 // Whether the first element, a name, has the term of the second.
@@ -79,24 +76,15 @@ pub fn same_name(sheet: &[u8], t: &[u32], text: &[u8], w: &[u32], pair: Pair) ->
     ensures { result ≡ same_name sheet.now t.now text.now w.now pair.left pair.right
         pair.first pair.second }
 {
-    let f = pair.left;
-    let g = pair.right;
-    let i = pair.first;
     let j = pair.second;
-    let range = Range {
-        start: start_of(w, f, g, i),
-        end: end_of(w, f, g, i),
-    };
+    let range = range_of(w, pair, pair.first);
     if j < class_elements::FIRST_APPLICATION {
-        let other = Range {
-            start: start_of(w, f, g, j),
-            end: end_of(w, f, g, j),
-        };
+        let other = range_of(w, pair, j);
         return same_slots(text, range, other);
     }
     let instance = Instance {
         node: j / 2 % limits::MAX_NODES,
-        frame: side_frame(f, g, j % 2),
+        frame: side_frame(pair.left, pair.right, j % 2),
     };
     is_instance(sheet, t, text, w, range, instance)
 }

@@ -28,10 +28,10 @@ use Rattle.answer_texts.specs.Spelled.{WritableTerm, Writable, Stage, opening, b
 use Rattle.text_judging.specs.Judging.{allow}
 use Rattle.text_judging.proofs.Reading.{line_bytes}
 use Rattle.answer_texts.proofs.FirstShowings.{and_both}
-use Rattle.scanning.specs.declared.Number.{Number}
-use Rattle.scanning.specs.declared.Number.TheVariants.{Value, Missing}
-use Rattle.scanning.specs.declared.Scan.{Scan}
-use Rattle.scanning.specs.declared.Scan.TheVariants.{Term as Scanned, Malformed}
+use Rattle.scanning.specs.Ranges.{Number}
+use Rattle.std.proofs.lemmas.Option.{some_pair_parts}
+use Rattle.std.specs.Prelude.{Some, None}
+use Rattle.scanning.specs.Scanning.{Scan}
 use Rattle.scanning.specs.Ranges.{scan_number}
 use Rattle.scanning.specs.Frames.{bind_frame}
 use Rattle.scanning.proofs.Positions.{byte_is, drop_next, drop_past}
@@ -45,7 +45,7 @@ use Rattle.scanning.proofs.Frames.{frame_bind}
 use Rattle.scanning.proofs.InstanceSpelling.{Frame, frame_fewer}
 use Rattle.line_checking.specs.declared.Registers.{Registers}
 use Rattle.line_checking.specs.Sequents.{Made, made, broken, with_binding, with_sequent, free_from as nextFree, bound_from, bound}
-use Rattle.line_checking.specs.Sequents.{broken_stage}
+use Rattle.line_checking.specs.declared.TextStage.TheVariants.{Broken}
 use Rattle.line_checking.specs.Bindings.{begins_with, check_result_with, check_units, check_result, bind_with, bind_term, binds_variable}
 use Rattle.line_checking.specs.Bindings.{bind_line}
 use Rattle.line_checking.proofs.Lines.{bytes_result, bytes_binding, decimal_one, is_word, word_byte}
@@ -60,11 +60,11 @@ use Rattle.line_checking.proofs.Terms.{scan_at, TermCase, is_term, no_term, term
 -- registers after B lines
 
 -- The stage after B lines is not the broken stage.
-pub bound_stage_lem : (t : List ℕ) (goal : ℕ) (r : Registers) (v f : ℕ) → (bound t goal r v f).stage ≡ broken_stage → ⊥
+pub bound_stage_lem : (t : List ℕ) (goal : ℕ) (r : Registers) (v f : ℕ) → (bound t goal r v f).stage ≡ Broken → ⊥
 unfolding bound bound_from with_binding with_sequent
 bound_stage_lem t goal r v f =
-    either_side (λ (s : Registers). s.stage ≡ broken_stage → ⊥) (ltb (nextFree (8 - v) (mask_of t goal) v) 8) _ _ (λ h e. omega arith)
-    (λ h e. omega arith)
+    either_side (λ (s : Registers). s.stage ≡ Broken → ⊥) (ltb (nextFree (8 - v) (mask_of t goal) v) 8) _ _ (λ h e. cc)
+    (λ h e. cc)
 
 -- The count of made constants stays after B lines.
 pub bound_made : (t : List ℕ) (goal : ℕ) (r : Registers) (v f : ℕ) → (bound t goal r v f).made ≡ r.made
@@ -184,24 +184,24 @@ module _ (c : Setting) (filled : Filled c) where
       R = Result c q l opening r
 
       -- An R line with the number n is read as that number up to its end.
-      reading : (n : ℕ) → l ≡ word ++ decimal n → n ≤ max_number → scan_number c.text (i + 9) ≡ Value n e
+      reading : (n : ℕ) → l ≡ word ++ decimal n → n ≤ max_number → scan_number c.text (i + 9) ≡ Some (n, e)
       reading n p u =
           let y : drop (i + 9) (folds c) ≡ decimal n ++ (lf ∷ rest) =
           part_there c.text i l rest d word (decimal n) refl (λ m. refl) p in
           let z : i + 9 + length (decimal n) ≡ e = (let a = ap length p ∙ length-append word (decimal n) in omega arith) in
-          sym (number_folded c.text (i + 9)) ∙ read_decimal (folds c) (i + 9) n (lf ∷ rest) y u refl ∙ ap (Value n) z
+          sym (number_folded c.text (i + 9)) ∙ read_decimal (folds c) (i + 9) n (lf ∷ rest) y u refl ∙ ap (λ (j : ℕ). Some (n, j)) z
 
       -- A line whose number does not end with the line, or is out of range, is wrong.
-      wrong : (n j : ℕ) → scan_number c.text (i + 9) ≡ Value n j → (eqb j e ≡ false) ⊎ ((leb 1 n && leb n max_budget) ≡ false)
+      wrong : (n j : ℕ) → scan_number c.text (i + 9) ≡ Some (n, j) → (eqb j e ≡ false) ⊎ ((leb 1 n && leb n max_budget) ≡ false)
           → R (broken w r)
       wrong n j h f = is_wrong c q l opening w r r (only_result l (λ k p u. unfit k (sym h ∙ reading k p u) f))
         where
-          unfit : (k : ℕ) → Value n j ≡ Value k e → (eqb j e ≡ false) ⊎ ((leb 1 n && leb n max_budget) ≡ false)
+          unfit : (k : ℕ) → ◌≡◌ {A = Number} (Some (n, j)) (Some (k, e)) → (eqb j e ≡ false) ⊎ ((leb 1 n && leb n max_budget) ≡ false)
               → allow (sheet_of c) (result_line k) opening ≡ none
-          unfit k y (inl z) = absurd (eqb-false j e z (let o : j ≡ e = cc in o))
+          unfit k y (inl z) = absurd (eqb-false j e z (some_pair_parts n k j e y).1)
           unfit k y (inr z) =
               ap (λ (b : Bool). cond b (some (bound_stage (sheet_of c) (free_variables (sheet_of c).goal) blank)) none)
-              (ap (λ (o : ℕ). leb 1 o && leb o max_budget) (let o : k ≡ n = cc in o) ∙ z)
+              (ap (λ (o : ℕ). leb 1 o && leb o max_budget) (sym (some_pair_parts n k j e y).0) ∙ z)
 
       right : (m : List ℕ) (n : ℕ) → l ≡ word ++ m → m ≡ decimal n → n ≤ max_number → leb 1 n ≡ true → leb n max_budget ≡ true
           → R (made w (bound c.table c.goal r 0 0))
@@ -235,12 +235,12 @@ module _ (c : Setting) (filled : Filled c) where
       units m p y = go (scan_number c.text (i + 9)) refl
         where
           go : (o : Number) → scan_number c.text (i + 9) ≡ o
-              → R (elim o as (λ z. Made) [ Value n j ↦ check_result_with c.table c.goal w r n j e | Missing ↦ broken w r ])
-          go Missing h =
+              → R (elim o as (λ z. Made) [ Some (n, j) ↦ check_result_with c.table c.goal w r n j e | None ↦ broken w r ])
+          go None h =
               is_wrong c q l opening w r r
-              (only_result l (λ n o u. absurd (let z : Missing ≡ Value n e = sym h
+              (only_result l (λ n o u. absurd (let z : None ≡ Some (n, e) = sym h
               ∙ reading n o u in let v : ◌≡◌ {A = ℕ} 0 1 = cc in omega arith)))
-          go (Value n j) h =
+          go (Some (n, j)) h =
               let s = number_there (folds c) (i + 9) m rest n j y (number_folded c.text (i + 9) ∙ h) in
               either_side R (eqb j e) _ (broken w r)
               (λ a. either_side R (leb 1 n) _ (broken w r)
@@ -419,10 +419,10 @@ module _ (c : Setting) (filled : Filled c) (q : ℕ) (w : List ℕ) (room : Room
       rests : (t : Ground) → l ≡ ascii "B\t" ++ ((48 + v) ∷ 9 ∷ spell_term t ds) → m ≡ spell_term t ds
       rests t o = append_cancel_left (ascii "B\t" ++ ((48 + v) ∷ 9 ∷ [])) m (spell_term t ds) (sym p ∙ o)
 
-      scan : (z : Scan) → ((j k : ℕ) → z ≡ Scanned j k → eqb j e ≡ false) → R (broken w r)
-          → R (elim z as (λ b. Made) [ Scanned j k ↦ bind_with c.table c.goal w r q (i + 4) j k e | Malformed ↦ broken w r ])
-      scan Malformed h b = b
-      scan (Scanned j k) h b = rw (h j k refl) b
+      scan : (z : Scan) → ((j k : ℕ) → z ≡ Some (j, k) → eqb j e ≡ false) → R (broken w r)
+          → R (elim z as (λ b. Made) [ Some (j, k) ↦ bind_with c.table c.goal w r q (i + 4) j k e | None ↦ broken w r ])
+      scan None h b = b
+      scan (Some (j, k)) h b = rw (h j k refl) b
 
       go : TermCase c (i + 4) e m → R (bind_term c.bytes c.table c.symbols c.goal c.text w r q (i + 4) e)
       go (no_term n h) = scan (scan_at c (i + 4)) h (is_wrong c q l a w r r (only_binding (λ t o u. absurd (n t (rests t o) u))))

@@ -31,10 +31,10 @@ use Rattle.text_judging.specs.Judging.{same_terms, all_low, infer_entry, entry_a
 use Rattle.text_judging.proofs.Reading.{line_bytes}
 use Rattle.text_judging.proofs.Spans.{stops_digit}
 use Rattle.answer_texts.proofs.FirstShowings.{and_both}
-use Rattle.scanning.specs.declared.Number.{Number}
-use Rattle.scanning.specs.declared.Number.TheVariants.{Value, Missing}
-use Rattle.scanning.specs.declared.Scan.{Scan}
-use Rattle.scanning.specs.declared.Scan.TheVariants.{Term as Scanned, Malformed}
+use Rattle.scanning.specs.Ranges.{Number}
+use Rattle.std.proofs.lemmas.Option.{some_pair_parts}
+use Rattle.std.specs.Prelude.{Some, None}
+use Rattle.scanning.specs.Scanning.{Scan}
 use Rattle.scanning.specs.Ranges.{scan_number}
 use Rattle.scanning.specs.Frames.{copy_ranges}
 use Rattle.scanning.proofs.InstanceSpelling.{Frame, frame_fewer}
@@ -46,10 +46,10 @@ use Rattle.scanning.proofs.Frames.{frame_kept, frame_copy}
 use Rattle.answer_texts.specs.Capitals.{small_from}
 use Rattle.scanning.proofs.Folding.{folded_both, number_folded, atoms_folded}
 use Rattle.line_checking.specs.declared.Registers.{Registers}
-use Rattle.line_checking.specs.declared.Place.{Place}
-use Rattle.line_checking.specs.declared.Place.TheVariants.{At, Nowhere}
-use Rattle.line_checking.specs.Sequents.{Made, made, broken, with_sequent, broken_stage}
-use Rattle.line_checking.specs.Members.{place_from}
+use Rattle.std.specs.Prelude.{Some, None}
+use Rattle.line_checking.specs.Sequents.{Made, made, broken, with_sequent}
+use Rattle.line_checking.specs.declared.TextStage.TheVariants.{Broken}
+use Rattle.line_checking.specs.Members.{Place, place_from}
 use Rattle.line_checking.specs.Bindings.{begins_with}
 use Rattle.line_checking.specs.Clauses.{Read, prefix_from, with_body, use_member, use_terms, use_found, use_place, use_place_at, clause_fields}
 use Rattle.line_checking.specs.Clauses.{clause_line}
@@ -136,7 +136,7 @@ module _ (c : Setting) (filled : Filled c) (q : ℕ) (w : List ℕ) (room : Room
 
   -- The place in a line that uses a member is read.
   reading : (a : ℕ) (ts : List Ground) → l ≡ ascii "D\tclause\t" ++ (decimal a ++ tabbed ts ds) → a ≤ max_number
-      → scan_number c.text (i + 9) ≡ Value a (i + 9 + length (decimal a))
+      → scan_number c.text (i + 9) ≡ Some (a, i + 9 + length (decimal a))
   unfolding ascii is_exact small_from is_letter is_small is_capital
   reading a ts p y =
       let d : drop (i + 9) (folds c) ≡ decimal a ++ (tabbed ts ds ++ (lf ∷ rest)) =
@@ -146,7 +146,7 @@ module _ (c : Setting) (filled : Filled c) (q : ℕ) (w : List ℕ) (room : Room
       (stops_digit (tabbed ts ds ++ (lf ∷ rest)) (tabbed_stops ts ds rest))
 
   -- The place k is read and ends at j; m is the rest of the line.
-  module _ (k j : ℕ) (m : List ℕ) (read_is : scan_number c.text (i + 9) ≡ Value k j)
+  module _ (k j : ℕ) (m : List ℕ) (read_is : scan_number c.text (i + 9) ≡ Some (k, j))
       (spelled : l ≡ ascii "D\tclause\t" ++ (decimal k ++ m)) (small : k ≤ max_number)
       (after : drop j (folds c) ≡ m ++ (lf ∷ rest)) (ends : e ≡ j + length m) where
     -- With the place k read, only the terms decide whether the line is right.
@@ -157,8 +157,7 @@ module _ (c : Setting) (filled : Filled c) (q : ℕ) (w : List ℕ) (room : Room
         fit : (a : ℕ) (ts : List Ground) → l ≡ ascii "D\tclause\t" ++ (decimal a ++ tabbed ts ds) → a ≤ max_number
             → All (λ u. WritableTerm u ds) ts → Uses (entry_at a (entries g.program)) ts ≡ none
         fit a ts p y z =
-            let o : Value k j ≡ Value a (i + 9 + length (decimal a)) = sym read_is ∙ reading a ts p y in
-            let b : a ≡ k = cc in
+            let b = sym (some_pair_parts k a j (i + 9 + length (decimal a)) (sym read_is ∙ reading a ts p y)).0 in
             let d = append_cancel_left (ascii "D\tclause\t") (decimal k ++ m) (decimal a ++ tabbed ts ds) (sym spelled ∙ p) in
             ap (λ (v : ℕ). Uses (entry_at v (entries g.program)) ts) b
             ∙ h ts (append_cancel_left (decimal k) m (tabbed ts ds) (d ∙ ap (λ (v : ℕ). decimal v ++ tabbed ts ds) b)) z
@@ -313,10 +312,10 @@ module _ (c : Setting) (filled : Filled c) (q : ℕ) (w : List ℕ) (room : Room
               body_free z a = or_right (free_ts (arguments_at t (head_of t F.leaf)) z) (free_b (body_of t F.leaf) z) (rw y a)
 
       -- The stage after the line is not the broken stage.
-      body_stage : (with_body t w₂ r q F.leaf).stage ≡ broken_stage → ⊥
+      body_stage : (with_body t w₂ r q F.leaf).stage ≡ Broken → ⊥
       unfolding with_body with_sequent
       body_stage =
-          either_side (λ (s : Registers). s.stage ≡ broken_stage → ⊥) (eqb (kind_of t F.leaf) implies_kind) _ _ (λ a b. omega arith)
+          either_side (λ (s : Registers). s.stage ≡ Broken → ⊥) (eqb (kind_of t F.leaf) implies_kind) _ _ (λ a b. cc)
           (λ a. proceed_stage w₂ r)
 
       -- The count of made constants stays after the line.
@@ -386,14 +385,14 @@ module _ (c : Setting) (filled : Filled c) (q : ℕ) (w : List ℕ) (room : Room
           go (prefix_case c filled q r.level e rest F.count F.names j w₁ m
           (kept_room q q w w₁ (copy_kept 16 w q f 0 (omega arith)) room) after ends)
         where
-          scan : (s : Scan) → ((a b : ℕ) → s ≡ Scanned a b → eqb a e ≡ false) → R (broken w₂ r)
+          scan : (s : Scan) → ((a b : ℕ) → s ≡ Some (a, b) → eqb a e ≡ false) → R (broken w₂ r)
               → R (elim s as (λ z. Made) [
-                | Scanned a b ↦ cond (eqb a e) (use_member c.bytes t c.text w₂ r q F.leaf)
+                | Some (a, b) ↦ cond (eqb a e) (use_member c.bytes t c.text w₂ r q F.leaf)
                     (broken w₂ r)
-                | Malformed ↦ broken w₂ r
+                | None ↦ broken w₂ r
               ])
-          scan Malformed y z = z
-          scan (Scanned a b) y z = rw (y a b refl) z
+          scan None y z = z
+          scan (Some (a, b)) y z = rw (y a b refl) z
 
           go : PrefixCase c filled q r.level e rest w₁ m vs read_all → R (use_terms c.bytes t c.text r q F.leaf read_all e)
           go (all_read ts p fits a s frames) = rw (use_terms, s) (rw (eq-eqb e e refl) (used ts p fits frames))
@@ -436,8 +435,8 @@ module _ (c : Setting) (filled : Filled c) (q : ℕ) (w : List ℕ) (room : Room
 
         go : eqb k 0 ≡ false → (p : Place) → PlaceIs c q w g.program.clauses (k - 1) p
             → R (use_place c.bytes t c.symbols c.text w r q p j e)
-        go z (At a f o) E = terms_result a f o E z
-        go z Nowhere E =
+        go z (Some (a, f, o)) E = terms_result a f o E z
+        go z None E =
             let d = eqb-false k 0 z in
             let y : k ≡ suc (k - 1) = omega arith in
             no_entry (ap (λ (v : ℕ). entry_at v (entries g.program)) y ∙ E)
@@ -460,14 +459,14 @@ module _ (c : Setting) (filled : Filled c) (q : ℕ) (w : List ℕ) (room : Room
         where
           go : (o : Number) → scan_number c.text (i + 9) ≡ o
               → R (elim o as (λ z. Made) [
-                | Value k j ↦ use_place_at c.bytes t c.symbols c.clauses c.text w r q k j e
-                | Missing ↦
+                | Some (k, j) ↦ use_place_at c.bytes t c.symbols c.clauses c.text w r q k j e
+                | None ↦
                     broken w r
               ])
-          go Missing h =
-              only w (λ k ts o u z. absurd (let x : Missing ≡ Value k (i + 9 + length (decimal k)) = sym h
+          go None h =
+              only w (λ k ts o u z. absurd (let x : None ≡ Some (k, i + 9 + length (decimal k)) = sym h
               ∙ reading k ts o u in let v : ◌≡◌ {A = ℕ} 0 1 = cc in omega arith))
-          go (Value k j) h =
+          go (Some (k, j)) h =
               let s = number_there (folds c) (i + 9) m rest k j y (number_folded c.text (i + 9) ∙ h) in
               let a = s.end in
               let b = ap length p ∙ length-append word m in

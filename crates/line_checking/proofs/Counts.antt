@@ -9,22 +9,22 @@ use Rattle.sheet_format.specs.Bytes.{ascii}
 use Rattle.sheet_format.specs.Limits.{max_budget}
 use Rattle.node_table.specs.Layout.{members_of, mask_of, kind_of, label_of, child_of, true_kind, atom_kind, implies_kind, or_kind, and_kind, exists_kind}
 use Rattle.clause_members.specs.Members.{member, head_of}
-use Rattle.scanning.specs.declared.Number.{Number}
-use Rattle.scanning.specs.declared.Number.TheVariants.{Value, Missing}
-use Rattle.scanning.specs.declared.Scan.{Scan}
-use Rattle.scanning.specs.declared.Scan.TheVariants.{Term, Malformed}
+use Rattle.scanning.specs.Ranges.{Number}
+use Rattle.std.specs.Prelude.{Some, None}
+use Rattle.scanning.specs.Scanning.{Scan}
 use Rattle.scanning.specs.Fields as fields
 use Rattle.scanning.specs.Ranges.{scan_number}
 use Rattle.scanning.specs.Scanning.{scan_symbol, scan_term}
 use Rattle.scanning.specs.Frames.{bind_frame, copy_ranges}
 use Rattle.scanning.specs.BriefComparisons.{same_atoms}
 use Rattle.line_checking.specs.declared.Registers.{Registers}
-use Rattle.line_checking.specs.declared.Place.{Place}
-use Rattle.line_checking.specs.declared.Place.TheVariants.{At, Nowhere}
+use Rattle.std.specs.Prelude.{Some, None}
 use Rattle.line_checking.specs.Sequents.{Made, made, broken, with_stage, with_binding, with_sequent, free_from, bound_from, bound, put_sequent}
-use Rattle.line_checking.specs.Sequents.{open_sequent, next_sequent, put_hypothesis, result_stage, binding_stage, sequent_stage}
+use Rattle.line_checking.specs.Sequents.{open_sequent, next_sequent, put_hypothesis}
+use Rattle.line_checking.specs.declared.TextStage.{TextStage}
+use Rattle.line_checking.specs.declared.TextStage.TheVariants.{Opening, Binding, Deriving, Done, Broken}
 use Rattle.line_checking.specs.HypothesisChains.{links_after, put_links}
-use Rattle.line_checking.specs.Members.{start_after, place_from}
+use Rattle.line_checking.specs.Members.{Place, start_after, place_from}
 use Rattle.line_checking.specs.Bindings.{begins_with, is_line, check_result_with, check_units, check_result, bind_with, bind_term, binds_variable}
 use Rattle.line_checking.specs.Bindings.{bind_line}
 use Rattle.line_checking.specs.Rules.{with_child, true_line, and_line, or_line, assume_line, bind_goal, some_with, some_term, some_line}
@@ -44,14 +44,14 @@ module _ (r : Registers) where
   either false x y p q = q
 
   by_scan : (o : Scan) (f : ℕ → ℕ → Made) (m : Made) → ((j k : ℕ) → SameCounts r (f j k)) → SameCounts r m
-      → SameCounts r (elim o as (λ z. Made) [ Term j k ↦ f j k | Malformed ↦ m ])
-  by_scan (Term j k) f m p q = p j k
-  by_scan Malformed f m p q = q
+      → SameCounts r (elim o as (λ z. Made) [ Some (j, k) ↦ f j k | None ↦ m ])
+  by_scan (Some (j, k)) f m p q = p j k
+  by_scan None f m p q = q
 
   by_number : (o : Number) (f : ℕ → ℕ → Made) (m : Made) → ((n j : ℕ) → SameCounts r (f n j)) → SameCounts r m
-      → SameCounts r (elim o as (λ z. Made) [ Value n j ↦ f n j | Missing ↦ m ])
-  by_number (Value n j) f m p q = p n j
-  by_number Missing f m p q = q
+      → SameCounts r (elim o as (λ z. Made) [ Some (n, j) ↦ f n j | None ↦ m ])
+  by_number (Some (n, j)) f m p q = p n j
+  by_number None f m p q = q
 
   stops : (w : List ℕ) → SameCounts r (broken w r)
   unfolding broken with_stage
@@ -65,7 +65,7 @@ module _ (r : Registers) where
   unfolding next_sequent open_sequent with_sequent with_stage
   next w w' = go (eqb r.rest 0)
     where
-      go : (b : Bool) → SameCounts r (made w (cond b (with_stage r 3) (open_sequent w' r (r.rest - 1))))
+      go : (b : Bool) → SameCounts r (made w (cond b (with_stage r Done) (open_sequent w' r (r.rest - 1))))
       go true = record { same_made_lem = refl; same_leftover_lem = refl }
       go false = record { same_made_lem = refl; same_leftover_lem = refl }
 
@@ -115,10 +115,10 @@ module _ (r : Registers) where
 
   place_same : (b t : List ℕ) (symbols : ℕ) (x w : List ℕ) (q : ℕ) (p : Place) (i e : ℕ) → SameCounts r (use_place b t symbols x w r q p i e)
   unfolding use_place use_found
-  place_same b t symbols x w q (At n f k) i e =
+  place_same b t symbols x w q (Some (n, f, k)) i e =
       terms_same b t x q (member t n k).leaf (prefix_from (member t n k).count b t symbols x (copy_ranges fields.frame_numbers w q f 0) q
       (member t n k).names i r.level e) e
-  place_same b t symbols x w q Nowhere i e = stops w
+  place_same b t symbols x w q None i e = stops w
 
   clause_same : (b t : List ℕ) (symbols clauses : ℕ) (x w : List ℕ) (q i e : ℕ) → SameCounts r (clause_line b t symbols clauses x w r q i e)
   unfolding clause_line clause_fields use_place_at
@@ -165,9 +165,21 @@ module _ (r : Registers) where
   pub stage_same : (b t : List ℕ) (symbols clauses goal : ℕ) (x w : List ℕ) (q i e : ℕ)
       → SameCounts r (stage_line b t symbols clauses goal x w r q i e)
   unfolding stage_line sequent_line true_line
-  stage_same b t symbols clauses goal x w q i e =
-      either (eqb r.stage result_stage) _ _ (result_same t goal x w i e)
-      (either (eqb r.stage binding_stage) _ _ (bind_same b t symbols goal x w q i e)
-      (either (eqb r.stage sequent_stage) _ _ (either (eqb (kind_of t r.node) atom_kind) _ _ (clause_same b t symbols clauses x w q i e)
-      (either (eqb (kind_of t r.node) true_kind) _ _ (either (is_line (ascii "D\ttrue") x i e) _ _ (next w w) (stops w))
-      (connective_same b t symbols clauses x w q i e))) (stops w)))
+  stage_same b t symbols clauses goal x w q i e = go r.stage
+    where
+      go : (s : TextStage)
+          → SameCounts r (elim s as (λ z. Made) [
+            | Opening ↦ check_result t goal x w r i e
+            | Binding ↦ bind_line b t symbols goal x w r q i e
+            | Deriving ↦ sequent_line b t symbols clauses x w r q i e
+            | Done ↦ broken w r
+            | Broken ↦ broken w r
+          ])
+      go Opening = result_same t goal x w i e
+      go Binding = bind_same b t symbols goal x w q i e
+      go Deriving =
+          either (eqb (kind_of t r.node) atom_kind) _ _ (clause_same b t symbols clauses x w q i e)
+          (either (eqb (kind_of t r.node) true_kind) _ _ (either (is_line (ascii "D\ttrue") x i e) _ _ (next w w) (stops w))
+          (connective_same b t symbols clauses x w q i e))
+      go Done = stops w
+      go Broken = stops w

@@ -24,8 +24,9 @@ use Rattle.text_judging.specs.Reading.{Parsed, parsed, read_term}
 use Rattle.text_judging.specs.Judging.{all_low}
 use Rattle.text_judging.proofs.ReadTerms.{read_term_lem}
 use Rattle.answer_texts.proofs.FirstShowings.{and_both}
-use Rattle.scanning.specs.declared.Scan.{Scan}
-use Rattle.scanning.specs.declared.Scan.TheVariants.{Term as Scanned, Malformed}
+use Rattle.scanning.specs.Scanning.{Scan}
+use Rattle.std.proofs.lemmas.Option.{some_pair_parts}
+use Rattle.std.specs.Prelude.{Some, None}
 use Rattle.scanning.specs.Scanning.{scan_term}
 use Rattle.scanning.specs.Frames.{put_range}
 use Rattle.scanning.proofs.Positions.{byte_is, drop_next}
@@ -47,7 +48,7 @@ term_kept : (w : List ℕ) (q v i j k m e : ℕ) → v < variable_names → Kept
 unfolding prefix_term
 term_kept w q v i j k m e l = go (leb j e) (leb k m)
   where
-    go : (a b : Bool) → Kept q w (cond a (cond b (read (put_range w q v i j) (Scanned j k)) (read w Malformed)) (read w Malformed)).memory
+    go : (a b : Bool) → Kept q w (cond a (cond b (read (put_range w q v i j) (Some (j, k))) (read w None)) (read w None)).memory
     go true true = slot_kept w q v i j l
     go true false = kept_self q w
     go false b = kept_self q w
@@ -59,10 +60,10 @@ unfolding prefix_at
 at_kept b t symbols x w q v i m e l = go (eqb (get_or x i 0) 9) (scan_term (length x) b t symbols x (i + 1))
   where
     go : (a : Bool) (s : Scan)
-        → Kept q w (cond a (elim s as (λ z. Read) [ Scanned j k ↦ prefix_term w q v (i + 1) j k m e | Malformed ↦ read w Malformed ])
-        (read w Malformed)).memory
-    go true (Scanned j k) = term_kept w q v (i + 1) j k m e l
-    go true Malformed = kept_self q w
+        → Kept q w (cond a (elim s as (λ z. Read) [ Some (j, k) ↦ prefix_term w q v (i + 1) j k m e | None ↦ read w None ])
+        (read w None)).memory
+    go true (Some (j, k)) = term_kept w q v (i + 1) j k m e l
+    go true None = kept_self q w
     go false s = kept_self q w
 
 -- Reading all terms of a prefix writes only record q.
@@ -78,9 +79,9 @@ prefix_kept (suc n) b t symbols x w q vs i m e =
 
     go : (s : Scan) → Kept q w a.memory
         → ((j : ℕ) → Kept q a.memory (prefix_from n b t symbols x a.memory q (vs / 8) j m e).memory)
-        → Kept q w (elim s as (λ z. Read) [ Scanned j k ↦ prefix_from n b t symbols x a.memory q (vs / 8) j m e | Malformed ↦ a ]).memory
-    go (Scanned j k) h ih = kept_then q w a.memory (prefix_from n b t symbols x a.memory q (vs / 8) j m e).memory h (ih j)
-    go Malformed h ih = h
+        → Kept q w (elim s as (λ z. Read) [ Some (j, k) ↦ prefix_from n b t symbols x a.memory q (vs / 8) j m e | None ↦ a ]).memory
+    go (Some (j, k)) h ih = kept_then q w a.memory (prefix_from n b t symbols x a.memory q (vs / 8) j m e).memory h (ih j)
+    go None h ih = h
 
 -- equal lists
 
@@ -105,20 +106,20 @@ module _ (c : Setting) (filled : Filled c) (q m e : ℕ) (rest : List ℕ) where
 
   -- Reading terms for the names vs from the rest l of the line.
   pub data PrefixCase (w l : List ℕ) (vs : List ℕ) (a : Read) : Type 0 where
-    all_read : (ts : List Ground) → l ≡ tabbed ts ds → Fits vs ts → (k : ℕ) → a.scan ≡ Scanned e k
+    all_read : (ts : List Ground) → l ≡ tabbed ts ds → Fits vs ts → (k : ℕ) → a.scan ≡ Some (e, k)
         → ((d : Environment Symbol) (p p' : ℕ → Bool) → ((z : ℕ) → p' z ≡ true → elem z vs ≡ false → p z ≡ true)
         → Frame ds (folds c) w q d p → Frame ds (folds c) a.memory q (assign vs ts d) p')
         → PrefixCase w l vs a
-    not_read : ((ts : List Ground) → l ≡ tabbed ts ds → Fits vs ts → ⊥) → ((j k : ℕ) → a.scan ≡ Scanned j k → eqb j e ≡ false)
+    not_read : ((ts : List Ground) → l ≡ tabbed ts ds → Fits vs ts → ⊥) → ((j k : ℕ) → a.scan ≡ Some (j, k) → eqb j e ≡ false)
         → PrefixCase w l vs a
 
   -- Where no name is left, all terms were read exactly if the line ends there.
-  no_names : (w l : List ℕ) (i : ℕ) → e ≡ i + length l → PrefixCase w l [] (read w (Scanned i 0))
+  no_names : (w l : List ℕ) (i : ℕ) → e ≡ i + length l → PrefixCase w l [] (read w (Some (i, 0)))
   unfolding tabbed assign all_low elem
   no_names w [] i k =
       all_read [] refl (record { writable = tt; many = refl; low = refl }) 0
-      (ap (λ (z : ℕ). Scanned z 0) (let z : i ≡ e = omega arith in z)) (λ d p p' h f v u g. f v u (h v g refl))
-  no_names w (b ∷ l) i k = not_read (λ ts p f. empty ts p f.many) (λ j n h. ne_eqb j e (λ z. let o : i ≡ j = cc in omega arith))
+      (ap (λ (z : ℕ). Some (z, 0)) (let z : i ≡ e = omega arith in z)) (λ d p p' h f v u g. f v u (h v g refl))
+  no_names w (b ∷ l) i k = not_read (λ ts p f. empty ts p f.many) (λ j n h. ne_eqb j e (λ z. let o = (some_pair_parts i j 0 n h).0 in omega arith))
     where
       empty : (ts : List Ground) → b ∷ l ≡ tabbed ts ds → length ts ≡ 0 → ⊥
       empty [] p z = cons≢nil p
@@ -126,7 +127,7 @@ module _ (c : Setting) (filled : Filled c) (q m e : ℕ) (rest : List ℕ) where
 
   -- Where no terms fit and nothing was read, the case is `not-read`.
   failed : (w l vs : List ℕ) (w' : List ℕ) → ((ts : List Ground) → l ≡ tabbed ts ds → Fits vs ts → ⊥)
-      → PrefixCase w l vs (read w' Malformed)
+      → PrefixCase w l vs (read w' None)
   failed w l vs w' h = not_read h (λ j k z. absurd (let o : ◌≡◌ {A = ℕ} 0 1 = cc in omega arith))
 
   -- Where a term is due there is at least one term, after a tab.
@@ -144,7 +145,7 @@ module _ (c : Setting) (filled : Filled c) (q m e : ℕ) (rest : List ℕ) where
   -- A term before other terms or the end of the line is scanned.
   scan_tabbed : (i : ℕ) (t : Ground) (ts : List Ground) → drop i (folds c) ≡ spell_term t ds ++ (tabbed ts ds ++ (lf ∷ rest))
       → WritableTerm t ds
-      → scan_at c i ≡ Scanned (i + length (spell_term t ds)) (level t)
+      → scan_at c i ≡ Some (i + length (spell_term t ds), level t)
   unfolding tabbed is_name_byte is_letter is_small is_capital is_digit
   scan_tabbed i t [] h w = scan_there c filled i t lf rest h w refl
   scan_tabbed i t (u ∷ ts) h w = scan_there c filled i t 9 ((spell_term u ds ++ tabbed ts ds) ++ (lf ∷ rest)) h w refl
@@ -198,9 +199,9 @@ module _ (c : Setting) (filled : Filled c) (q m e : ℕ) (rest : List ℕ) where
       next : Read → Read
       next b =
           elim b.scan as (λ z. Read) [
-            | Scanned j k ↦ prefix_from n c.bytes c.table c.symbols c.text b.memory q
+            | Some (j, k) ↦ prefix_from n c.bytes c.table c.symbols c.text b.memory q
                 (a / 8) j m e
-            | Malformed ↦ b
+            | None ↦ b
           ]
 
       Later : Type 0
@@ -212,13 +213,13 @@ module _ (c : Setting) (filled : Filled c) (q m e : ℕ) (rest : List ℕ) where
 
       -- A line that begins with a term is scanned as that term.
       begins_so : (t : Ground) (ts : List Ground) → l ≡ 9 ∷ (spell_term t ds ++ tabbed ts ds) → WritableTerm t ds
-          → scan_at c (i + 1) ≡ Scanned (i + 1 + length (spell_term t ds)) (level t)
+          → scan_at c (i + 1) ≡ Some (i + 1 + length (spell_term t ds), level t)
       begins_so t ts p y =
           scan_tabbed (i + 1) t ts (drop_next (folds c) i 9 ((spell_term t ds ++ tabbed ts ds) ++ (lf ∷ rest)) (h ∙ ap (◌++ (lf ∷ rest)) p)
           ∙ append_assoc (spell_term t ds) (tabbed ts ds) (lf ∷ rest)) y
 
       -- The case of all terms follows from the first term and the case of the others.
-      joined : (u : Ground) (more : List ℕ) (j k : ℕ) (b : Read) → scan_at c (i + 1) ≡ Scanned j k → l ≡ 9 ∷ (spell_term u ds ++ more)
+      joined : (u : Ground) (more : List ℕ) (j k : ℕ) (b : Read) → scan_at c (i + 1) ≡ Some (j, k) → l ≡ 9 ∷ (spell_term u ds ++ more)
           → WritableTerm u ds
           → j ≡ i + 1 + length (spell_term u ds) → leb (level u) m ≡ true → drop (i + 1) (folds c) ≡ spell_term u ds ++ (more ++ (lf ∷ rest))
           → PrefixCase (put_range w q v (i + 1) j) more vs b → P b
@@ -232,15 +233,15 @@ module _ (c : Setting) (filled : Filled c) (q m e : ℕ) (rest : List ℕ) where
           g (update d₀ v u) t.0 p' t.2 t.1)
       joined u more j k b x p y z low d (not_read r s) =
           not_read (first_of l v vs (λ t ts o y₀ l₀ f.
-          let e₀ : Scanned j k ≡ Scanned (i + 1 + length (spell_term t ds)) (level t) = sym x ∙ begins_so t ts o y₀ in
-          let n : length (spell_term u ds) ≡ length (spell_term t ds) = (let g : j ≡ i + 1 + length (spell_term t ds) = cc in omega arith) in
+          let e₀ : Some (j, k) ≡ Some (i + 1 + length (spell_term t ds), level t) = sym x ∙ begins_so t ts o y₀ in
+          let n : length (spell_term u ds) ≡ length (spell_term t ds) = (let g = (some_pair_parts j (i + 1 + length (spell_term t ds)) k (level t) e₀).0 in omega arith) in
           r ts (same_rest (spell_term u ds) (spell_term t ds) more (tabbed ts ds) n
           (let g : spell_term u ds ++ more ≡ spell_term t ds ++ tabbed ts ds = tail_same (sym p ∙ o) in g)) f)) s
 
-      scanned : (j k : ℕ) → scan_at c (i + 1) ≡ Scanned j k → (l' : List ℕ) → l ≡ 9 ∷ l' → drop (i + 1) (folds c) ≡ l' ++ (lf ∷ rest) → Later
+      scanned : (j k : ℕ) → scan_at c (i + 1) ≡ Some (j, k) → (l' : List ℕ) → l ≡ 9 ∷ l' → drop (i + 1) (folds c) ≡ l' ++ (lf ∷ rest) → Later
           → P (next (prefix_term w q v (i + 1) j k m e))
       scanned j k₀ s l' p d ih =
-          subst (λ (b : Bool). P (next (cond b (cond (leb k₀ m) (read w₁ (Scanned j k₀)) (read w Malformed)) (read w Malformed))))
+          subst (λ (b : Bool). P (next (cond b (cond (leb k₀ m) (read w₁ (Some (j, k₀))) (read w None)) (read w None))))
           (sym (le-leb j e (let x = ap length p in let y = ap length t.spelled
           ∙ length-append (spell_term t.term ds) t.more in let o = t.end in let g = k in omega arith))) (low (leb k₀ m) refl)
         where
@@ -250,7 +251,7 @@ module _ (c : Setting) (filled : Filled c) (q m e : ℕ) (rest : List ℕ) where
           t : ScansTerm ds (folds c) (i + 1) l' rest j k₀
           t = scanned_there c filled (i + 1) l' rest j k₀ d s
 
-          low : (b : Bool) → leb k₀ m ≡ b → P (next (cond b (read w₁ (Scanned j k₀)) (read w Malformed)))
+          low : (b : Bool) → leb k₀ m ≡ b → P (next (cond b (read w₁ (Some (j, k₀))) (read w None)))
           low true b =
               joined t.term t.more j k₀ (prefix_from n c.bytes c.table c.symbols c.text w₁ q (a / 8) j m e) s (p
               ∙ ap (9 ∷◌) t.spelled) t.writable t.end
@@ -261,23 +262,22 @@ module _ (c : Setting) (filled : Filled c) (q m e : ℕ) (rest : List ℕ) where
               t.end in let g = k in omega arith))
           low false b =
               failed w l (v ∷ vs) w (first_of l v vs (λ u ts o y₀ l₀ f.
-              true≢false (sym l₀ ∙ ap (λ (x : ℕ). leb x m) (let e₀ : Scanned j k₀ ≡ Scanned (i + 1 + length (spell_term u ds)) (level u) =
-              sym s ∙ begins_so u ts o y₀ in let g : level u ≡ k₀ = cc in g) ∙ b)))
+              true≢false (sym l₀ ∙ ap (λ (x : ℕ). leb x m) (sym (some_pair_parts j (i + 1 + length (spell_term u ds)) k₀ (level u) (sym s ∙ begins_so u ts o y₀)).1) ∙ b)))
 
       term : (s : Scan) → scan_at c (i + 1) ≡ s → (l' : List ℕ) → l ≡ 9 ∷ l' → drop (i + 1) (folds c) ≡ l' ++ (lf ∷ rest) → Later
-          → P (next (elim s as (λ z. Read) [ Scanned j k ↦ prefix_term w q v (i + 1) j k m e | Malformed ↦ read w Malformed ]))
-      term (Scanned j k) s l' p d ih = scanned j k s l' p d ih
-      term Malformed s l' p d ih =
+          → P (next (elim s as (λ z. Read) [ Some (j, k) ↦ prefix_term w q v (i + 1) j k m e | None ↦ read w None ]))
+      term (Some (j, k)) s l' p d ih = scanned j k s l' p d ih
+      term None s l' p d ih =
           failed w l (v ∷ vs) w
-          (first_of l v vs (λ t ts o y u f. let z : Malformed ≡ Scanned (i + 1 + length (spell_term t ds)) (level t) = sym s
+          (first_of l v vs (λ t ts o y u f. let z : None ≡ Some (i + 1 + length (spell_term t ds), level t) = sym s
           ∙ begins_so t ts o y in let x : ◌≡◌ {A = ℕ} 0 1 = cc in omega arith))
 
       -- The line goes on with a tab.
       tab : (l' : List ℕ) → l ≡ l' → eqb (get_or (folds c) i 0) 9 ≡ true → Later
           → P (next (elim (scan_at c (i + 1)) as (λ z. Read) [
-            | Scanned j k ↦ prefix_term w q v (i + 1) j k m e
-            | Malformed ↦
-                read w Malformed
+            | Some (j, k) ↦ prefix_term w q v (i + 1) j k m e
+            | None ↦
+                read w None
           ]))
       tab [] p b ih = absurd (true≢false (sym b ∙ ap (λ (z : ℕ). eqb z 9) (byte_is (folds c) i lf rest (h ∙ ap (◌++ (lf ∷ rest)) p))))
       tab (x ∷ l') p b ih =

@@ -25,10 +25,9 @@ use Rattle.node_table.specs.Decoding.{clause_at_node, clauses_from, order_of, de
 use Rattle.node_table.specs.WellMade.{IsClause}
 use Rattle.scanning.specs.Fields as fields
 use Rattle.scanning.proofs.InstanceSpelling.{Frame}
-use Rattle.line_checking.specs.declared.Place.{Place}
-use Rattle.line_checking.specs.declared.Place.TheVariants.{At, Nowhere}
+use Rattle.std.specs.Prelude.{Some, None}
 use Rattle.line_checking.specs.HypothesisChains.{saturate, hypothesis_field, next_of, start_of, jump_of, passed_of, step_before}
-use Rattle.line_checking.specs.Members.{clause_from, hypothesis_from, oldest_from, place_from}
+use Rattle.line_checking.specs.Members.{Place, clause_from, hypothesis_from, oldest_from, place_from}
 use Rattle.line_checking.proofs.Representation.{Setting, folds, declared, sheet_of, sheet_clauses, joined_all, Filled, HypothesesAt}
 use Rattle.line_checking.proofs.Representation.{climb, JumpAt, ProgramAt}
 use Rattle.line_checking.proofs.HypothesisChains.{hypothesis_field_lem, climb_at}
@@ -57,8 +56,8 @@ module _ (c : Setting) (q : ℕ) (w : List ℕ) where
 
   -- What is found at place k.
   abbrev pub PlaceIs : List (Hypothesis Symbol) → ℕ → Place → Type 0
-  PlaceIs P k (At n f j) = EntryIs P k n f j
-  PlaceIs P k Nowhere = get_elem? (entries_of P) k ≡ none
+  PlaceIs P k (Some (n, f, j)) = EntryIs P k n f j
+  PlaceIs P k None = get_elem? (entries_of P) k ≡ none
 
 module _ (c : Setting) (filled : Filled c) (q : ℕ) (w : List ℕ) (some-line : 0 < q) where
   -- A member of the first hypothesis is the entry of the program with its number.
@@ -87,7 +86,7 @@ module _ (c : Setting) (filled : Filled c) (q : ℕ) (w : List ℕ) (some-line :
   -- A place is found as well in other clauses with the same entry.
   place_same : (P Q : List (Hypothesis Symbol)) (k j : ℕ) (p : Place) → get_elem? (entries_of P) k ≡ get_elem? (entries_of Q) j
       → PlaceIs c q w Q j p → PlaceIs c q w P k p
-  place_same P Q k j (At m f o) s z = record {
+  place_same P Q k j (Some (m, f, o)) s z = record {
     node = z.node;
     is = z.is;
     formed = z.formed;
@@ -97,7 +96,7 @@ module _ (c : Setting) (filled : Filled c) (q : ℕ) (w : List ℕ) (some-line :
     frame = z.frame;
     entry_is = s ∙ z.entry_is;
   }
-  place_same P Q k j Nowhere s z = s ∙ z
+  place_same P Q k j None s z = s ∙ z
 
   -- An entry past those of the first hypothesis is found among the others.
   in_others : (a : Hypothesis Symbol) (P : List (Hypothesis Symbol)) (n k : ℕ) (p : Place) → n < c.nodes → IsClause c.table n
@@ -132,7 +131,7 @@ module _ (c : Setting) (filled : Filled c) (q : ℕ) (w : List ℕ) (some-line :
 
       go : (b : Bool) → ltb k (members_of c.table m) ≡ b → m < c.nodes → IsClause c.table m
           → ((j : ℕ) → PlaceIs c q w P j (clause_from n c.table (suc i) j))
-          → PlaceIs c q w (a ∷ P) k (cond b (At m 0 k) (clause_from n c.table (suc i) (k - members_of c.table m)))
+          → PlaceIs c q w (a ∷ P) k (cond b (Some (m, 0, k)) (clause_from n c.table (suc i) (k - members_of c.table m)))
       go true p u y ih = in_first a P m 0 k u y refl h.0 some-line (λ v o f. absurd (z.0 v f)) (ltb-true k (members_of c.table m) p)
       go false p u y ih =
           in_others a P m k (clause_from n c.table (suc i) (k - members_of c.table m)) u y refl
@@ -148,7 +147,7 @@ module _ (c : Setting) (filled : Filled c) (q : ℕ) (w : List ℕ) (some-line :
       → oldest_from (suc n) c.table c.clauses w h k ≡ cond (ltb k (field w r fields.hypothesis_start))
       (oldest_from n c.table c.clauses w (step_before w h k) k)
       (cond (ltb (k - field w r fields.hypothesis_start) (members_of c.table (field w r fields.hypothesis_node)))
-      (At (field w r fields.hypothesis_node) (field w r fields.hypothesis_frame) (k - field w r fields.hypothesis_start)) Nowhere)
+      (Some (field w r fields.hypothesis_node, field w r fields.hypothesis_frame, k - field w r fields.hypothesis_start)) None)
   unfolding oldest_from
   oldest_step n h r k e =
       let z : h - 1 ≡ r = omega arith in
@@ -211,7 +210,7 @@ module _ (c : Setting) (filled : Filled c) (q : ℕ) (w : List ℕ) (some-line :
 
       go : (b : Bool) → ltb k (members_of c.table m) ≡ b → (d : Bool) → ltb k v ≡ d → Found
           → PlaceIs c q w (a ∷ joined_all latest l S) k
-          (cond b (At m (field w r fields.hypothesis_frame) k)
+          (cond b (Some (m, field w r fields.hypothesis_frame, k))
           (cond d (hypothesis_from n c.table c.clauses w (field w r fields.hypothesis_next) (k - members_of c.table m))
           (hypothesis_from n c.table c.clauses w (field w r fields.hypothesis_jump) (k - v))))
       go true y d x ih =
@@ -318,7 +317,7 @@ module _ (c : Setting) (filled : Filled c) (q : ℕ) (w : List ℕ) (some-line :
       -- The walk from the latest hypothesis.
       here : oldest_from (suc n) c.table c.clauses w h k ≡ cond (ltb k s)
           (oldest_from n c.table c.clauses w (Step (ltb k (start_of w (jump_of w h)))) k)
-          (cond (ltb (k - s) (members_of c.table m)) (At m (field w r fields.hypothesis_frame) (k - s)) Nowhere)
+          (cond (ltb (k - s) (members_of c.table m)) (Some (m, field w r fields.hypothesis_frame, k - s)) None)
       here = oldest_step n h r k p.1
 
       -- The members of the hypothesis are the last ones.
@@ -337,7 +336,7 @@ module _ (c : Setting) (filled : Filled c) (q : ℕ) (w : List ℕ) (some-line :
       go : (x y z : Bool) → ltb k s ≡ x → ltb (k - s) (members_of c.table m) ≡ y → ltb k (start_of w (jump_of w h)) ≡ z → Found
           → PlaceIs c q w (P ++ (a ∷ [])) k
           (cond x (oldest_from n c.table c.clauses w (Step z) k)
-          (cond y (At m (field w r fields.hypothesis_frame) (k - s)) Nowhere))
+          (cond y (Some (m, field w r fields.hypothesis_frame, k - s)) None))
       go true y true t₁ t₂ t₃ ih =
           let Q = joined_all oldest (drop J.steps (a ∷ l)) S in
           let b = subst (λ (y : ℕ). k < start_of w y) J.there (ltb-true k (start_of w (jump_of w h)) t₃) in

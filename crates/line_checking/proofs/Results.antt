@@ -19,13 +19,16 @@ use Rattle.text_judging.specs.Judging.{allow}
 use Rattle.text_judging.specs.Reading.{span}
 use Rattle.text_judging.proofs.Spans.{span_split}
 use Rattle.text_judging.proofs.Reading.{line_bytes}
-use Rattle.scanning.specs.declared.Number.TheVariants.{Value}
+use Rattle.std.proofs.lemmas.Option.{some_pair_parts}
+use Rattle.std.specs.Prelude.{Some}
 use Rattle.scanning.specs.Ranges.{scan_number}
 use Rattle.scanning.proofs.Positions.{drop_past}
 use Rattle.scanning.proofs.Ranges.{begins, begins_rest, rest_begins, range_begins, number_to, read_number}
 use Rattle.scanning.proofs.TermsInText.{split_lf}
 use Rattle.line_checking.specs.declared.Registers.{Registers}
-use Rattle.line_checking.specs.Sequents.{Made, made, with_stage, broken, broken_stage}
+use Rattle.line_checking.specs.Sequents.{Made, with_stage, broken, is_broken}
+use Rattle.line_checking.specs.declared.TextStage.{TextStage}
+use Rattle.line_checking.specs.declared.TextStage.TheVariants.{Opening, Binding, Deriving, Done, Broken}
 use Rattle.line_checking.specs.Bindings.{begins_with, is_line}
 use Rattle.line_checking.proofs.Lines.{is_word, word_solid, word_without}
 use Rattle.line_checking.proofs.Representation.{Setting, declared, sheet_of, Holds}
@@ -39,13 +42,13 @@ module _ (c : Setting) where
     pub after : Stage
     pub allowed : allow (sheet_of c) line a ≡ some after
     pub holds : Holds c (suc q) m.memory m.registers after
-    pub goes_on : m.registers.stage ≡ broken_stage → ⊥
+    pub goes_on : m.registers.stage ≡ Broken → ⊥
     pub same_made_lem : m.registers.made ≡ r.made
     pub same_leftover_lem : m.registers.leftover ≡ r.leftover
 
   -- It breaks.
   pub record Wrong (l : List ℕ) (a : Stage) (m : Made) : Type 0 where
-    pub stops : m.registers.stage ≡ broken_stage
+    pub stops : m.registers.stage ≡ Broken
     pub unfit : (line : TextLine) → l ≡ line_bytes (declared c) line → Writable (declared c) line → allow (sheet_of c) line a ≡ none
 
   -- One of the two.
@@ -58,6 +61,14 @@ module _ (c : Setting) where
       → Result q l a r (broken w s)
   unfolding broken with_stage
   is_wrong q l a w r s h = inr (record { stops = refl; unfit = h })
+
+-- A stage other than the broken one.
+pub not_broken : (s : TextStage) → (s ≡ Broken → ⊥) → is_broken s ≡ false
+not_broken Broken h = absurd (h refl)
+not_broken Opening h = refl
+not_broken Binding h = refl
+not_broken Deriving h = refl
+not_broken Done h = refl
 
 -- What holds on both sides of a test holds of the value chosen.
 pub either_side : {A : Type 0} (P : A → Type 0) (b : Bool) (x y : A) → (b ≡ true → P x) → (b ≡ false → P y) → P (cond b x y)
@@ -127,7 +138,7 @@ pub record ReadsNumber (x : List ℕ) (i : ℕ) (l r : List ℕ) (n e : ℕ) : T
   pub rest : drop e x ≡ more ++ (lf ∷ r)
 
 -- What is read as a number is a number spelled there.
-pub number_there : (x : List ℕ) (i : ℕ) (l r : List ℕ) (n e : ℕ) → drop i x ≡ l ++ (lf ∷ r) → scan_number x i ≡ Value n e
+pub number_there : (x : List ℕ) (i : ℕ) (l r : List ℕ) (n e : ℕ) → drop i x ≡ l ++ (lf ∷ r) → scan_number x i ≡ Some (n, e)
     → ReadsNumber x i l r n e
 unfolding is_digit
 number_there x i l r n e d h = go (number a) refl (number_some a) (sym (read_number x i) ∙ h)
@@ -135,12 +146,13 @@ number_there x i l r n e d h = go (number a) refl (number_some a) (sym (read_num
     a : List ℕ
     a = (span is_digit (drop i x)).taken
 
-    go : (o : Option ℕ) → number a ≡ o → OnSome (λ k. (a ≡ decimal k) × (k ≤ max_number)) o → number_to (i + length a) o ≡ Value n e
+    go : (o : Option ℕ) → number a ≡ o → OnSome (λ k. (a ≡ decimal k) × (k ≤ max_number)) o → number_to (i + length a) o ≡ Some (n, e)
         → ReadsNumber x i l r n e
     go none p q y = absurd (let z : ◌≡◌ {A = ℕ} 0 1 = cc in omega arith)
     go (some k) p q y =
-        let u : k ≡ n = cc in
-        let v : i + length a ≡ e = cc in
+        let parts = some_pair_parts k n (i + length a) e y in
+        let u = parts.0 in
+        let v = parts.1 in
         let b : a ≡ decimal n = q.0 ∙ ap decimal u in
         let s = split_lf l r (decimal n) (span is_digit (drop i x)).rest (sym d ∙ span_split is_digit (drop i x)
         ∙ ap (◌++ (span is_digit (drop i x)).rest) b)

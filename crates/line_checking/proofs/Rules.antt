@@ -36,8 +36,8 @@ use Rattle.text_judging.proofs.Reading.{line_bytes}
 use Rattle.answer_texts.proofs.Declared.{marked}
 use Rattle.scanning.specs.Fields as fields
 use Rattle.scanning.proofs.Positions.{byte_is, within}
-use Rattle.scanning.specs.declared.Scan.{Scan}
-use Rattle.scanning.specs.declared.Scan.TheVariants.{Term as Scanned, Malformed}
+use Rattle.scanning.specs.Scanning.{Scan}
+use Rattle.std.specs.Prelude.{Some, None}
 use Rattle.scanning.specs.Scanning.{scan_symbol, scan_term}
 use Rattle.scanning.specs.Frames.{bind_frame}
 use Rattle.scanning.proofs.TermsInText.{SpelledAt, spelling_injective}
@@ -149,7 +149,7 @@ module _ (c : Setting) (filled : Filled c) (q : ℕ) (w : List ℕ) (room : Room
   and_result k =
       either_side R (is_line (ascii "D\tand") c.text i e) _ (broken w r)
       (λ b. right_line_lem c q l g gs G goal r (left w' regs) (plain Dand) _
-      (line_folded c.text i l rest here (ascii "D\tand") e refl refl end b) tt refl holds (λ z. omega arith) refl refl)
+      (line_folded c.text i l rest here (ascii "D\tand") e refl refl end b) tt refl holds (λ z. cc) refl refl)
       (λ b. wrong_line c q l g gs G goal w r r (unfit b))
     where
       G : Goal
@@ -240,11 +240,11 @@ module _ (c : Setting) (filled : Filled c) (q : ℕ) (w : List ℕ) (room : Room
       either_side R (is_line (ascii "D\tleft") c.text i e) (left w (with_child t r 0)) _
       (λ b. right_line_lem c q l g gs G goal r (left w (with_child t r 0)) (plain Dleft) _
       (line_folded c.text i l rest here (ascii "D\tleft") e refl refl end b) tt refl
-      (refl, one, after) (λ z. omega arith) refl refl)
+      (refl, one, after) (λ z. cc) refl refl)
       (λ b. either_side R (is_line (ascii "D\tright") c.text i e) (left w (with_child t r 1)) (broken w r)
       (λ a. right_line_lem c q l g gs G goal r (left w (with_child t r 1)) (plain Dright) _
       (line_folded c.text i l rest here (ascii "D\tright") e refl refl end a) tt refl
-      (refl, two, after) (λ z. omega arith) refl refl)
+      (refl, two, after) (λ z. cc) refl refl)
       (λ a. wrong_line c q l g gs G goal w r r (unfit b a)))
     where
       A : Goal
@@ -299,7 +299,7 @@ module _ (c : Setting) (filled : Filled c) (q : ℕ) (w : List ℕ) (room : Room
   assume_result k =
       either_side R (is_line (ascii "D\tassume") c.text i e) _ (broken w r)
       (λ b. right_line_lem c q l g gs G goal r (left w' regs) (plain Dassume) _
-      (line_folded c.text i l rest here (ascii "D\tassume") e refl refl end b) tt refl holds (λ z. omega arith) refl refl)
+      (line_folded c.text i l rest here (ascii "D\tassume") e refl refl end b) tt refl holds (λ z. cc) refl refl)
       (λ b. wrong_line c q l g gs G goal w r r (unfit b))
     where
       C : Clause
@@ -509,10 +509,10 @@ module _ (c : Setting) (filled : Filled c) (q : ℕ) (w : List ℕ) (room : Room
           rests : (u : Ground) → l ≡ word ++ spell_term u ds → m ≡ spell_term u ds
           rests u o = append_cancel_left word m (spell_term u ds) (sym p ∙ o)
 
-          scan : (z : Scan) → ((j k : ℕ) → z ≡ Scanned j k → eqb j e ≡ false) → R (broken w r)
-              → R (elim z as (λ b. Made) [ Scanned j k ↦ some_with t w r q (i + 7) j k e | Malformed ↦ broken w r ])
-          scan Malformed h b = b
-          scan (Scanned j k) h b = rw (h j k refl) b
+          scan : (z : Scan) → ((j k : ℕ) → z ≡ Some (j, k) → eqb j e ≡ false) → R (broken w r)
+              → R (elim z as (λ b. Made) [ Some (j, k) ↦ some_with t w r q (i + 7) j k e | None ↦ broken w r ])
+          scan None h b = b
+          scan (Some (j, k)) h b = rw (h j k refl) b
 
           high : (u x : Ground) → u ≡ x → leb (level u) r.level ≡ false → inferred c q l g gs G goal (Dsome x) ≡ none
           high u x a b =
@@ -531,7 +531,7 @@ module _ (c : Setting) (filled : Filled c) (q : ℕ) (w : List ℕ) (room : Room
               (ap (leb (level u)) at.level ∙ b))
               (let a = node.exists k in body B v refl refl a.0 a.1 a.2 formed.1 (λ z. ap (λ (y : Goal). free_g y z) tree)
               (i + 7) e u s g.level r.level at.level)
-              (λ z. omega arith) refl refl)
+              (λ z. cc) refl refl)
               (λ b. wrong_line c q l g gs G goal w r r
               (only (λ x z y. high u x (spelling_injective u x ds (names_of_lem c filled) s.writable y (sym o ∙ rests x z)) b)))))
 
@@ -584,10 +584,10 @@ module _ (c : Setting) (filled : Filled c) (q : ℕ) (w : List ℕ) (room : Room
           rests : (u : Ground) → l ≡ ascii "D\tall\t" ++ spell_term u ds → 33 ∷ m ≡ spell_term u ds
           rests u o = append_cancel_left (ascii "D\tall\t") (33 ∷ m) (spell_term u ds) (sym p ∙ o)
 
-          scan : (z : Scan) → ((j k : ℕ) → z ≡ Scanned j k → eqb j e ≡ false) → R (broken w r)
-              → R (elim z as (λ b. Made) [ Scanned j k ↦ all_with t w r q (i + 6) j k e | Malformed ↦ broken w r ])
-          scan Malformed h b = b
-          scan (Scanned j k) h b = rw (h j k refl) b
+          scan : (z : Scan) → ((j k : ℕ) → z ≡ Some (j, k) → eqb j e ≡ false) → R (broken w r)
+              → R (elim z as (λ b. Made) [ Some (j, k) ↦ all_with t w r q (i + 6) j k e | None ↦ broken w r ])
+          scan None h b = b
+          scan (Some (j, k)) h b = rw (h j k refl) b
 
           -- After its first byte the term is scanned as a symbol.
           symbol : scan_at c (i + 6) ≡ scan_symbol c.text (i + 6 + 1)
@@ -623,7 +623,7 @@ module _ (c : Setting) (filled : Filled c) (q : ℕ) (w : List ℕ) (room : Room
               (eq-eqb j (suc g.level) (sym z)))
               (let x = node.forall k in body B v refl refl x.0 x.1 x.2 formed.1 (λ y. ap (λ (d : Goal). free_g d y) tree)
               (i + 6) e (leaf (made a j)) s (suc g.level) j z)
-              (λ x. omega arith) refl refl)
+              (λ x. cc) refl refl)
               (λ b. wrong_line c q l g gs G goal w r r
               (only (λ d x z y. uneven d x j b
               (same d x (spelling_injective (leaf (made a j)) (leaf (made d x)) ds (names_of_lem c filled) s.writable y (sym o

@@ -8,10 +8,9 @@ use lib.ListN.{length}
 use Rattle.sheet_format.specs.Limits.{max_budget}
 use Rattle.sheet_format.specs.Bytes.{ascii}
 use Rattle.node_table.specs.Layout.{members_of, label_of, child_of}
-use Rattle.scanning.specs.declared.Number.{Number}
-use Rattle.scanning.specs.declared.Number.TheVariants.{Value, Missing}
-use Rattle.scanning.specs.declared.Scan.{Scan}
-use Rattle.scanning.specs.declared.Scan.TheVariants.{Term as Scanned, Malformed}
+use Rattle.scanning.specs.Ranges.{Number}
+use Rattle.std.specs.Prelude.{Some, None}
+use Rattle.scanning.specs.Scanning.{Scan}
 use Rattle.scanning.specs.Fields as fields
 use Rattle.scanning.specs.Ranges.{scan_number}
 use Rattle.scanning.specs.Scanning.{scan_symbol, scan_term}
@@ -19,11 +18,10 @@ use Rattle.scanning.specs.Frames.{copy_ranges}
 use Rattle.scanning.specs.BriefComparisons.{same_atoms}
 use Rattle.scanning.proofs.Records.{Kept, kept_self, kept_then, puts_kept, copy_kept, bind_kept}
 use Rattle.line_checking.specs.declared.Registers.{Registers}
-use Rattle.line_checking.specs.declared.Place.{Place}
-use Rattle.line_checking.specs.declared.Place.TheVariants.{At, Nowhere}
+use Rattle.std.specs.Prelude.{Some, None}
 use Rattle.line_checking.specs.Sequents.{Made, broken, put_sequent, put_hypothesis}
 use Rattle.line_checking.specs.HypothesisChains.{links_after, put_links}
-use Rattle.line_checking.specs.Members.{start_after, place_from}
+use Rattle.line_checking.specs.Members.{Place, start_after, place_from}
 use Rattle.line_checking.specs.Bindings.{begins_with, is_line, check_result_with, check_units, check_result, bind_with, bind_term}
 use Rattle.line_checking.specs.Bindings.{binds_variable, bind_line}
 use Rattle.line_checking.specs.Rules.{true_line, and_line, or_line, assume_line, bind_goal, some_with, some_term, some_line, all_with}
@@ -47,15 +45,15 @@ module _ (q : ℕ) (w : List ℕ) where
 
   -- What follows reading a number writes only record q if each case does.
   of_number : (o : Number) (f : ℕ → ℕ → Made) (y : Made) → ((n j : ℕ) → Kept q w (f n j).memory) → Kept q w y.memory
-      → Kept q w (elim o as (λ z. Made) [ Value n j ↦ f n j | Missing ↦ y ]).memory
-  of_number (Value n j) f y h k = h n j
-  of_number Missing f y h k = k
+      → Kept q w (elim o as (λ z. Made) [ Some (n, j) ↦ f n j | None ↦ y ]).memory
+  of_number (Some (n, j)) f y h k = h n j
+  of_number None f y h k = k
 
   -- What follows reading a term writes only record q if each case does.
   of_scan : (s : Scan) (f : ℕ → ℕ → Made) (y : Made) → ((j k : ℕ) → Kept q w (f j k).memory) → Kept q w y.memory
-      → Kept q w (elim s as (λ z. Made) [ Scanned j k ↦ f j k | Malformed ↦ y ]).memory
-  of_scan (Scanned j k) f y h u = h j k
-  of_scan Malformed f y h u = u
+      → Kept q w (elim s as (λ z. Made) [ Some (j, k) ↦ f j k | None ↦ y ]).memory
+  of_scan (Some (j, k)) f y h u = h j k
+  of_scan None f y h u = u
 
   module _ (b t : List ℕ) (symbols : ℕ) (x : List ℕ) (r : Registers) (i e : ℕ) where
     -- The R line writes only record q.
@@ -143,13 +141,13 @@ module _ (q : ℕ) (w : List ℕ) where
     -- Using an entry writes only record q.
     place_kept : (p : Place) (j : ℕ) → Kept q w (use_place b t symbols x w r q p j e).memory
     unfolding use_place use_found
-    place_kept (At n f k) j =
+    place_kept (Some (n, f, k)) j =
         let m = member t n k in
         let a = prefix_from m.count b t symbols x (copy_ranges fields.frame_numbers w q f 0) q m.names j r.level e in
         member_kept m.leaf a
         (kept_then q w (copy_ranges fields.frame_numbers w q f 0) a.memory (copy_kept 16 w q f 0 (omega arith))
         (prefix_kept m.count b t symbols x (copy_ranges fields.frame_numbers w q f 0) q m.names j r.level e))
-    place_kept Nowhere j = none_written r
+    place_kept None j = none_written r
 
     -- A `D clause` line writes only record q.
     pub clause_kept : (clauses : ℕ) → Kept q w (clause_line b t symbols clauses x w r q i e).memory

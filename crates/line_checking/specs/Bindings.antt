@@ -3,8 +3,7 @@ use Rattle.std.specs.Prelude.{ℕ, ◌+◌, ◌-◌, Bool, false, cond, List, eq
 use Prim.Native.Char.{code}
 use Rattle.sheet_format.specs.Limits.{max_budget}
 use Rattle.sheet_format.specs.Bytes.{ascii, tab}
-use Rattle.scanning.specs.declared.Number.TheVariants.{Value, Missing}
-use Rattle.scanning.specs.declared.Scan.TheVariants.{Term, Malformed}
+use Rattle.std.specs.Prelude.{Some, None}
 use Rattle.scanning.specs.Ranges.{same_range, scan_number}
 use Rattle.scanning.specs.Scanning.{scan_term}
 use Rattle.scanning.specs.Frames.{bind_frame}
@@ -26,7 +25,7 @@ check_result_with t goal w r n j e =
 
 -- This reads the number of units at position i.
 unfoldable pub check_units : List ℕ → ℕ → List ℕ → ℕ → List ℕ → Registers → ℕ → Made
-check_units t goal x i w r e = elim (scan_number x i) [ Value n j ↦ check_result_with t goal w r n j e | Missing ↦ broken w r ]
+check_units t goal x i w r e = elim (scan_number x i) [ Some (n, j) ↦ check_result_with t goal w r n j e | None ↦ broken w r ]
 
 -- This judges an R line from position i on.
 unfoldable pub check_result : List ℕ → ℕ → List ℕ → List ℕ → Registers → ℕ → ℕ → Made
@@ -41,7 +40,7 @@ bind_with t goal w r q i j k e =
 -- This reads the term of a B line at position i.
 unfoldable pub bind_term : List ℕ → List ℕ → ℕ → ℕ → List ℕ → List ℕ → Registers → ℕ → ℕ → ℕ → Made
 bind_term b t symbols goal x w r q i e =
-    elim (scan_term (length x) b t symbols x i) [ Term j k ↦ bind_with t goal w r q i j k e | Malformed ↦ broken w r ]
+    elim (scan_term (length x) b t symbols x i) [ Some (j, k) ↦ bind_with t goal w r q i j k e | None ↦ broken w r ]
 
 -- The line begins with `B` and the variable v.
 unfoldable pub binds_variable : List ℕ → ℕ → ℕ → Bool

@@ -2,7 +2,7 @@
 use Rattle.std.specs.Prelude.{ℕ, ◌+◌, cond, List, eqb, leb, length}
 use Rattle.sheet_format.specs.Bytes.{ascii}
 use Rattle.node_table.specs.Layout.{members_of, label_of, child_of}
-use Rattle.scanning.specs.declared.Scan.TheVariants.{Term, Malformed}
+use Rattle.std.specs.Prelude.{Some, None}
 use Rattle.scanning.specs.Scanning.{scan_symbol, scan_term}
 use Rattle.scanning.specs.Frames.{bind_frame}
 use Rattle.line_checking.specs.declared.Registers.{Registers}
@@ -54,7 +54,7 @@ some_with t w r q i j k e = cond (eqb j e) (cond (leb k r.level) (bind_goal t w 
 -- This reads the term of a `D some` line at position i.
 unfoldable pub some_term : List ℕ → List ℕ → ℕ → List ℕ → List ℕ → Registers → ℕ → ℕ → ℕ → Made
 some_term b t symbols x w r q i e =
-    elim (scan_term (length x) b t symbols x i) [ Term j k ↦ some_with t w r q i j k e | Malformed ↦ broken w r ]
+    elim (scan_term (length x) b t symbols x i) [ Some (j, k) ↦ some_with t w r q i j k e | None ↦ broken w r ]
 
 -- This judges a `D some` line from position i on.
 unfoldable pub some_line : List ℕ → List ℕ → ℕ → List ℕ → List ℕ → Registers → ℕ → ℕ → ℕ → Made
@@ -66,7 +66,7 @@ all_with t w r q i j k e = cond (eqb j e) (cond (eqb k (r.level + 1)) (bind_goal
 
 -- This reads the constant of a `D all` line at position i, after its first byte.
 unfoldable pub all_constant : List ℕ → List ℕ → List ℕ → Registers → ℕ → ℕ → ℕ → Made
-all_constant t x w r q i e = elim (scan_symbol x (i + 1)) [ Term j k ↦ all_with t w r q i j k e | Malformed ↦ broken w r ]
+all_constant t x w r q i e = elim (scan_symbol x (i + 1)) [ Some (j, k) ↦ all_with t w r q i j k e | None ↦ broken w r ]
 
 -- This judges a `D all` line from position i on.
 unfoldable pub all_line : List ℕ → List ℕ → List ℕ → Registers → ℕ → ℕ → ℕ → Made

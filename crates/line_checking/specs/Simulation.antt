@@ -1,6 +1,6 @@
 -- What is proved of the checker's work on flat memory: it gives exactly the judgement of the text, whatever the lent buffer held
 -- before, and writes only the 64 numbers of each LF.
-use Rattle.std.specs.Prelude.{ℕ, zero, suc, ◌*◌, ◌≤◌, ◌≡◌, List, length, drop}
+use Rattle.std.specs.Prelude.{ℕ, ◌*◌, ◌≤◌, ◌≡◌, List, length, drop, Option, Some, None}
 use Rattle.sheet_format.specs.Bytes.{lines_of}
 use Rattle.sheet_format.specs.Sheets.{Sheet, sheet, read_sheet}
 use Rattle.sheet_format.specs.Limits.{numbers_per_unit}
@@ -12,9 +12,9 @@ use Rattle.text_judging.specs.Judging.{judge}
 use Rattle.line_checking.specs.Judging.{Judged, judge_text}
 
 -- A verdict as a judgement.
-unfoldable pub judgement_of : ℕ → Judgement
-judgement_of zero = valid
-judgement_of (suc k) = invalid (suc k)
+unfoldable pub judgement_of : Option ℕ → Judgement
+judgement_of None = valid
+judgement_of (Some k) = invalid k
 
 -- How many LF the text has: one for each whole line.
 unfoldable pub line_feeds : List ℕ → ℕ

@@ -1,5 +1,5 @@
 -- Laws of `specs/Lines.antt` and of the lines of `sheet_format`: one for each way through the code. Assumes nothing.
-use Prim.Native.Nat.{ℕ, ◌-◌}
+use Prim.Native.Nat.{ℕ, ◌-◌, ◌≤◌}
 use Prim.Native.Char.{code}
 use native.Mathlib.Omega.{arith}
 use mathlib.Core.Bool.{true, false}
@@ -9,6 +9,7 @@ use mathlib.Core.Logic.{◌⊎◌, inl, inr}
 use mathlib.Core.Option.{Option, none, some}
 use lib.ListN.{length, drop, take, get_or}
 use borrow.Author.Tests.{ne_eqb}
+use Rattle.std.specs.Prelude.{Ok}
 use Rattle.sheet_format.specs.Bytes.{tab, fields}
 use Rattle.sheet_format.specs.SheetLines.{variable_line, number_line, true_line, SheetLine, node_line, clause_line, goal_line, numbers}
 use Rattle.sheet_format.specs.SheetLines.{declaration, no_number, one_number, two_numbers, with_variable, application, line_of, of_fields}
@@ -108,35 +109,42 @@ letter_other c s f p v n a o q l g =
 -- the whole line
 
 -- An empty line is malformed.
-pub line_empty : (s : List ℕ) → length s ≡ 0 → malformed ≡ line_answer (parse_line s)
+line_empty : (s : List ℕ) → length s ≡ 0 → malformed ≡ line_answer (parse_line s)
 unfolding parse_line of_fields fields line_answer
 line_empty [] h = refl
 line_empty (c ∷ cs) h = absurd (omega arith)
 
 -- The letter Y alone is the line of true.
-pub line_true : (s : List ℕ) → length s ≡ 1 → get_or s 0 0 ≡ code "Y" → Node True ≡ line_answer (parse_line s)
+pub line_true : (s : List ℕ) → length s ≡ 1 → get_or s 0 0 ≡ code "Y" → Ok (Node True) ≡ line_answer (parse_line s)
 unfolding line_of numbers no_number line_answer node_answer
 line_true [] h e = absurd (omega arith)
 line_true (c ∷ []) h e = rw (alone c, e)
 line_true (c ∷ d ∷ ds) h e = absurd (omega arith)
 
 -- A letter alone other than Y is malformed.
-pub line_alone : (s : List ℕ) → length s ≡ 1 → (get_or s 0 0 ≡ code "Y" → ⊥) → malformed ≡ line_answer (parse_line s)
+line_alone : (s : List ℕ) → length s ≡ 1 → (get_or s 0 0 ≡ code "Y" → ⊥) → malformed ≡ line_answer (parse_line s)
 unfolding line_of numbers no_number one_number two_numbers with_variable application declaration line_answer
 line_alone [] h e = absurd (omega arith)
 line_alone (c ∷ []) h e = rw (alone c) (simp (ne_eqb c (code "Y") e, cond_same))
 line_alone (c ∷ d ∷ ds) h e = absurd (omega arith)
 
 -- Where a tab follows the letter, the fields of the rest are read.
-pub line_fields_lem : (s : List ℕ) → (length s ≡ 0 → ⊥) → (length s ≡ 1 → ⊥) → get_or s 1 0 ≡ tab
+pub line_fields_lem : (s : List ℕ) → 2 ≤ length s → get_or s 1 0 ≡ tab
     → line_answer (line_of (get_or s 0 0) (fields (take (length s - 2) (drop 2 s)))) ≡ line_answer (parse_line s)
-line_fields_lem [] h k e = absurd (h refl)
-line_fields_lem (c ∷ []) h k e = absurd (k refl)
-line_fields_lem (c ∷ d ∷ ds) h k e = rw (rest_part 2 (c ∷ d ∷ ds), e) (rw (lettered c ds))
+line_fields_lem [] h e = absurd (omega arith)
+line_fields_lem (c ∷ []) h e = absurd (omega arith)
+line_fields_lem (c ∷ d ∷ ds) h e = rw (rest_part 2 (c ∷ d ∷ ds), e) (rw (lettered c ds))
 
 -- Where another byte than a tab follows the letter, the line is malformed.
-pub line_long : (s : List ℕ) → (length s ≡ 0 → ⊥) → (length s ≡ 1 → ⊥) → (get_or s 1 0 ≡ tab → ⊥) → malformed ≡ line_answer (parse_line s)
+line_long : (s : List ℕ) → (length s ≡ 0 → ⊥) → (length s ≡ 1 → ⊥) → (get_or s 1 0 ≡ tab → ⊥) → malformed ≡ line_answer (parse_line s)
 unfolding line_answer
 line_long [] h k e = absurd (h refl)
 line_long (c ∷ []) h k e = absurd (k refl)
 line_long (c ∷ d ∷ ds) h k e = rw (long c d ds (ne_eqb d tab e))
+
+-- Any other line is malformed.
+pub line_other : (s : List ℕ) → (length s ≡ 1 → get_or s 0 0 ≡ code "Y" → ⊥) → (2 ≤ length s → get_or s 1 0 ≡ tab → ⊥)
+    → malformed ≡ line_answer (parse_line s)
+line_other [] h k = line_empty [] refl
+line_other (c ∷ []) h k = line_alone (c ∷ []) refl (h refl)
+line_other (c ∷ d ∷ ds) h k = line_long (c ∷ d ∷ ds) (λ e. omega arith) (λ e. omega arith) (k (omega arith))

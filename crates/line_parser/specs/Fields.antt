@@ -1,13 +1,9 @@
 -- The first field of the rest of a line: where it ends, and what it says as a number and as a name.
 -- Document 01: "fields are parted by one tab"; numbers and names are those of `sheet_format`.
-use Rattle.std.specs.Prelude.{ℕ, suc, Bool, ◌||◌, cond, List, [], ◌∷◌, eqb, take}
+use Rattle.std.specs.Prelude.{ℕ, suc, Bool, ◌||◌, cond, List, [], ◌∷◌, eqb, take, Option, Some, None}
 use Prim.Native.Char.{code}
-use Rattle.std.proofs.Math.Option.{Option, none, some}
+use Rattle.std.proofs.Math.Option.{Option as MathOption, none, some}
 use Rattle.sheet_format.specs.Bytes.{tab, number, is_capital, is_digit, is_name}
-use Rattle.line_parser.specs.declared.fields.Number.{Number}
-use Rattle.line_parser.specs.declared.fields.Number.TheVariants.{Value, Bad}
-use Rattle.line_parser.specs.declared.names.Name.{Name}
-use Rattle.line_parser.specs.declared.names.Name.TheVariants.{Of, NotAName}
 
 -- The position of the first tab, or the length where there is none.
 unfoldable pub field_len : List ℕ → ℕ
@@ -19,12 +15,12 @@ unfoldable pub first_field : List ℕ → List ℕ
 first_field s = take (field_len s) s
 
 -- The answer for a field of n bytes that says a number or none.
-unfoldable pub number_answer : ℕ → Option ℕ → Number
-number_answer n none = Bad
-number_answer n (some v) = Value v n
+unfoldable pub number_answer : ℕ → MathOption ℕ → Option (ℕ × ℕ)
+number_answer n none = None
+number_answer n (some v) = Some (v, n)
 
 -- The first field as a number, with its length.
-unfoldable pub first_number : List ℕ → Number
+unfoldable pub first_number : List ℕ → Option (ℕ × ℕ)
 first_number s = number_answer (field_len s) (number (first_field s))
 
 -- A name byte that is no small letter.
@@ -36,5 +32,5 @@ unfoldable pub first_name : List ℕ → List ℕ
 first_name s = cond (is_name (first_field s)) (first_field s) []
 
 -- What a part of n bytes says: a name of so many bytes, or none where it is empty.
-unfoldable pub name_answer : ℕ → Name
-name_answer n = cond (eqb n 0) NotAName (Of n)
+unfoldable pub name_answer : ℕ → Option ℕ
+name_answer n = cond (eqb n 0) None (Some n)

@@ -1,20 +1,18 @@
 -- The answer of the line reader for what `parse_line` of `sheet_format` makes of a line, and the line back from the answer.
-use Rattle.std.specs.Prelude.{ℕ, Bool, cond, List, [], ◌∷◌, eqb, leb, ltb, length, get_or, take, drop}
+use Rattle.std.specs.Prelude.{ℕ, ◌≡◌, Bool, cond, List, [], ◌∷◌, eqb, leb, ltb, length, get_or, take, drop, Result, Ok, Err}
 use Prim.Native.Char.{code}
 use Rattle.std.proofs.Math.Option.{Option, none, some}
 use Rattle.sheet_format.specs.Limits.{max_arity}
 use Rattle.sheet_format.specs.SheetLines.{NodeLine as SheetNode, variable_line, number_line, apply_line, true_line, and_line, or_line}
 use Rattle.sheet_format.specs.SheetLines.{implies_line, some_line, every_line, SheetLine, declare_line, node_line, clause_line, goal_line}
 use Rattle.sheet_format.specs.SheetLines.{two_numbers, with_variable}
+use Rattle.outcomes.specs.declared.refusals.Reason.{Reason}
+use Rattle.outcomes.specs.declared.refusals.Reason.TheVariants.{Malformed}
 use Rattle.line_parser.specs.declared.lines.Nodes.{Nodes}
 use Rattle.line_parser.specs.declared.lines.NodeLine.{NodeLine}
 use Rattle.line_parser.specs.declared.lines.NodeLine.TheVariants.{Variable, Numeral, Apply, True, And, Or, Implies, Exists, Forall}
 use Rattle.line_parser.specs.declared.lines.Line.{Line}
-use Rattle.line_parser.specs.declared.lines.Line.TheVariants.{Declare, Node, Clause, Goal, Refused}
-use Rattle.line_parser.specs.declared.lines.One.{One}
-use Rattle.line_parser.specs.declared.lines.One.TheVariants.{Only, Refused as RefusedOne}
-use Rattle.line_parser.specs.declared.lines.Two.{Two}
-use Rattle.line_parser.specs.declared.lines.Two.TheVariants.{Both, Refused as RefusedTwo}
+use Rattle.line_parser.specs.declared.lines.Line.TheVariants.{Declare, Node, Clause, Goal}
 
 -- The nodes of an application: how many, and the first four, 0 where there are fewer.
 unfoldable pub nodes_of : List ℕ → Nodes
@@ -33,16 +31,16 @@ node_answer (some_line v n) = Exists v n
 node_answer (every_line v n) = Forall v n
 
 -- "A line is malformed": refusal 6.
-abbrev pub malformed : Line
-malformed = Refused 6
+abbrev pub malformed : {A : Type 0} → Result A Reason
+malformed = Err Malformed
 
 -- The answer for a line. Of a declared name it has the length: the name starts at offset 2 of the line.
-unfoldable pub line_answer : Option SheetLine → Line
+unfoldable pub line_answer : Option SheetLine → Result Line Reason
 line_answer none = malformed
-line_answer (some (declare_line k n a)) = Declare k (length n) a
-line_answer (some (node_line l)) = Node (node_answer l)
-line_answer (some (clause_line n)) = Clause n
-line_answer (some (goal_line n)) = Goal n
+line_answer (some (declare_line k n a)) = Ok (Declare k (length n) a)
+line_answer (some (node_line l)) = Ok (Node (node_answer l))
+line_answer (some (clause_line n)) = Ok (Clause n)
+line_answer (some (goal_line n)) = Ok (Goal n)
 
 -- Back
 
@@ -63,41 +61,38 @@ node_back (Exists v n) = some_line v n
 node_back (Forall v n) = every_line v n
 
 -- The line that an answer stands for, with the name taken from the line's bytes s (law `line-back`).
-unfoldable pub line_back : List ℕ → Line → Option SheetLine
-line_back s (Declare k n a) = some (declare_line k (take n (drop 2 s)) a)
-line_back s (Node l) = some (node_line (node_back l))
-line_back s (Clause n) = some (clause_line n)
-line_back s (Goal n) = some (goal_line n)
-line_back s (Refused n) = none
+unfoldable pub line_back : List ℕ → Result Line Reason → Option SheetLine
+line_back s (Ok (Declare k n a)) = some (declare_line k (take n (drop 2 s)) a)
+line_back s (Ok (Node l)) = some (node_line (node_back l))
+line_back s (Ok (Clause n)) = some (clause_line n)
+line_back s (Ok (Goal n)) = some (goal_line n)
+line_back s (Err reason) = none
 
 -- Steps of the reader
 
--- The refusals of the readers of one number and of two: 6 as well.
-abbrev pub malformed_one : One
-malformed_one = RefusedOne 6
-
-abbrev pub malformed_two : Two
-malformed_two = RefusedTwo 6
-
 -- One number.
-unfoldable pub one_answer : Option (List ℕ) → One
-one_answer none = malformed_one
-one_answer (some []) = malformed_one
-one_answer (some (n ∷ [])) = Only n
-one_answer (some (n ∷ m ∷ ns)) = malformed_one
+unfoldable pub one_answer : Option (List ℕ) → Result ℕ Reason
+one_answer none = malformed
+one_answer (some []) = malformed
+one_answer (some (n ∷ [])) = Ok n
+one_answer (some (n ∷ m ∷ ns)) = malformed
 
 -- Two numbers.
-unfoldable pub two_answer : Option (List ℕ) → Two
-two_answer none = malformed_two
-two_answer (some []) = malformed_two
-two_answer (some (n ∷ [])) = malformed_two
-two_answer (some (n ∷ m ∷ [])) = Both n m
-two_answer (some (n ∷ m ∷ o ∷ ns)) = malformed_two
+unfoldable pub two_answer : Option (List ℕ) → Result (ℕ × ℕ) Reason
+two_answer none = malformed
+two_answer (some []) = malformed
+two_answer (some (n ∷ [])) = malformed
+two_answer (some (n ∷ m ∷ [])) = Ok (n, m)
+two_answer (some (n ∷ m ∷ o ∷ ns)) = malformed
+
+-- What makes a line of a number, as `make` says of a number and a line, makes the answer for the line l of that number.
+abbrev pub Makes : (ℕ → SheetLine) → (ℕ → Line → Type 0) → Type 0
+Makes l make = (n : ℕ) (line : Line) → make n line → Ok line ≡ line_answer (some (l n))
 
 -- The declaration with a name of n bytes and that number as its arity.
-unfoldable pub arity_answer : Bool → ℕ → One → Line
-arity_answer k n (Only a) = cond (leb a max_arity) (Declare k n a) malformed
-arity_answer k n (RefusedOne m) = malformed
+unfoldable pub arity_answer : Bool → ℕ → Result ℕ Reason → Result Line Reason
+arity_answer k n (Ok a) = cond (leb a max_arity) (Ok (Declare k n a)) malformed
+arity_answer k n (Err reason) = malformed
 
 -- One node more; a fifth is not asked for.
 unfoldable pub push_node : Nodes → ℕ → Nodes
@@ -108,12 +103,12 @@ push_node ns n =
     (record { count = 4; a = ns.a; b = ns.b; c = ns.c; d = n })))
 
 -- The application of f to the nodes read so far and the further ones.
-unfoldable pub apply_on : ℕ → Nodes → List ℕ → Line
-apply_on f ns [] = Node (Apply f ns)
+unfoldable pub apply_on : ℕ → Nodes → List ℕ → Result Line Reason
+apply_on f ns [] = Ok (Node (Apply f ns))
 apply_on f ns (m ∷ ms) = cond (ltb ns.count max_arity) (apply_on f (push_node ns m) ms) malformed
 
 -- The same, where the further fields may be no numbers.
-unfoldable pub apply_answer : ℕ → Nodes → Option (List ℕ) → Line
+unfoldable pub apply_answer : ℕ → Nodes → Option (List ℕ) → Result Line Reason
 apply_answer f ns none = malformed
 apply_answer f ns (some ms) = apply_on f ns ms
 

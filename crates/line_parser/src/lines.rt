@@ -1,16 +1,17 @@
 // The parts of a line of a sheet, without its LF: one number, two, and the node numbers of an A line. Each reader takes the rest of
-// the line as a part, reads one field, and hands the rest on.
+// the line as a part, reads one field by `let .. else`, and hands the rest on: forms that document 01 names, so there is no `?` here, and
+// `read_nodes` calls itself in place of a loop.
 ghost use Rattle.std.specs.Prelude.{◌≡◌};
 ghost use Rattle.std.proofs.Math.Option.{some};
 ghost use Rattle.sheet_format.specs.Bytes.{fields};
 ghost use Rattle.sheet_format.specs.SheetLines.{numbers, cons_number};
 ghost use Rattle.line_parser.specs.Lines.{one_answer, two_answer, push_node, apply_answer};
 
-use super::fields::Number;
-use outcomes::refusals;
+use outcomes::refusals::Reason;
 use sheet_format::limits;
 
-// The node numbers of an A line: how many, and the first four, 0 where there are fewer.
+// The node numbers of an A line: how many, and the first four, 0 where there are fewer. Four fields and no array are plainer, because a
+// node has one field of the table for each.
 #[derive(Clone, Copy)]
 pub struct Nodes {
     pub count: u32,
@@ -41,56 +42,40 @@ pub enum Line {
     Node(NodeLine),
     Clause(u32),
     Goal(u32),
-    // A malformed line, with the refusal's number: 6.
-    Refused(u32),
 }
 
-// The rest of a line as one number, or the refusal's number: 6.
-#[derive(Clone, Copy)]
-pub enum One {
-    Only(u32),
-    Refused(u32),
-}
-
-// The rest of a line as two numbers, or the refusal's number: 6.
-#[derive(Clone, Copy)]
-pub enum Two {
-    Both(u32, u32),
-    Refused(u32),
-}
-
-// One number and no further field.
-pub fn one_number(s: &[u8]) -> One
+// The rest of a line as one number; otherwise it is malformed, so that the line is refused.
+pub fn one_number(s: &[u8]) -> Result<u32, Reason>
     ensures { result ≡ one_answer (numbers (fields s.now)) }
 {
-    let Number::Value(n, e) = super::fields::read_number(s) else {
-        return One::Refused(refusals::MALFORMED);
+    let Some((n, e)) = super::fields::read_number(s) else {
+        return Err(Reason::Malformed);
     };
     if e < s.len() {
-        return One::Refused(refusals::MALFORMED);
+        return Err(Reason::Malformed);
     }
-    One::Only(n)
+    Ok(n)
 }
 
 // The number after n, and no further field.
-fn second_number(s: &[u8], n: u32) -> Two
+fn second_number(s: &[u8], n: u32) -> Result<(u32, u32), Reason>
     ensures { result ≡ two_answer (cons_number (some n) (numbers (fields s.now))) }
 {
-    let One::Only(m) = one_number(s) else {
-        return Two::Refused(refusals::MALFORMED);
+    let Ok(m) = one_number(s) else {
+        return Err(Reason::Malformed);
     };
-    Two::Both(n, m)
+    Ok((n, m))
 }
 
-// Two numbers and no further field.
-pub fn two_numbers(s: &[u8]) -> Two
+// The rest of a line as two numbers.
+pub fn two_numbers(s: &[u8]) -> Result<(u32, u32), Reason>
     ensures { result ≡ two_answer (numbers (fields s.now)) }
 {
-    let Number::Value(n, e) = super::fields::read_number(s) else {
-        return Two::Refused(refusals::MALFORMED);
+    let Some((n, e)) = super::fields::read_number(s) else {
+        return Err(Reason::Malformed);
     };
     if s.len() <= e {
-        return Two::Refused(refusals::MALFORMED);
+        return Err(Reason::Malformed);
     }
     second_number(&s[e + 1..], n)
 }
@@ -99,56 +84,43 @@ pub fn two_numbers(s: &[u8]) -> Two
 fn push_node(ns: Nodes, n: u32) -> Nodes
     ensures { result ≡ push_node ns n }
 {
-    let k = ns.count;
-    if k == 0 {
-        return Nodes {
+    match ns.count {
+        0 => Nodes {
             count: 1,
             a: n,
-            b: ns.b,
-            c: ns.c,
-            d: ns.d,
-        };
-    }
-    if k == 1 {
-        return Nodes {
+            ..ns
+        },
+        1 => Nodes {
             count: 2,
-            a: ns.a,
             b: n,
-            c: ns.c,
-            d: ns.d,
-        };
-    }
-    if k == 2 {
-        return Nodes {
+            ..ns
+        },
+        2 => Nodes {
             count: 3,
-            a: ns.a,
-            b: ns.b,
             c: n,
-            d: ns.d,
-        };
-    }
-    Nodes {
-        count: 4,
-        a: ns.a,
-        b: ns.b,
-        c: ns.c,
-        d: n,
+            ..ns
+        },
+        _ => Nodes {
+            count: 4,
+            d: n,
+            ..ns
+        },
     }
 }
 
 // The nodes of an A line from the next one on: a fifth is refused.
-pub fn read_nodes(s: &[u8], f: u32, ns: Nodes) -> Line
+pub fn read_nodes(s: &[u8], f: u32, ns: Nodes) -> Result<Line, Reason>
     ensures { result ≡ apply_answer f ns (numbers (fields s.now)) }
 {
-    let Number::Value(n, e) = super::fields::read_number(s) else {
-        return Line::Refused(refusals::MALFORMED);
+    let Some((n, e)) = super::fields::read_number(s) else {
+        return Err(Reason::Malformed);
     };
     if limits::MAX_ARITY <= ns.count {
-        return Line::Refused(refusals::MALFORMED);
+        return Err(Reason::Malformed);
     }
     let more = push_node(ns, n);
     if s.len() <= e {
-        return Line::Node(NodeLine::Apply(f, more));
+        return Ok(Line::Node(NodeLine::Apply(f, more)));
     }
     read_nodes(&s[e + 1..], f, more)
 }

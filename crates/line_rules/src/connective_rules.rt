@@ -1,6 +1,6 @@
 // D lines for true, &, | and >: the right rule is done to the sequent that is due. Each function is a definition of the crate
 // line_checking, and its contract says so.
-ghost use Rattle.std.specs.Prelude.{◌≡◌, List, ℕ, ◌+◌, ◌<◌};
+ghost use Rattle.std.specs.Prelude.{◌≡◌, List, ℕ};
 ghost use Rattle.line_checking.specs.Sequents.{made};
 ghost use Rattle.line_checking.specs.Rules.{with_child, true_line, and_line, or_line, assume_line};
 
@@ -39,7 +39,6 @@ pub fn true_line(text: &[u8], w: &[u32], r: Registers, line: Line) -> Registers
 
 // &: the left side is due, the right side after it.
 pub fn and_line(t: &[u32], text: &[u8], w: &mut [u32], r: Registers, line: Line) -> Registers
-    requires { line.number + 1 < 4294967296 }
     ensures { made w.new result ≡ and_line t.now text.now w.old r line.number line.at
         line.end }
 {
@@ -75,7 +74,6 @@ pub fn assume_line(
     r: Registers,
     line: Line,
 ) -> Registers
-    requires { line.number + 1 < 4294967296 }
     ensures { made w.new result ≡ assume_line t.now clauses text.now w.old r line.number
         line.at line.end }
 {

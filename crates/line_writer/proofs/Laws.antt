@@ -6,9 +6,11 @@ use mathlib.Core.Path.{◌≡◌, refl, sym, ap, ◌∙◌}
 use mathlib.Core.Bool.{Bool, true, false}
 use mathlib.Core.List.{List, [], ◌∷◌, ◌++◌, append_assoc, append-nil}
 use lib.Dec.{ltb}
-use lib.ListN.{length, get_or, set, take, length-append}
-use lib.Seq.{length-take-le, take_all, take-suc, take-suc-set}
-use borrow.Author.Tests.{lt-ltb, le-ltb, ltb-true, ltb-false}
+use lib.ListN.{length, set, take, length-append}
+use lib.Seq.{length-take-le, take-suc-set}
+use borrow.Rule.Slice.PartMut.{put_mid}
+use Rattle.std.proofs.lemmas.Slice.{take-put_mid}
+use borrow.Author.Tests.{lt-ltb, le-ltb, ltb-false}
 use Rattle.sheet_format.specs.Bytes.{ascii, digits, decimal}
 use Rattle.answer_texts.specs.Spelling.{text_line, join}
 use Rattle.line_writer.specs.Appending.{Appends, Fits}
@@ -29,16 +31,15 @@ then_appended out out₁ out₂ x y at to to₂ a b =
       front = b.front ∙ ap (λ (l : List ℕ). l ++ y) a.front ∙ append_assoc (take at out) x y;
     }
 
--- A turn of the loop over bytes: one byte more of them is appended.
-pub bytes_appended : (out out₁ out₂ bytes : List ℕ) (at i to to₂ : ℕ) → i < length bytes → Appends out at (take i bytes) out₁ to
-    → Appends out₁ to (get_or bytes i 0 ∷ []) out₂ to₂ → Appends out at (take (i + 1) bytes) out₂ to₂
-bytes_appended out out₁ out₂ bytes at i to to₂ h a b =
-    rw (add-one i, take-suc bytes i 0 h) (then_appended out out₁ out₂ (take i bytes) (get_or bytes i 0 ∷ []) at to to₂ a b)
-
--- After the last turn all are appended.
-pub all_appended : (out out₁ bytes : List ℕ) (at i to : ℕ) → length bytes ≤ i → Appends out at (take i bytes) out₁ to
-    → Appends out at bytes out₁ to
-all_appended out out₁ bytes at i to h a = rw (take_all i bytes h) at a
+-- Bytes that are copied into a part of the buffer follow what stands before the part.
+pub part_appended : (out bytes part : List ℕ) (at k : ℕ) → part ≡ bytes → at + length bytes ≤ length out
+    → Appends out at bytes (put_mid at k out part) (at + length bytes)
+part_appended out bytes part at k e h =
+    record {
+      count = refl;
+      front = take-put_mid at k out part (at + length bytes) (ap (λ (l : List ℕ). at + length l) (sym e)) (omega arith)
+          ∙ ap (λ (l : List ℕ). take at out ++ l) e;
+    }
 
 -- The digits of a number, and then ds.
 digits_append : (f n : ℕ) (ds : List ℕ) → digits f n ds ≡ digits f n [] ++ ds

@@ -21,12 +21,8 @@ pub fn put_bytes(out: &mut [u8], at: usize, bytes: &[u8]) -> usize
     requires { at + length bytes.now ≤ length out.old }
     ensures { Appends out.old at bytes.now out.new result }
 {
-    let mut to = at;
-    let mut i: usize = 0;
-    while i < bytes.len() {
-        to = put_byte(out, to, bytes[i]);
-        i += 1;
-    }
+    let to = at + bytes.len();
+    out[at..to].copy_from_slice(bytes);
     to
 }
 
@@ -37,7 +33,8 @@ fn digit(n: u32) -> u8
     b'0' + n as u8
 }
 
-// A number in base ten, of at most f digits.
+// A number in base ten, of at most f digits. It calls itself in place of a loop, as `digits` does: the digit that is found first is written
+// last. It is not one with `write_digits` of term_printer: that one stops at a limit and counts on, and this one owes that all fits.
 fn put_digits(f: usize, out: &mut [u8], at: usize, n: u32) -> usize
     requires { at + length (digits f n []) ≤ length out.old }
     ensures { Appends out.old at (digits f n []) out.new result }
@@ -59,7 +56,8 @@ pub fn put_number(out: &mut [u8], at: usize, n: u32) -> usize
     put_digits(widen(n) + 1, out, at, n)
 }
 
-// The line that tells a refusal, at the front.
+// The line that tells a refusal, at the front. By hand and not by `write!`, because a lent buffer is no `fmt::Write`.
+#[tactic(auto, using(crate::proofs::Laws::decimal_length))]
 pub fn put_refusal(out: &mut [u8], number: u32, line: u32) -> usize
     requires { refusal_line_bytes ≤ length out.old }
     ensures { (result ≤ refusal_line_bytes) × (take result out.new ≡ refusal_line number line) }

@@ -1,25 +1,24 @@
 -- The act of trying a member, and taking an atom, from state to state.
-use Prim.Native.Nat.{ℕ, suc, ◌+◌, ◌-◌, ◌*◌, ◌≤◌, ◌<◌}
+use Prim.Native.Nat.{ℕ, suc, ◌*◌, ◌≤◌, ◌<◌}
 use native.Mathlib.Omega.{arith}
 use mathlib.Core.Bool.{Bool, true, false, cond}
 use mathlib.Core.Path.{◌≡◌, refl, sym, ap, ◌∙◌, subst}
-use mathlib.Core.List.{List, [], ◌∷◌, ◌++◌}
+use mathlib.Core.List.{List, [], ◌∷◌, ◌++◌, append_assoc}
 use lib.Dec.{eqb}
 use lib.ListN.{length}
 use borrow.Author.Tests.{eqb-true}
-use Rattle.terms.specs.Terms.{leaf, substitutes}
+use Rattle.terms.specs.Terms.{substitutes}
 use Rattle.sequents.specs.Sequents.{Entry, entry, entries, Sequent}
 use Rattle.unification.specs.Store.{Leaf, Store}
 use Rattle.unification.specs.Promises.{Formed}
-use Rattle.search.specs.Configurations.{Branch, branch, Atom, Configuration, try}
+use Rattle.search.specs.Configurations.{Branch, Atom, Configuration, try}
 use Rattle.search.specs.Steps as level1
 use Rattle.search.proofs.Invariant.{EnvironmentBelow}
-use Rattle.sheet_format.specs.Limits.{max_budget, max_nodes, numbers_per_unit}
+use Rattle.sheet_format.specs.Limits.{max_budget, numbers_per_unit}
 use Rattle.node_table.specs.Layout.{kind_of, label_of, atom_kind}
 use Rattle.node_table.specs.Decoding.{arguments_at}
 use Rattle.node_table.proofs.Decoding.{goal_atom}
 use Rattle.machine.specs.declared.Registers.{Registers}
-use Rattle.machine.specs.Records.{made}
 use Rattle.machine.specs.RegisterUpdates.{with_member}
 use Rattle.machine.specs.Words.{environment_at}
 use Rattle.machine.specs.Goals.{try_from, take_atom}
@@ -44,11 +43,6 @@ head_is a b x y e = cc
 -- Equal lists have equal tails.
 tail_is : {A : Type 0} (a b : A) (x y : List A) → a ∷ x ≡ b ∷ y → x ≡ y
 tail_is a b x y e = cc
-
--- Three lists.
-pub append_assoc : {A : Type 0} (x y z : List A) → (x ++ y) ++ z ≡ x ++ (y ++ z)
-append_assoc [] y z = refl
-append_assoc (a ∷ x) y z = ap (a ∷◌) (append_assoc x y z)
 
 module _ (T : Table) (w : List ℕ) (r : Registers) (b : Branch) (ds : List Configuration)
     (room : numbers_per_unit * suc r.acts ≤ length w) (small : r.acts < max_budget) where

@@ -1,5 +1,5 @@
 -- Taking a goal that is no atom is level 1's `take_goal`.
-use Prim.Native.Nat.{ℕ, suc, ◌+◌, ◌-◌, ◌*◌, ◌%◌, ◌≤◌, ◌<◌}
+use Prim.Native.Nat.{ℕ, suc, ◌+◌, ◌*◌, ◌%◌, ◌≤◌, ◌<◌}
 use native.Mathlib.Omega.{arith}
 use mathlib.Core.Path.{◌≡◌, refl, sym, ap, ◌∙◌, subst}
 use mathlib.Core.List.{List, [], ◌∷◌, ◌++◌}
@@ -7,7 +7,7 @@ use mathlib.Core.Logic.{◌⊎◌, inl, inr}
 use lib.ListN.{length, get_or}
 use Rattle.terms.specs.Lists.{update}
 use Rattle.terms.specs.Terms.{leaf}
-use Rattle.formulas.specs.Formulas.{Clause, and, or, implies, exists, forall}
+use Rattle.formulas.specs.Formulas.{Clause}
 use Rattle.formulas.specs.Rules.{assume}
 use Rattle.sequents.specs.Sequents.{Environment, hypothesis, Sequent, sequent, Line, plain, Dtrue, Dand, Dleft, Dright, Dassume}
 use Rattle.sequents.specs.Sequents.{Dsome, Dall, assign}

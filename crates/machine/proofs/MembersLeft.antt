@@ -1,5 +1,5 @@
 -- The members left to try, from a position in the program.
-use Prim.Native.Nat.{ℕ, zero, suc, ◌+◌, ◌-◌, ◌≤◌, ◌<◌}
+use Prim.Native.Nat.{ℕ, zero, suc, ◌-◌, ◌≤◌, ◌<◌}
 use native.Mathlib.Omega.{arith}
 use mathlib.Core.Bool.{Bool, true, false, cond}
 use mathlib.Core.Path.{◌≡◌, refl, sym, ap, ◌∙◌, subst}
@@ -10,7 +10,7 @@ use borrow.Author.Tests.{ltb-true, ltb-false, lt-ltb, le-ltb, ne_eqb}
 use Rattle.formulas.specs.Formulas.{Clause}
 use Rattle.formulas.specs.Members.{Member, members}
 use Rattle.formulas.specs.Rules.{Order, oldest, latest, rules, joined, assume}
-use Rattle.sequents.specs.Sequents.{Environment, Program, Hypothesis, hypothesis, Entry, entry, entries_of, entries}
+use Rattle.sequents.specs.Sequents.{Environment, Program, Hypothesis, Entry, entry, entries_of, entries}
 use Rattle.unification.specs.Store.{Leaf}
 use Rattle.search.specs.Search.{start_environment}
 use Rattle.node_table.specs.Layout.{clause_node, members_of, order_number}

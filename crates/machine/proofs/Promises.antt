@@ -1,13 +1,11 @@
 -- The promises of `specs/Promises.antt`, kept.
-use Prim.Native.Nat.{ℕ}
-use mathlib.Core.Path.{◌≡◌, ap, subst}
-use mathlib.Core.List.{List}
+use mathlib.Core.Path.{subst}
 use Rattle.search.specs.Search.{search, after}
 use Rattle.sheet_format.specs.Sheets.{Sheet, rules_of}
 use Rattle.node_table.specs.Decoding.{decode_sheet}
 use Rattle.machine.specs.Machine.{run_machine}
 use Rattle.machine.specs.Simulation.{Reports, Stands}
-use Rattle.machine.specs.Promises.{StandsFor, MachineReports, MachineFollows, FindsAssumptions}
+use Rattle.machine.specs.Promises.{MachineReports, MachineFollows, FindsAssumptions}
 use Rattle.machine.proofs.AssumptionChains.{finds}
 use Rattle.machine.proofs.Simulation.{simulates, follows}
 

@@ -13,7 +13,7 @@ use Rattle.search.proofs.Invariant.{Invariant}
 use Rattle.enumeration.specs.Enumeration.{Proof, Next, finds, none_left, runs_out, next_proof}
 use Rattle.enumeration.proofs.Outcomes.{outcome_of, next_outcome}
 use Rattle.sheet_format.specs.Limits.{max_budget, numbers_per_unit}
-use Rattle.formulas.specs.Rules.{Rules, rules}
+use Rattle.formulas.specs.Rules.{rules}
 use Rattle.node_table.specs.Decoding.{clauses_from, goal_at, order_of}
 use Rattle.machine.specs.Records.{Made}
 use Rattle.machine.specs.Machine.{start_memory, start_registers, run_machine}

@@ -10,14 +10,14 @@ use borrow.Author.Tests.{ltb-true, eq-eqb, ne_eqb}
 use Rattle.terms.specs.Terms.{Term}
 use Rattle.formulas.specs.Formulas.{Clause}
 use Rattle.formulas.specs.Members.{Member, members}
-use Rattle.formulas.specs.Rules.{Order, oldest, latest, rules, assume}
+use Rattle.formulas.specs.Rules.{Order, oldest, latest, rules}
 use Rattle.sequents.specs.Sequents.{Environment, Program, Hypothesis, hypothesis, Entry, entry, entries_of, Sequent}
 use Rattle.unification.specs.Store.{Leaf}
 use Rattle.unification.specs.Matching.{Pair}
 use Rattle.search.specs.Configurations.{Branch, Atom}
 use Rattle.sheet_format.specs.Limits.{max_budget}
 use Rattle.node_table.specs.Layout.{child_count}
-use Rattle.node_table.specs.Decoding.{clause_at_node, clauses_from, order_of}
+use Rattle.node_table.specs.Decoding.{clause_at_node, order_of}
 use Rattle.machine.specs.declared.Registers.{Registers}
 use Rattle.machine.specs.Fields as fields
 use Rattle.machine.specs.Records.{made}

@@ -1,5 +1,5 @@
 -- Numbers of 32 bits, and the parts of words. Nothing after this file looks at `/`, `%` or the width.
-use Prim.Native.Nat.{ℕ, suc, ◌+◌, ◌-◌, ◌*◌, ◌/◌, ◌%◌, ◌≤◌, ◌<◌}
+use Prim.Native.Nat.{ℕ, suc, ◌+◌, ◌*◌, ◌/◌, ◌%◌, ◌≤◌, ◌<◌}
 use native.Mathlib.Omega.{arith}
 use mathlib.Core.Path.{◌≡◌, ap, ◌∙◌, refl}
 use Rattle.sheet_format.specs.Limits.{max_budget, max_nodes}

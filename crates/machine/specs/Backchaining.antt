@@ -1,6 +1,6 @@
 -- Trying a member (document 01, "The walk", "atom").
 use Rattle.std.specs.Prelude.{ℕ, ◌+◌, ◌-◌, cond, List, eqb, ltb}
-use Rattle.sheet_format.specs.Limits.{max_nodes, variable_names}
+use Rattle.sheet_format.specs.Limits.{variable_names}
 use Rattle.node_table.specs.Layout.{kind_of, label_of, child_of, members_of, clause_node, order_number, default_order, implies_kind}
 use Rattle.machine.specs.declared.Registers.{Registers}
 use Rattle.machine.specs.Fields as fields

@@ -1,4 +1,4 @@
-// Fields of a record of the work buffer (specs/Fields.antt).
+// Fields of a record of the work buffer (specs/Fields.antt). Numbers: they are positions in lent memory.
 
 // Bindings and levels of so many variables; a binding is field 0 or later.
 pub const CELLS: u32 = 9;

@@ -1,4 +1,4 @@
-// Lines of the path (specs/Records.antt).
+// Lines of the path (specs/Records.antt). Numbers: they lie in lent memory, in the records of the path and of choice points.
 
 pub const TRUE: u32 = 0;
 

@@ -1,4 +1,4 @@
-// Tags of words, which are their remainders by the number of tags (specs/Words.antt).
+// Tags of words, which are their remainders by the number of tags (specs/Words.antt). Numbers: words lie in lent memory.
 
 pub const COUNT: u32 = 4;
 

@@ -1,2 +1,3 @@
--- Failure, and when it is settled.
+-- Failure, and when it is settled; numbers in a row.
 pub mod Settling
+pub mod Rows

@@ -10,6 +10,7 @@ use machine::fields;
 use memory::{field, put_field, widen};
 
 // Field f of the assumption that p names, 0 for none.
+#[tactic(auto, unfolding(machine::specs::AssumptionChains::assumption_field))]
 fn assumption_field(w: &[u32], p: u32, f: u32) -> u32
     ensures { result ≡ assumption_field w.now p f }
 {
@@ -27,6 +28,7 @@ pub fn parent_of(w: &[u32], p: u32) -> u32
 }
 
 // The jump of a record whose parent is p.
+#[tactic(auto, unfolding(machine::specs::AssumptionChains::jump_for))]
 fn jump_for(w: &[u32], p: u32) -> u32
     ensures { result ≡ jump_for w.now p }
 {
@@ -49,6 +51,7 @@ pub fn oldest_of(w: &[u32], p: u32) -> u32
 }
 
 // The oldest of the chain of record u, whose parent is p.
+#[tactic(auto, unfolding(machine::specs::AssumptionChains::oldest_for))]
 fn oldest_for(w: &[u32], u: u32, p: u32) -> u32
     ensures { result ≡ oldest_for w.now u p }
 {
@@ -59,6 +62,7 @@ fn oldest_for(w: &[u32], u: u32, p: u32) -> u32
 }
 
 // Writes the depth, the jump and the oldest of record u, whose parent is p.
+#[tactic(auto, unfolding(machine::specs::AssumptionChains::put_chain))]
 pub fn put_chain(w: &mut [u32], u: u32, p: u32)
     ensures { w.new ≡ put_chain w.old u p }
 {
@@ -71,6 +75,7 @@ pub fn put_chain(w: &mut [u32], u: u32, p: u32)
 }
 
 // One step from p towards the assumption of depth d: along the jump, unless it goes past that one.
+#[tactic(auto, unfolding(machine::specs::AssumptionChains::step_towards))]
 fn step_towards(w: &[u32], p: u32, d: u32) -> u32
     ensures { result ≡ step_towards w.now p d }
 {
@@ -85,19 +90,18 @@ fn step_towards(w: &[u32], p: u32, d: u32) -> u32
 fn find_ancestor(n: u32, w: &[u32], p: u32, d: u32) -> u32
     ensures { result ≡ find_ancestor n w.now p d }
 {
-    let mut left = n;
     let mut at = p;
-    while 0 < left {
+    for _turn in 0..n {
         if assumption_field(w, at, fields::ASSUMPTION_DEPTH) <= d {
             return at;
         }
         at = step_towards(w, at, d);
-        left -= 1;
     }
     at
 }
 
 // The assumption of the chain p that was made after h, 0 if h is the latest.
+#[tactic(auto, unfolding(machine::specs::AssumptionChains::later_of))]
 pub fn later_of(w: &[u32], p: u32, h: u32) -> u32
     ensures { result ≡ later_of w.now p h }
 {

@@ -11,17 +11,14 @@ pub fn copy_frame(n: u32, w: &mut [u32], u: u32, f: u32, v: u32)
     requires { v + n < 4294967296 }
     ensures { w.new ≡ copy_frame n w.old u f v }
 {
-    let mut slots = n;
-    let mut at = v;
-    while 0 < slots {
+    for at in v..v + n {
         let a = slot_of(w, f, at);
         put_slot(w, u, at, a);
-        at += 1;
-        slots -= 1;
     }
 }
 
 // Makes variable x, unbound and of level i.
+#[tactic(auto, unfolding(machine::specs::Frames::put_variable))]
 pub fn put_variable(w: &mut [u32], x: u32, i: u32)
     ensures { w.new ≡ put_variable w.old x i }
 {
@@ -33,15 +30,13 @@ pub fn put_variable(w: &mut [u32], x: u32, i: u32)
 pub fn put_fresh(n: u32, w: &mut [u32], u: u32, vs: u32, x: u32, i: u32)
     ensures { w.new ≡ put_fresh n w.old u vs x i }
 {
-    let mut left = n;
     let mut names = vs;
     let mut fresh = x;
-    while 0 < left {
+    for _turn in 0..n {
         put_variable(w, fresh, i);
         put_slot(w, u, names % limits::VARIABLE_NAMES, variable_word(fresh));
-        names = names / limits::VARIABLE_NAMES;
+        names /= limits::VARIABLE_NAMES;
         fresh = increment(fresh);
-        left -= 1;
     }
 }
 
@@ -50,11 +45,7 @@ pub fn put_variables(n: u32, w: &mut [u32], x: u32)
     requires { x + n < 4294967296 }
     ensures { w.new ≡ put_variables n w.old x }
 {
-    let mut left = n;
-    let mut fresh = x;
-    while 0 < left {
+    for fresh in x..x + n {
         put_variable(w, fresh, 0);
-        fresh += 1;
-        left -= 1;
     }
 }

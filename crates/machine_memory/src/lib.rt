@@ -7,5 +7,6 @@ pub mod choice_points;
 pub mod frames;
 pub mod records;
 pub mod registers;
+mod rows;
 pub mod trail;
 pub mod words;

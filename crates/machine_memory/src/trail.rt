@@ -9,25 +9,26 @@ use super::words::name_of;
 use machine::fields;
 use memory::field;
 
-// Writes to a variable by its word; 0 is no variable.
+// Three functions of a variable by its word, 0 for no variable: one function that takes what is done as a closure would be no shorter.
+#[tactic(auto, unfolding(machine::specs::Trail::lower_to))]
 pub fn lower_to(w: &mut [u32], a: u32, k: u32)
     ensures { w.new ≡ lower_to w.old a k }
 {
-    if a == 0 {
-        return;
+    if a != 0 {
+        put_level(w, name_of(a), k);
     }
-    put_level(w, name_of(a), k);
 }
 
+#[tactic(auto, unfolding(machine::specs::Trail::bind_to))]
 pub fn bind_to(w: &mut [u32], a: u32, v: u32)
     ensures { w.new ≡ bind_to w.old a v }
 {
-    if a == 0 {
-        return;
+    if a != 0 {
+        put_cell(w, name_of(a), v);
     }
-    put_cell(w, name_of(a), v);
 }
 
+#[tactic(auto, unfolding(machine::specs::Trail::old_level))]
 pub fn old_level(w: &[u32], a: u32) -> u32
     ensures { result ≡ old_level w.now a }
 {
@@ -38,6 +39,7 @@ pub fn old_level(w: &[u32], a: u32) -> u32
 }
 
 // Lowers z to k and binds y to v, with a trail entry in record u.
+#[tactic(auto, unfolding(machine::specs::Trail::effect))]
 pub fn effect(w: &mut [u32], u: u32, z: u32, k: u32, y: u32, v: u32, before: u32)
     ensures { w.new ≡ effect w.old u z k y v before }
 {
@@ -48,6 +50,7 @@ pub fn effect(w: &mut [u32], u: u32, z: u32, k: u32, y: u32, v: u32, before: u32
 }
 
 // Undoes the trail entry in record q.
+#[tactic(auto, unfolding(machine::specs::Trail::undo_entry))]
 pub fn undo_entry(w: &mut [u32], q: u32)
     ensures { w.new ≡ undo_entry w.old q }
 {
@@ -62,9 +65,8 @@ pub fn undo_entry(w: &mut [u32], q: u32)
 pub fn undo(n: u32, w: &mut [u32], h: u32, mark: u32)
     ensures { w.new ≡ undo n w.old h mark }
 {
-    let mut entries = n;
     let mut at = h;
-    while 0 < entries {
+    for _entry in 0..n {
         if at == mark {
             return;
         }
@@ -72,6 +74,5 @@ pub fn undo(n: u32, w: &mut [u32], h: u32, mark: u32)
         let before = field(w, q, fields::ENTRY_BEFORE);
         undo_entry(w, q);
         at = before;
-        entries -= 1;
     }
 }

@@ -4,7 +4,6 @@ ghost use Rattle.std.specs.Prelude.{◌≡◌, ◌-◌, min};
 ghost use Rattle.machine.specs.Records.{made};
 ghost use Rattle.machine.specs.Matching.{bind_value, pass_node, visit_variable, visit_constant};
 ghost use Rattle.match_acts.specs.Visits.{passed};
-ghost use Rattle.memory.specs.Records.{field};
 
 use super::pairs::due_pairs;
 use machine::{Registers, fields};
@@ -12,19 +11,17 @@ use machine_memory::cells::level_of;
 use machine_memory::registers::{with_nodes, with_trail};
 use machine_memory::trail::effect;
 use machine_memory::words::{increment, name_of};
-use memory::{field, widen};
+use memory::field;
 
-// What a node of a range check comes to: failure, or the variable to lower (0 for none), its level then, and the nodes left.
-#[derive(Clone, Copy)]
-pub enum Visit {
-    Fails,
-    Passes(u32, u32, u32),
-}
+// What a node of a range check comes to: none where it fails, else the variable to lower, its level then, and the nodes left. The variable
+// is a number, 0 for none, since the trail entry has it in the lent buffer.
+pub type Visit = Option<(u32, u32, u32)>;
 
 // 2^32, the bit above a level.
 const BIT_32: usize = 4294967296;
 
 // The range check has passed: lowers z to k, binds, goes on with the pairs.
+#[tactic(auto, unfolding(machine::specs::Matching::bind_value))]
 pub fn bind_value(w: &mut [u32], r: Registers, z: u32, k: u32) -> Registers
     ensures { made w.new result ≡ bind_value w.old r z k }
 {
@@ -35,6 +32,7 @@ pub fn bind_value(w: &mut [u32], r: Registers, z: u32, k: u32) -> Registers
 }
 
 // A node has passed: lowers z to k (0: nothing), goes on with the nodes at e.
+#[tactic(auto, unfolding(machine::specs::Matching::pass_node))]
 pub fn pass_node(w: &mut [u32], r: Registers, z: u32, k: u32, e: u32) -> Registers
     ensures { made w.new result ≡ pass_node w.old r z k e }
 {
@@ -49,10 +47,11 @@ pub fn pass_node(w: &mut [u32], r: Registers, z: u32, k: u32, e: u32) -> Registe
 
 // Document 02, W-205: a difference that is cut at zero (saturating subtraction), with no branch. 2^32 + a - b has the bit of 2^32
 // exactly if b is at most a, and below that bit it is then the difference.
+#[tactic(auto, using(crate::proofs::Laws::cut_difference))]
 fn saturating_sub(a: u32, b: u32) -> u32
     ensures { result ≡ a - b }
 {
-    let s = BIT_32 + widen(a) - widen(b);
+    let s = BIT_32 + a as usize - b as usize;
     (s % BIT_32 * (s / BIT_32)) as u32
 }
 
@@ -64,25 +63,24 @@ fn min(a: u32, b: u32) -> u32
 }
 
 // The node is a variable: not the one to be bound; lowered to its level.
+#[tactic(auto, unfolding(machine::specs::Matching::visit_variable, crate::specs::Visits::passed))]
 pub fn visit_variable(w: &[u32], r: Registers, e: u32, x: u32) -> Visit
     ensures { passed w.now r result ≡ visit_variable w.now r e x }
 {
     if x == r.left {
-        return Visit::Fails;
+        return None;
     }
     let level = level_of(w, name_of(x));
     let limit = level_of(w, name_of(r.left));
-    Visit::Passes(x, min(level, limit), e)
+    Some((x, min(level, limit), e))
 }
 
 // The node is a made constant: not above the level of the variable.
+#[tactic(auto, unfolding(machine::specs::Matching::visit_constant, crate::specs::Visits::passed))]
 pub fn visit_constant(w: &[u32], r: Registers, e: u32, x: u32) -> Visit
     ensures { passed w.now r result ≡ visit_constant w.now r e x }
 {
     let level = field(w, name_of(x), fields::CONSTANT_LEVEL);
     let limit = level_of(w, name_of(r.left));
-    if level <= limit {
-        return Visit::Passes(0, 0, e);
-    }
-    Visit::Fails
+    (level <= limit).then_some((0, 0, e))
 }

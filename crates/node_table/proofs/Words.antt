@@ -12,7 +12,7 @@ use borrow.Author.Tests.{leb-true}
 use Rattle.terms.proofs.Lists.{length_map}
 use Rattle.sheet_format.specs.Bytes.{is_capital, folded, folded_name, same_name}
 use Rattle.sheet_format.proofs.Bytes.{same_equal}
-use Rattle.node_table.specs.Layout.{name_start, name_word, name_length}
+use Rattle.node_table.specs.Layout.{name_start, name_length}
 use Rattle.node_table.specs.Fingerprints.{with_byte, fingerprint_from, word_at, NameStands}
 use Rattle.node_table.proofs.Same.{Same, same_start, same_word_lem, same_length}
 

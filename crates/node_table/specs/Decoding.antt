@@ -1,5 +1,5 @@
 -- The table read back as trees. Children have smaller numbers than their node, so a node's own number is fuel enough.
-use Rattle.std.specs.Prelude.{ℕ, zero, suc, ◌-◌, Bool, true, false, cond, List, [], ◌∷◌, eqb, ltb, take, drop}
+use Rattle.std.specs.Prelude.{ℕ, zero, suc, ◌-◌, true, false, cond, List, [], ◌∷◌, eqb, ltb, take, drop}
 use Rattle.terms.specs.Terms.{Functor, sheet_symbol, numeral, Term, leaf, app, Terms, nil, cons}
 use Rattle.formulas.specs.Formulas.{Goal, atom, truth, and, or, implies, exists, forall, Clause, fact, rule, both, each}
 use Rattle.formulas.specs.Rules.{Order, oldest, latest}

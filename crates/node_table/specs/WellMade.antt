@@ -1,6 +1,6 @@
 -- What holds of every table that the reader fills: each node's children come before it and are of the kinds that it needs. The
 -- engine and the checker rely on it.
-use Rattle.std.specs.Prelude.{ℕ, suc, ◌+◌, ◌≤◌, ◌<◌, ◌≡◌, Bool, true, false, cond, List, eqb, ltb, length}
+use Rattle.std.specs.Prelude.{ℕ, ◌+◌, ◌≤◌, ◌<◌, ◌≡◌, cond, List, eqb, ltb, length}
 use Rattle.terms.specs.Terms.{size}
 use Rattle.formulas.specs.Formulas.{free_t, free_g, free_c}
 use Rattle.formulas.specs.Members.{members}

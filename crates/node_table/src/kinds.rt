@@ -1,4 +1,5 @@
-// Kinds of nodes (specs/Layout.antt): V, F applied, P applied, Y, &, |, >, E, U.
+// Kinds of nodes (specs/Layout.antt): V, F applied, P applied, Y, &, |, >, E, U. Numbers, since that is what the lent table holds and the
+// definitions compare.
 
 pub const VARIABLE: u32 = 0;
 

@@ -9,7 +9,7 @@ pub const FIRST_NODE: usize = 768;
 
 pub const FIRST_CLAUSE: usize = 7936;
 
-// Where the order in force is (request W-207), and its numbers: the default order, and that of `O latest`.
+// Where the order in force is (request W-207), and its numbers in the lent table: the default order, and that of `O latest`.
 pub const ORDER: usize = 8064;
 
 pub const DEFAULT_ORDER: u32 = 0;

@@ -7,8 +7,8 @@ use mathlib.Core.List.{List}
 use lib.Dec.{eqb}
 use lib.ListN.{length, get_or}
 use borrow.Author.Tests.{eqb-true, lt-ltb, le-ltb, eq-eqb, ne_eqb}
-use Rattle.scanning.specs.declared.SymbolCounts.{SymbolCounts}
-use Rattle.scanning.specs.declared.SymbolCounts.TheVariants.{Counts, Misnumbered}
+use Rattle.scanning.specs.Numbering.{SymbolCounts}
+use Rattle.std.specs.Prelude.{Option, Some, None}
 use Rattle.scanning.specs.Numbering.{outside_name, is_symbol, number_at, level_at, first_level, in_order, count_after, check_made, check_leftover, check_symbol}
 use Rattle.scanning.specs.Numbering.{check_numbering}
 use Rattle.numbering_check.specs.LevelCache.{made_entry, leftover_entry, cache_level, cache_showing, Cached, CacheValid, ValidAfter}
@@ -59,41 +59,54 @@ cache_old x v a i k n p q = rw (← p, ne_eqb n k q)
 
 -- one position
 
+-- What `counted` hands back says whether the symbol is in order.
+in_order_some : (c k : ℕ) (u v w : List ℕ) (s : Option ℕ) (z : Bool) → (s ≡ cond z (Some c) None) × (w ≡ cond z u v) → s ≡ Some k
+    → (z ≡ true) × (k ≡ c) × (w ≡ u)
+in_order_some c k u v w s true p q = let e = p.0 in (refl, cc, p.1)
+in_order_some c k u v w s false p q = let e = p.0 in absurd (let z : ◌≡◌ {A = ℕ} 0 1 = cc in omega arith)
+
+in_order_none : (c : ℕ) (s : Option ℕ) (z : Bool) → s ≡ cond z (Some c) None → s ≡ None → z ≡ false
+in_order_none c s true p q = absurd (let z : ◌≡◌ {A = ℕ} 0 1 = cc in omega arith)
+in_order_none c s false p q = refl
+
 -- A made constant, then a leftover variable. What is kept stays right where the numbering does.
 module _ (x v : List ℕ) (i m l n a : ℕ) (valid : CacheValid x v i m l) (p : n ≡ number_at x (i + 1)) where
   pub made_known : get_or x i 0 ≡ 33 → a ≡ made_entry (length v) n l
       → (n ≡ number_at x (i + 1)) × Cached (get_or v a 0) (first_level x (get_or x i 0) n)
   made_known b e = (p, rw (b, e) (valid.made_levels n))
 
-  pub made_right : (k : ℕ) (w : List ℕ) (z : Bool) → get_or x i 0 ≡ 33 → is_symbol x i ≡ true → a ≡ made_entry (length v) n l → z ≡ in_order x i m
-      → z ≡ true → k ≡ count_after x i m → w ≡ cache_showing x v a i m
-      → (Counts k l ≡ check_made x i m l) × CacheValid x w (i + 1) k l
+  pub made_right : (k : ℕ) (w : List ℕ) (r : Option ℕ) → get_or x i 0 ≡ 33 → is_symbol x i ≡ true → a ≡ made_entry (length v) n l
+      → (r ≡ cond (in_order x i m) (Some (count_after x i m)) None) × (w ≡ cond (in_order x i m) (cache_showing x v a i m) v) → r ≡ Some k
+      → (Some (k, l) ≡ check_made x i m l) × CacheValid x w (i + 1) k l
   unfolding check_made
-  made_right k w z b s e o t f g = (
-    rw (← o, t, ← f),
-    rw (f, g, e, p) (made_valid x v i m l valid b s (sym o ∙ t)),
-  )
+  made_right k w r b s e o t =
+      let h = in_order_some (count_after x i m) k (cache_showing x v a i m) v w r (in_order x i m) o t in (
+        rw (h.0, ← h.1),
+        rw (h.1, h.2, e, p) (made_valid x v i m l valid b s h.0),
+      )
 
-  pub made_wrong : (z : Bool) → z ≡ in_order x i m → z ≡ false → (Misnumbered ≡ check_made x i m l) × Unit {0}
+  pub made_wrong : (r : Option ℕ) → r ≡ cond (in_order x i m) (Some (count_after x i m)) None → r ≡ None → (None ≡ check_made x i m l) × Unit {0}
   unfolding check_made
-  made_wrong z o t = (rw (← o, t), tt)
+  made_wrong r o t = (rw (in_order_none (count_after x i m) r (in_order x i m) o t), tt)
 
   pub leftover_known : get_or x i 0 ≡ 95 → a ≡ leftover_entry (length v) n m
       → (n ≡ number_at x (i + 1)) × Cached (get_or v a 0) (first_level x (get_or x i 0) n)
   leftover_known b e = (p, rw (b, e) (valid.leftover_levels n))
 
-  pub leftover_right : (k : ℕ) (w : List ℕ) (z : Bool) → get_or x i 0 ≡ 95 → is_symbol x i ≡ true → a ≡ leftover_entry (length v) n m
-      → z ≡ in_order x i l → z ≡ true → k ≡ count_after x i l → w ≡ cache_showing x v a i l
-      → (Counts m k ≡ check_leftover x i m l) × CacheValid x w (i + 1) m k
+  pub leftover_right : (k : ℕ) (w : List ℕ) (r : Option ℕ) → get_or x i 0 ≡ 95 → is_symbol x i ≡ true → a ≡ leftover_entry (length v) n m
+      → (r ≡ cond (in_order x i l) (Some (count_after x i l)) None) × (w ≡ cond (in_order x i l) (cache_showing x v a i l) v) → r ≡ Some k
+      → (Some (m, k) ≡ check_leftover x i m l) × CacheValid x w (i + 1) m k
   unfolding check_leftover
-  leftover_right k w z b s e o t f g = (
-    rw (← o, t, ← f),
-    rw (f, g, e, p) (leftover_valid x v i m l valid b s (sym o ∙ t)),
-  )
+  leftover_right k w r b s e o t =
+      let h = in_order_some (count_after x i l) k (cache_showing x v a i l) v w r (in_order x i l) o t in (
+        rw (h.0, ← h.1),
+        rw (h.1, h.2, e, p) (leftover_valid x v i m l valid b s h.0),
+      )
 
-  pub leftover_wrong : (z : Bool) → z ≡ in_order x i l → z ≡ false → (Misnumbered ≡ check_leftover x i m l) × Unit {0}
+  pub leftover_wrong : (r : Option ℕ) → r ≡ cond (in_order x i l) (Some (count_after x i l)) None → r ≡ None
+      → (None ≡ check_leftover x i m l) × Unit {0}
   unfolding check_leftover
-  leftover_wrong z o t = (rw (← o, t), tt)
+  leftover_wrong r o t = (rw (in_order_none (count_after x i l) r (in_order x i l) o t), tt)
 
 -- A symbol whose first byte is not `!` begins with `_`.
 pub leftover_byte : (x : List ℕ) (i b : ℕ) (z : Bool) → z ≡ is_symbol x i → z ≡ true → b ≡ get_or x i 0 → (b ≡ 33 → ⊥)
@@ -118,7 +131,7 @@ module _ (x : List ℕ) (i m l : ℕ) (z : Bool) (p : z ≡ is_symbol x i) where
   unfolding check_symbol
   at_leftover b s v q e h k = (rw (← p, q, ← e, ne_eqb b 33 h) k.0, k.1)
 
-  pub at_none : (v : List ℕ) → z ≡ false → CacheValid x v i m l → (Counts m l ≡ check_symbol x i m l) × CacheValid x v (i + 1) m l
+  pub at_none : (v : List ℕ) → z ≡ false → CacheValid x v i m l → (Some (m, l) ≡ check_symbol x i m l) × CacheValid x v (i + 1) m l
   unfolding check_symbol
   at_none v q valid = (rw (← p, q), none_valid x v i m l valid (sym p ∙ q))
 
@@ -154,25 +167,25 @@ sigil_end x e i h = let d : e - i ≡ 0 = omega arith in rw d
 -- all positions
 
 -- What was found is right, and what is kept with it.
-pub valid_counts : (x v : List ℕ) (i m l : ℕ) (s : SymbolCounts) → ValidAfter x v i s → s ≡ Counts m l → CacheValid x v i m l
+pub valid_counts : (x v : List ℕ) (i m l : ℕ) (s : SymbolCounts) → ValidAfter x v i s → s ≡ Some (m, l) → CacheValid x v i m l
 valid_counts x v i m l s h e = subst (ValidAfter x v i) e h
 
-pub numbering_end : (x : List ℕ) (e i m l : ℕ) → e ≤ i → check_numbering (e - i) x i m l ≡ Counts m l
+pub numbering_end : (x : List ℕ) (e i m l : ℕ) → e ≤ i → check_numbering (e - i) x i m l ≡ Some (m, l)
 unfolding check_numbering
 numbering_end x e i m l h = let d : e - i ≡ 0 = omega arith in rw d
 
-pub numbering_wrong : (x : List ℕ) (e i m l : ℕ) (s : SymbolCounts) → i < e → s ≡ check_symbol x i m l → s ≡ Misnumbered
-    → check_numbering (e - i) x i m l ≡ Misnumbered
+pub numbering_wrong : (x : List ℕ) (e i m l : ℕ) (s : SymbolCounts) → i < e → s ≡ check_symbol x i m l → s ≡ None
+    → check_numbering (e - i) x i m l ≡ None
 unfolding check_numbering
 numbering_wrong x e i m l s h p q = let d : e - i ≡ suc (e - (i + 1)) = omega arith in rw (d, check_numbering, ← p, q)
 
-pub numbering_on : (x : List ℕ) (e i m l j k : ℕ) (s : SymbolCounts) → i < e → s ≡ check_symbol x i m l → s ≡ Counts j k
+pub numbering_on : (x : List ℕ) (e i m l j k : ℕ) (s : SymbolCounts) → i < e → s ≡ check_symbol x i m l → s ≡ Some (j, k)
     → check_numbering (e - i) x i m l ≡ check_numbering (e - (i + 1)) x (i + 1) j k
 unfolding check_numbering
 numbering_on x e i m l j k s h p q = let d : e - i ≡ suc (e - (i + 1)) = omega arith in rw (d, check_numbering, ← p, q)
 
 -- A position where no symbol begins changes no count.
-none_symbol : (x : List ℕ) (i m l : ℕ) → is_symbol x i ≡ false → check_symbol x i m l ≡ Counts m l
+none_symbol : (x : List ℕ) (i m l : ℕ) → is_symbol x i ≡ false → check_symbol x i m l ≡ Some (m, l)
 unfolding check_symbol
 none_symbol x i m l e = rw e
 

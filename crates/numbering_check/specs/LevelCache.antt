@@ -3,8 +3,8 @@
 -- level, or 0 where none is kept.
 use Rattle.std.specs.Prelude.{ℕ, ◌+◌, ◌-◌, ◌<◌, ◌≡◌, true, cond, List, eqb, ltb, length, get_or, set}
 use Prim.Native.Char.{code}
-use Rattle.scanning.specs.declared.SymbolCounts.{SymbolCounts}
-use Rattle.scanning.specs.declared.SymbolCounts.TheVariants.{Counts, Misnumbered}
+use Rattle.scanning.specs.Numbering.{SymbolCounts}
+use Rattle.std.specs.Prelude.{Some, None}
 use Rattle.scanning.specs.Numbering.{number_at, level_at, is_showing, first_level}
 
 -- Where the level of made constant n is kept, of so many entries, l leftover variables having shown: past the end if it could be an
@@ -46,5 +46,5 @@ pub record CacheValid (x v : List ℕ) (i m l : ℕ) : Type 0 where
 
 -- The same with the counts that were found, if the numbering is right.
 abbrev pub ValidAfter : List ℕ → List ℕ → ℕ → SymbolCounts → Type 0
-ValidAfter x v i (Counts m l) = CacheValid x v i m l
-ValidAfter x v i Misnumbered = Unit {0}
+ValidAfter x v i (Some (m, l)) = CacheValid x v i m l
+ValidAfter x v i None = Unit {0}

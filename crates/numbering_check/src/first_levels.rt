@@ -4,7 +4,7 @@ ghost use Rattle.scanning.specs.Numbering.{outside_name, is_symbol, number_at, l
 
 use line_parser::names::is_name_byte;
 use memory::byte;
-use scanning::Number;
+use scanning::NO_NUMBER;
 use term_scanner::ranges::find_byte;
 use term_scanner::tokens::scan_number;
 
@@ -40,8 +40,8 @@ fn number_at(text: &[u8], i: usize) -> u32
     ensures { (result ≡ number_at text.now i) × (result ≤ 65536) }
 {
     match scan_number(text, i) {
-        Number::Value(n, _) => n,
-        Number::Missing => scanning::NO_NUMBER,
+        Some((n, _)) => n,
+        None => NO_NUMBER,
     }
 }
 
@@ -52,7 +52,7 @@ pub fn number_after(text: &[u8], i: usize) -> u32
     if i < text.len() {
         return number_at(text, i + 1);
     }
-    scanning::NO_NUMBER
+    NO_NUMBER
 }
 
 // The level of the symbol at position i: after its number and `@`.
@@ -61,11 +61,11 @@ pub fn level_at(text: &[u8], i: usize) -> u32
 {
     if i < text.len() {
         return match scan_number(text, i + 1) {
-            Number::Value(_, e) => number_after(text, e),
-            Number::Missing => scanning::NO_NUMBER,
+            Some((_, e)) => number_after(text, e),
+            None => NO_NUMBER,
         };
     }
-    scanning::NO_NUMBER
+    NO_NUMBER
 }
 
 // Whether a symbol with first byte c and number n begins at position i.
@@ -88,13 +88,14 @@ fn level_from(text: &[u8], c: u8, n: u32, i: usize) -> u32
     ensures { result ≡ level_from (length text.now - i) text.now c n i }
 {
     let mut at = find_byte(text, c, i);
+    // A while: each turn goes on where the byte stands next, which is not the next position.
     while at < text.len() {
         if is_showing(text, c, n, at) {
             return level_at(text, at);
         }
         at = find_byte(text, c, at + 1);
     }
-    scanning::NO_NUMBER
+    NO_NUMBER
 }
 
 // The same in the whole text.

@@ -5,15 +5,13 @@
 mod first_levels;
 mod level_cache;
 
-ghost use Rattle.std.specs.Prelude.{◌≡◌, true, ◌+◌, ◌-◌, ◌≤◌, length, get_or};
+ghost use Rattle.std.specs.Prelude.{◌≡◌, cond, Some, None, ◌+◌, ◌-◌, ◌≤◌, length, get_or};
 ghost use Rattle.scanning.specs.Numbering.{
   is_symbol,
   number_at,
   first_level,
   in_order,
   count_after,
-  check_made,
-  check_leftover,
   check_symbol,
   check_numbering,
 };
@@ -21,9 +19,8 @@ ghost use Rattle.numbering_check.specs.LevelCache.{Cached, CacheValid, ValidAfte
 ghost use Rattle.numbering_check.specs.Sigils.{find_sigil};
 
 use first_levels::{first_level, is_symbol, level_at, number_after};
-use level_cache::{cache_level, cached_entry, leftover_entry, made_entry};
-use memory::byte;
-use scanning::SymbolCounts;
+use level_cache::{cache_level, leftover_entry, made_entry};
+use memory::{byte, item_or};
 use term_scanner::blocks::skip_blocks;
 
 // The level at the first showing of the symbol with first byte c and number n, whose entry is a.
@@ -31,7 +28,7 @@ fn known_level(text: &[u8], levels: &[u16], a: usize, c: u8, n: u32) -> u32
     requires { Cached (get_or levels.now a 0) (first_level text.now c n) }
     ensures { result ≡ first_level text.now c n }
 {
-    let entry = cached_entry(levels, a);
+    let entry = u32::from(item_or(levels, a, 0));
     if 0 < entry {
         return entry - 1;
     }
@@ -67,44 +64,36 @@ fn count_after(text: &[u8], levels: &mut [u16], a: usize, n: u32, i: usize, k: u
     k
 }
 
-// A made constant at position i, m made constants and l leftover variables having shown.
-fn check_made(text: &[u8], levels: &mut [u16], i: usize, m: u32, l: u32) -> SymbolCounts
-    requires { (get_or text.now i 0 ≡ 33) × (is_symbol text.now i ≡ true) × CacheValid text.now levels.old i m l }
-    ensures { (result ≡ check_made text.now i m l) × ValidAfter text.now levels.new (i + 1) result }
+// The symbol at position i, with number n and entry a, k of its kind having shown: how many have shown after it, if it is in order.
+fn counted(text: &[u8], levels: &mut [u16], a: usize, n: u32, i: usize, k: u32) -> Option<u32>
+    requires { (n ≡ number_at text.now (i + 1)) × (n ≤ 65536)
+        × Cached (get_or levels.old a 0) (first_level text.now (get_or text.now i 0) n) }
+    ensures { (result ≡ cond (in_order text.now i k) (Some (count_after text.now i k)) None)
+        × (levels.new ≡ cond (in_order text.now i k) (cache_showing text.now levels.old a i k) levels.old) }
 {
-    let n = number_after(text, i);
-    let a = made_entry(levels, n, l);
-    if in_order(text, levels, a, n, i, m) {
-        return SymbolCounts::Counts(count_after(text, levels, a, n, i, m), l);
+    if in_order(text, levels, a, n, i, k) {
+        return Some(count_after(text, levels, a, n, i, k));
     }
-    SymbolCounts::Misnumbered
-}
-
-// A leftover variable.
-fn check_leftover(text: &[u8], levels: &mut [u16], i: usize, m: u32, l: u32) -> SymbolCounts
-    requires { (get_or text.now i 0 ≡ 95) × (is_symbol text.now i ≡ true) × CacheValid text.now levels.old i m l }
-    ensures { (result ≡ check_leftover text.now i m l) × ValidAfter text.now levels.new (i + 1) result }
-{
-    let n = number_after(text, i);
-    let a = leftover_entry(levels, n, m);
-    if in_order(text, levels, a, n, i, l) {
-        return SymbolCounts::Counts(m, count_after(text, levels, a, n, i, l));
-    }
-    SymbolCounts::Misnumbered
+    None
 }
 
 // Whatever is at position i.
-fn check_symbol(text: &[u8], levels: &mut [u16], i: usize, m: u32, l: u32) -> SymbolCounts
+fn check_symbol(text: &[u8], levels: &mut [u16], i: usize, m: u32, l: u32) -> Option<(u32, u32)>
     requires { CacheValid text.now levels.old i m l }
     ensures { (result ≡ check_symbol text.now i m l) × ValidAfter text.now levels.new (i + 1) result }
 {
-    if is_symbol(text, i) {
-        if byte(text, i) == b'!' {
-            return check_made(text, levels, i, m, l);
-        }
-        return check_leftover(text, levels, i, m, l);
+    if !is_symbol(text, i) {
+        return Some((m, l));
     }
-    SymbolCounts::Counts(m, l)
+    let n = number_after(text, i);
+    if byte(text, i) == b'!' {
+        let a = made_entry(levels, n, l);
+        let made = counted(text, levels, a, n, i, m)?;
+        return Some((made, l));
+    }
+    let a = leftover_entry(levels, n, m);
+    let leftover = counted(text, levels, a, n, i, l)?;
+    Some((m, leftover))
 }
 
 // The first position from i on, before e, where a symbol may begin; e if there is none.
@@ -112,8 +101,8 @@ fn find_sigil(text: &[u8], i: usize, e: usize) -> usize
     requires { e ≤ length text.now }
     ensures { result ≡ find_sigil (e - i) text.now i }
 {
-    let mut at = skip_blocks(text, b'!', b'_', i, e);
-    while at < e {
+    let from = skip_blocks(text, b'!', b'_', i, e);
+    for at in from..e {
         let b = text[at];
         if b == b'!' {
             return at;
@@ -121,9 +110,8 @@ fn find_sigil(text: &[u8], i: usize, e: usize) -> usize
         if b == b'_' {
             return at;
         }
-        at += 1;
     }
-    at
+    from.max(e)
 }
 
 // The positions from i to e.
@@ -134,7 +122,7 @@ pub fn check_numbering(
     e: usize,
     m: u32,
     l: u32,
-) -> SymbolCounts
+) -> Option<(u32, u32)>
     requires { (e ≤ length text.now) × CacheValid text.now levels.old i m l }
     ensures { (result ≡ check_numbering (e - i) text.now i m l)
         × ValidAfter text.now levels.new e result }
@@ -142,17 +130,12 @@ pub fn check_numbering(
     let mut at = find_sigil(text, i, e);
     let mut made = m;
     let mut leftover = l;
+    // A while: each turn goes on where the next symbol may begin, which is not the next position.
     while at < e {
-        match check_symbol(text, levels, at, made, leftover) {
-            SymbolCounts::Counts(p, q) => {
-                made = p;
-                leftover = q;
-            }
-            SymbolCounts::Misnumbered => {
-                return SymbolCounts::Misnumbered;
-            }
-        }
+        let (p, q) = check_symbol(text, levels, at, made, leftover)?;
+        made = p;
+        leftover = q;
         at = find_sigil(text, at + 1, e);
     }
-    SymbolCounts::Counts(made, leftover)
+    Some((made, leftover))
 }

@@ -1,2 +1,3 @@
 -- What the engine and the checker hand back, in document 01's numbers.
 pub mod Outcomes
+pub mod Refusals

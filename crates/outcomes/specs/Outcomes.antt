@@ -1,6 +1,5 @@
 -- Document 01: "When an answer is an enum, a definition gives this paper's number and values for each of its cases."
 use Rattle.std.specs.Prelude.{ℕ}
-use Rattle.outcomes.specs.declared.Refusal.{Refusal}
 use Rattle.outcomes.specs.declared.Outcome.{Outcome}
 use Rattle.outcomes.specs.declared.Outcome.TheVariants.{Proved, No, Spent, Refused}
 use Rattle.outcomes.specs.declared.Run.{Run}

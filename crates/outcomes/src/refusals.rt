@@ -1,28 +1,44 @@
-// Document 01's numbers of refusals, in checking order, named as in include/rules.h.
+// Why a call is refused, in checking order, named as in include/rules.h; document 01 numbers the reasons (specs/Refusals.antt: number_of).
+ghost use Rattle.std.specs.Prelude.{◌≡◌};
+ghost use Rattle.outcomes.specs.Refusals.{number_of};
 
-pub const SHEET_TOO_LONG: u32 = 1;
+#[derive(Clone, Copy, Debug, PartialEq, Eq)]
+pub enum Reason {
+    SheetTooLong,
+    TableTooShort,
+    Budget,
+    TextTooLong,
+    WorkTooShort,
+    Malformed,
+    TooMany,
+    Unknown,
+    WrongKind,
+    FreeVariable,
+    NoGoal,
+    AnswerTooLong,
+    // Request W-202: checked right after the budget.
+    Proofs,
+}
 
-pub const TABLE_TOO_SHORT: u32 = 2;
+// The reason's number.
+impl From<Reason> for u32 {
+    ghost from_gives = { λ reason number. number ≡ number_of reason };
 
-pub const BUDGET: u32 = 3;
-
-pub const TEXT_TOO_LONG: u32 = 4;
-
-pub const WORK_TOO_SHORT: u32 = 5;
-
-pub const MALFORMED: u32 = 6;
-
-pub const TOO_MANY: u32 = 7;
-
-pub const UNKNOWN: u32 = 8;
-
-pub const WRONG_KIND: u32 = 9;
-
-pub const FREE_VARIABLE: u32 = 10;
-
-pub const NO_GOAL: u32 = 11;
-
-pub const ANSWER_TOO_LONG: u32 = 12;
-
-// Request W-202: checked right after the budget.
-pub const PROOFS: u32 = 13;
+    fn from(reason: Reason) -> u32 {
+        match reason {
+            Reason::SheetTooLong => 1,
+            Reason::TableTooShort => 2,
+            Reason::Budget => 3,
+            Reason::TextTooLong => 4,
+            Reason::WorkTooShort => 5,
+            Reason::Malformed => 6,
+            Reason::TooMany => 7,
+            Reason::Unknown => 8,
+            Reason::WrongKind => 9,
+            Reason::FreeVariable => 10,
+            Reason::NoGoal => 11,
+            Reason::AnswerTooLong => 12,
+            Reason::Proofs => 13,
+        }
+    }
+}

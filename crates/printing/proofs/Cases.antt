@@ -1,4 +1,5 @@
 -- The writer computed, on the memory that the machine leaves of a lent buffer of sevens.
+use Rattle.std.specs.Prelude.{Option, None}
 use Prim.Native.Nat.{ℕ}
 use mathlib.Core.Path.{◌≡◌, refl}
 use mathlib.Core.List.{List, [], ◌∷◌, ◌++◌}
@@ -41,7 +42,7 @@ use Rattle.node_table.specs.Chains.{below_of, chain_names, chain_count}
 use Rattle.clause_members.specs.Members.{chain_at, reverse_free, pass_chain, find_member, member, head_of}
 
 -- A run of the machine and the text written, and what `out` holds if the text is appended to it twice, the memory restored between.
-unfoldable compute_answer : List ℕ → List ℕ → ℕ → ℕ → ℕ → List ℕ → List ℕ → Answered × Answered
+unfoldable compute_answer : List ℕ → List ℕ → ℕ → ℕ → ℕ → List ℕ → List ℕ → Answered (Option ℕ) × Answered ℕ
 unfolding field put_field cell_of level_of put_cell put_level put_entry put_goal put_assumption put_path put_use put_choice put_chosen put_position
     put_pairs put_nodes with_acts with_mode with_next with_trail with_choice with_goals with_path with_goal with_member with_pairs with_sides
     with_check with_due with_nodes truncate increment variable_word constant_word closure_word tag_of name_of node_of frame_of slot_of word_of
@@ -85,7 +86,7 @@ unfolding compute_answer constants constants_table ascii
 constants_written = refl
 
 -- The text of `constants` does not fit a buffer that is one byte short.
-constants_short : (compute_answer constants constants_table 1 6 8 (replicate 512 7) (replicate 49 0)).0.length ≡ 65536
+constants_short : (compute_answer constants constants_table 1 6 8 (replicate 512 7) (replicate 49 0)).0.length ≡ None
 unfolding compute_answer constants constants_table ascii
 constants_short = refl
 

@@ -1,6 +1,7 @@
 -- The pass, and the theorems: a text is written after what stands before it, and the answer buffer and the length are what
 -- `reported_length` says of the answer text.
 use Prim.Native.Nat.{ℕ, ◌+◌, ◌≤◌, ◌<◌}
+use Rattle.std.specs.Prelude.{Some, None}
 use native.Mathlib.Omega.{arith}
 use mathlib.Core.Path.{◌≡◌, refl, sym, ap, ap₂, ◌∙◌, subst}
 use mathlib.Core.Bool.{Bool, true, false}
@@ -33,7 +34,7 @@ use Rattle.printing.specs.Output.{Written, written, emit, write_bytes}
 use Rattle.printing.specs.Numbering.{constant_mark, Printer, printer}
 use Rattle.sheet_format.specs.Limits.{max_text_bytes}
 use Rattle.printing.specs.WriteLines.{result_to, bindings_to}
-use Rattle.printing.specs.Writer.{text_limit, no_room, cursor_from, proof_pass, prepare, first_link, own_bytes, append_proof}
+use Rattle.printing.specs.Writer.{Fitted, fitted, fitting, text_limit, cursor_from, proof_pass, prepare, first_link, own_bytes, append_proof}
 use Rattle.printing.specs.Writer.{append_result, copied, write_proof, write_short, write_no, write_spent}
 use Rattle.printing.specs.Written.{Orderly, reported_length, Appended, AppendsProof, AppendsResult, WritesProof, WritesNo}
 use Rattle.printing.specs.Written.{WritesSpent}
@@ -51,12 +52,12 @@ use Rattle.memory.specs.Records.{field}
 
 -- Written or not, by the length of the text.
 reported_fits : (text out : List ℕ) → length text ≤ text_limit out
-    → reported_length text out ≡ written (text ++ drop (length text) out) (length text)
+    → reported_length text out ≡ fitted (text ++ drop (length text) out) (Some (length text))
 unfolding reported_length
 reported_fits text out h = rw (le-leb (length text) (text_limit out) h)
 
 -- A text that does not fit is not written.
-reported_long : (text out : List ℕ) → text_limit out < length text → reported_length text out ≡ written out no_room
+reported_long : (text out : List ℕ) → text_limit out < length text → reported_length text out ≡ fitted out None
 unfolding reported_length
 reported_long text out h = rw (lt-leb (length text) (text_limit out) h)
 
@@ -82,10 +83,10 @@ module _ (out : List ℕ) where
   counted_fits text buffer n e h = let z = bytes_end text buffer (text_limit out) 0 limit_low (omega arith) in omega arith
 
   -- Writing a text that fits writes it.
-  written_fits : (text : List ℕ) → length text ≤ text_limit out → write_bytes text out (text_limit out) 0 ≡ reported_length text out
+  written_fits : (text : List ℕ) → length text ≤ text_limit out → fitting (write_bytes text out (text_limit out) 0) ≡ reported_length text out
   written_fits text h =
-      bytes_fit text [] out (text_limit out) 0 limit_low refl (omega arith) (let r = limit_room in omega arith)
-      ∙ ap (written (text ++ drop (length text) out)) (let e : 0 + length text ≡ length text = omega arith in e)
+      ap fitting (bytes_fit text [] out (text_limit out) 0 limit_low refl (omega arith) (let r = limit_room in omega arith)
+      ∙ ap (written (text ++ drop (length text) out)) (let e : 0 + length text ≡ length text = omega arith in e))
       ∙ sym (reported_fits text out h)
 
 -- Bytes that are written after others follow them if they fit, and end past the limit if they do not.
@@ -111,7 +112,7 @@ pub copied_fits : (text rest out : List ℕ) → length text ≤ text_limit out
 unfolding copied
 copied_fits text rest out h =
     rw (copied, le-ltb (text_limit out) (length text) h)
-    (ap (λ (l : List ℕ). written (l ++ drop (length text) out) (length text)) (take-append_seam text rest)
+    (ap (λ (l : List ℕ). fitted (l ++ drop (length text) out) (Some (length text))) (take-append_seam text rest)
     ∙ sym (reported_fits text out h))
 
 -- A position past the limit stands for a text that does not fit: nothing is copied.
@@ -167,13 +168,13 @@ short_reported bs units out = go (ltb (text_limit out) (append_result bs units [
     count = ap (λ (s : Written). s.at) (result_bytes bs units [] (text_limit out) 0)
 
     go : (b : Bool) → ltb (text_limit out) (append_result bs units [] (text_limit out) 0).at ≡ b
-        → ◌≡◌ {A = Written} (elim b [ true ↦ written out no_room | false ↦ append_result bs units out (text_limit out) 0 ])
+        → ◌≡◌ {A = Fitted} (elim b [ true ↦ fitted out None | false ↦ fitting (append_result bs units out (text_limit out) 0) ])
         (reported_length text out)
     go true e =
         sym (reported_long text out (counted_long out text [] (append_result bs units [] (text_limit out) 0).at count
         (ltb-true (text_limit out) (append_result bs units [] (text_limit out) 0).at e)))
     go false e =
-        result_bytes bs units out (text_limit out) 0
+        ap fitting (result_bytes bs units out (text_limit out) 0)
         ∙ written_fits out text (counted_fits out text [] (append_result bs units [] (text_limit out) 0).at count
         (ltb-false (text_limit out) (append_result bs units [] (text_limit out) 0).at e))
 
@@ -379,7 +380,7 @@ module _ (sheet t : List ℕ) (symbols nodes clauses goal : ℕ) (table : WellMa
 
   -- What the writer leaves in the answer buffer.
   proof_reported : (out : List ℕ)
-      → written (write_proof sheet t goal m units out).buffer (write_proof sheet t goal m units out).length ≡ reported_length text out
+      → fitted (write_proof sheet t goal m units out).buffer (write_proof sheet t goal m units out).length ≡ reported_length text out
   unfolding write_proof own_bytes
   proof_reported out =
       let l = length-replicate {A = ℕ} max_text_bytes 0 in

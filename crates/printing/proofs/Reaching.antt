@@ -7,17 +7,17 @@ use mathlib.Core.Bool.{Bool, true, false, cond}
 use mathlib.Core.List.{List, [], ◌∷◌, ◌++◌}
 use lib.Dec.{ltb}
 use lib.ListN.{length, set}
-use borrow.Author.Tests.{ltb-true, ltb-false, le-ltb, lt-ltb}
+use borrow.Author.Tests.{ltb-true, ltb-false, le-ltb}
 use Rattle.terms.specs.Lists.{All}
 use Rattle.sequents.specs.Symbols.{Symbol, made, leftover}
 use Rattle.sheet_format.specs.Limits.{numbers_per_unit}
-use Rattle.printing.specs.Output.{Written, written, emit, write_bytes, write_symbol}
+use Rattle.printing.specs.Output.{Written, emit, write_bytes, write_symbol}
 use Rattle.printing.specs.Numbering.{with_position, Printer, wrote, write_variable, write_constant}
 use Rattle.printing.specs.WriteTerms.{emit_to}
 use Rattle.printing.proofs.Bytes.{emit_over, emit_within, bytes_over, bytes_grow, emit_long, symbol_bytes}
 use Rattle.printing.proofs.Tokens.{Token, byte, sign, show_symbol, step, steps, steps_append, signs}
-use Rattle.printing.proofs.LeftAlone.{Alike, alike_refl, alike_trans, alike_fewer}
-use Rattle.printing.proofs.Steps.{Right, write_grow, step_grow, steps_grow, steps_long, steps_alike}
+use Rattle.printing.proofs.LeftAlone.{Alike, alike_trans, alike_fewer}
+use Rattle.printing.proofs.Steps.{Right, step_grow, steps_grow, steps_long, steps_alike}
 
 -- Lower limits.
 

@@ -5,7 +5,7 @@ use Rattle.std.specs.Prelude.{ℕ, zero, suc, ◌-◌, ◌*◌, ◌/◌, cond, L
 use Prim.Native.Char.{code}
 use Rattle.machine.specs.Fields as fields
 use Rattle.machine.specs.Records.{cell_of, level_of, put_cell}
-use Rattle.machine.specs.Words.{truncate, increment, variable_tag, tag_count}
+use Rattle.machine.specs.Words.{truncate, increment, tag_count}
 use Rattle.printing.specs.declared.Cursor.{Cursor}
 use Rattle.printing.specs.Output.{Written, write_symbol}
 use Rattle.memory.specs.Records.{field, put_field}

@@ -1,5 +1,5 @@
 -- What is proved of the writer: it writes the answer text of document 01 if it fits, and otherwise no byte.
-use Rattle.std.specs.Prelude.{ℕ, zero, suc, ◌+◌, ◌-◌, ◌*◌, ◌≤◌, ◌<◌, ◌≡◌, cond, List, [], ◌∷◌, ◌++◌, ◌⊎◌, leb, length, drop}
+use Rattle.std.specs.Prelude.{ℕ, zero, suc, ◌+◌, ◌-◌, ◌*◌, ◌≤◌, ◌<◌, ◌≡◌, cond, List, [], ◌∷◌, ◌++◌, ◌⊎◌, leb, length, drop, Some, None}
 use Rattle.sequents.specs.Sequents.{Line}
 use Rattle.unification.specs.Store.{Leaf, Store}
 use Rattle.unification.specs.Promises.{Unbound, Formed}
@@ -17,9 +17,8 @@ use Rattle.machine.specs.Machine.{run_machine}
 use Rattle.machine.specs.Simulation.{StandsAt}
 use Rattle.answer_texts.specs.Spelling.{no_text, spent_text}
 use Rattle.answer_texts.specs.Promises.{search_text}
-use Rattle.printing.specs.Output.{Written, written}
 use Rattle.printing.specs.PathLinks.{clear_variables, next_line_field}
-use Rattle.printing.specs.Writer.{text_limit, no_room, append_proof, append_result, write_proof, write_no, write_spent}
+use Rattle.printing.specs.Writer.{Fitted, fitted, text_limit, append_proof, append_result, write_proof, write_no, write_spent}
 use Rattle.memory.specs.Records.{field}
 
 -- What holds of the machine's memory after a proved search, beside `StandsAt`. All of it is part of the simulation's invariant.
@@ -71,16 +70,16 @@ pub record Orderly (t : List ℕ) (nodes : ℕ) (m : Made) (s : Store) : Type 0 
   pub pointer : m.registers.path ≤ m.registers.acts
   pub path : PathMade m.registers.acts m.memory s.next m.registers.path m.registers.line
 
--- What becomes of the answer buffer, and the text's length: "an answer changes only its own bytes".
-unfoldable pub reported_length : List ℕ → List ℕ → Written
+-- What becomes of the answer buffer, and the text's length, if it fits: "an answer changes only its own bytes".
+unfoldable pub reported_length : List ℕ → List ℕ → Fitted
 reported_length text out =
-    cond (leb (length text) (text_limit out)) (written (text ++ drop (length text) out) (length text)) (written out no_room)
+    cond (leb (length text) (text_limit out)) (fitted (text ++ drop (length text) out) (Some (length text))) (fitted out None)
 
 -- The answer text is written if it fits, and otherwise no byte.
 abbrev pub WritesProof : Type 0
 WritesProof = (sheet t : List ℕ) (symbols nodes clauses goal : ℕ) → WellMade t nodes clauses goal → Named t nodes symbols
     → (m : Made) (s : Store) (path : List (Line Leaf)) → StandsAt t m proved_mode s path → Orderly t nodes m s → (units : ℕ) (out : List ℕ)
-    → written (write_proof sheet t goal m units out).buffer (write_proof sheet t goal m units out).length
+    → fitted (write_proof sheet t goal m units out).buffer (write_proof sheet t goal m units out).length
     ≡ reported_length (search_text (decode_sheet sheet t symbols clauses goal) s path units) out
 
 -- So after every run of the machine that ends with a proof.
@@ -90,7 +89,7 @@ WritesAnswer = (sheet t : List ℕ) (symbols nodes clauses goal : ℕ) → WellM
     → (s : Store) (path : List (Line Leaf)) (n : ℕ)
     → search budget (rules (order_of t) (clauses_from t clauses 0)) (goal_at t goal) ≡ ends (proved s path) n
     → (out : List ℕ)
-    → written (write_proof sheet t goal (run_machine budget t clauses goal w) n out).buffer
+    → fitted (write_proof sheet t goal (run_machine budget t clauses goal w) n out).buffer
     (write_proof sheet t goal (run_machine budget t clauses goal w) n out).length
     ≡ reported_length (search_text (decode_sheet sheet t symbols clauses goal) s path n) out
 

@@ -6,9 +6,6 @@ pub mod fields;
 // The number of lines that a link tells apart (specs/Links.antt).
 pub const LINE_CODES: u32 = 8;
 
-// The length of a text that does not fit (specs/Writer.antt).
-pub const NO_ROOM: u32 = 65536;
-
 // Where the next byte goes, and how many leftover variables and made constants have been numbered.
 #[derive(Clone, Copy)]
 pub struct Cursor {

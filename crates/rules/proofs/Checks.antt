@@ -9,12 +9,12 @@ use Rattle.checker_spec.specs.Promises.{HandedBack, CheckContract}
 use Rattle.rules.specs.Results.{put_front}
 use Rattle.rules.specs.RulesCheck.{check_numbers, check_of, RulesCheck}
 
--- The numbers of a verdict that was matched.
-pub check_reported : (v o : Verdict) (l l' : List ℕ) (n : ℕ) → v ≡ o
-    → (n ≡ verdict_code o) × (l' ≡ put_front (verdict_code o ∷ verdict_line o ∷ verdict_number o ∷ []) l)
+-- The numbers of a verdict.
+pub check_reported : (v : Verdict) (l l' : List ℕ) (n a b : ℕ) → n ≡ verdict_code v → a ≡ verdict_line v → b ≡ verdict_number v
+    → l' ≡ put_front (n ∷ a ∷ b ∷ []) l
     → (n ≡ (handed v).verdict) × (l' ≡ put_front (check_numbers (handed v)) l)
 unfolding handed check_numbers
-check_reported v o l l' n e p = rw e p
+check_reported v l l' n a b e f g p = (e, rw (← e, ← f, ← g) p)
 
 -- What the checker hands back is determined by its contract.
 pub rules_check : (bytes text table work result table' work' result' : List ℕ) (n : ℕ) (h : HandedBack)

@@ -1,10 +1,9 @@
 -- What a request's numbers ask for.
 use Prim.Native.Nat.{ℕ, ◌≤◌, ◌<◌}
 use native.Mathlib.Omega.{arith}
-use mathlib.Core.Path.{◌≡◌, refl, ap, sym}
+use mathlib.Core.Path.{◌≡◌, refl, ap}
 use mathlib.Core.List.{List, [], ◌∷◌}
 use lib.ListN.{length, get_or}
-use Rattle.engine_spec.specs.EngineRun.{Request as Asked}
 use Rattle.engine_spec.specs.Handed.{asked}
 use Rattle.rules.specs.RulesAsk.{requested}
 

@@ -3,7 +3,6 @@ use Prim.Native.Nat.{ℕ}
 use mathlib.Core.Path.{◌≡◌, ap, ◌∙◌, subst}
 use mathlib.Core.List.{List, [], ◌∷◌}
 use Rattle.outcomes.specs.declared.Run.{Run}
-use Rattle.outcomes.specs.declared.Outcome.{Outcome}
 use Rattle.outcomes.specs.Outcomes.{outcome_code, refusal_number, refusal_line}
 use Rattle.engine_spec.specs.EngineRun.{Request}
 use Rattle.engine_spec.specs.Handed.{handed}
@@ -12,12 +11,12 @@ use Rattle.rules.specs.Results.{put_front}
 use Rattle.rules.specs.RulesRun.{run_numbers, one_proof, run_of, RulesRun}
 use Rattle.rules.specs.RulesAsk.{requested, ask_numbers, RulesAsk}
 
--- The numbers of an outcome that was matched.
-pub run_reported : (r : Run) (o : Outcome) (l l' : List ℕ) (n : ℕ) → r.outcome ≡ o
-    → (n ≡ outcome_code o) × (l' ≡ put_front (outcome_code o ∷ r.units ∷ r.length ∷ refusal_number o ∷ refusal_line o ∷ []) l)
+-- The numbers of a run.
+pub run_reported : (r : Run) (l l' : List ℕ) (n a b : ℕ) → n ≡ outcome_code r.outcome → a ≡ refusal_number r.outcome → b ≡ refusal_line r.outcome
+    → l' ≡ put_front (n ∷ r.units ∷ r.length ∷ a ∷ b ∷ []) l
     → (n ≡ (handed r).outcome) × (l' ≡ put_front (run_numbers (handed r)) l)
 unfolding handed run_numbers
-run_reported r o l l' n e p = rw e p
+run_reported r l l' n a b e f g p = (e, rw (← e, ← f, ← g) p)
 
 -- What the engine hands back is determined by its contract: for one proof,
 pub rules_run : (bytes : List ℕ) (budget : ℕ) (table work answer result table' work' answer' result' : List ℕ) (n : ℕ) (h : HandedBack)

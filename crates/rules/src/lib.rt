@@ -10,33 +10,25 @@ ghost use Rattle.rules.specs.RulesAsk.{requested, ask_numbers, RulesAsk};
 ghost use Rattle.rules.specs.RulesCheck.{check_numbers, RulesCheck};
 
 use memory::{get, put};
-use outcomes::{Outcome, Request, Run, Verdict, codes};
+use outcomes::{Request, Run, Verdict};
 
-// The first is returned too.
-fn put_run(res: &mut [u32], outcome: u32, units: u32, length: u32, number: u32, line: u32) -> u32
-    ensures { (result ≡ outcome)
-        × (res.new ≡ put_front (outcome ∷ units ∷ length ∷ number ∷ line ∷ []) res.old) }
+// Numbers over the front of a lent list, as far as it is long.
+fn put_front(res: &mut [u32], numbers: &[u32])
+    ensures { res.new ≡ put_front numbers.now res.old }
 {
-    put(res, 0, outcome);
-    put(res, 1, units);
-    put(res, 2, length);
-    put(res, 3, number);
-    put(res, 4, line);
-    outcome
+    let n = res.len().min(numbers.len());
+    res[..n].copy_from_slice(&numbers[..n]);
 }
 
+// The run's numbers go to `res`; the outcome's is returned too.
 fn report_run(r: Run, res: &mut [u32]) -> u32
     ensures { (result ≡ (handed_run r).outcome) × (res.new ≡ put_front (run_numbers (handed_run r)) res.old) }
 {
-    let units = r.units;
-    let length = r.length;
-    let outcome = r.outcome;
-    match outcome {
-        Outcome::Proved => put_run(res, codes::PROVED, units, length, 0, 0),
-        Outcome::No => put_run(res, codes::NO, units, length, 0, 0),
-        Outcome::Spent => put_run(res, codes::SPENT, units, length, 0, 0),
-        Outcome::Refused(f) => put_run(res, codes::RUN_REFUSED, units, length, f.number, f.line),
-    }
+    let code = u32::from(r.outcome);
+    let number = r.outcome.refusal_number();
+    let line = r.outcome.refusal_line();
+    put_front(res, &[code, r.units, r.length, number, line]);
+    code
 }
 
 // Calls engine::run for one proof; the outcome's number is returned.
@@ -94,24 +86,13 @@ pub fn rules_ask(
     report_ask(r, res)
 }
 
-// The first is returned too.
-fn put_check(res: &mut [u32], verdict: u32, line: u32, number: u32) -> u32
-    ensures { (result ≡ verdict) × (res.new ≡ put_front (verdict ∷ line ∷ number ∷ []) res.old) }
-{
-    put(res, 0, verdict);
-    put(res, 1, line);
-    put(res, 2, number);
-    verdict
-}
-
+// The check's numbers go to `res`; the verdict's is returned too.
 fn report_check(v: Verdict, res: &mut [u32]) -> u32
     ensures { (result ≡ (handed_check v).verdict) × (res.new ≡ put_front (check_numbers (handed_check v)) res.old) }
 {
-    match v {
-        Verdict::Valid => put_check(res, codes::VALID, 0, 0),
-        Verdict::Invalid(line) => put_check(res, codes::NOT_VALID, line, 0),
-        Verdict::Refused(f) => put_check(res, codes::CHECK_REFUSED, f.line, f.number),
-    }
+    let code = u32::from(v);
+    put_front(res, &[code, v.line(), v.refusal_number()]);
+    code
 }
 
 // Calls checker::check; the verdict's number is returned.

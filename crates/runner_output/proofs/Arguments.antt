@@ -10,7 +10,9 @@ use Rattle.sheet_format.specs.Bytes.{tab, extend_field, fields, is_digit, number
 use Rattle.sheet_format.specs.SheetLines.{cons_number, numbers}
 use Rattle.sheet_format.proofs.Bytes.{Without}
 use Rattle.sheet_format.proofs.Numbers.{decimal_number, decimal_without}
-use Rattle.line_parser.specs.declared.lines.One.TheVariants.{Only, Refused}
+use Rattle.std.specs.Prelude.{Ok, Err, Result}
+use Rattle.std.specs.Result.{result_unwrap_or}
+use Rattle.outcomes.specs.declared.refusals.Reason.{Reason}
 use Rattle.line_parser.specs.Lines.{one_answer}
 use Rattle.line_parser.proofs.lines.Laws.{one_is}
 use Rattle.runner_output.specs.RunnerOutput.{or_zero, proofs_asked}
@@ -27,7 +29,7 @@ unfolding is_digit
 number_without s n e = rw (decimal_number s n e).0 (decimal_without n tab refl)
 
 -- So it is read as the only field.
-number_alone : (s : List ℕ) (n : ℕ) → number s ≡ some n → one_answer (numbers (fields s)) ≡ Only n
+number_alone : (s : List ℕ) (n : ℕ) → number s ≡ some n → one_answer (numbers (fields s)) ≡ Ok n
 unfolding numbers cons_number one_answer
 number_alone s n e = rw (one_field s (number_without s n e)) (rw e)
 
@@ -100,19 +102,12 @@ alone_number s n h =
     let r = numbers_one (fields s) n h in
     sym (ap number (only_field s r.0 r.1)) ∙ r.2
 
-module _ (s : List ℕ) where
-  -- Where one number is read, it is the argument's.
-  pub asked_number : (n : ℕ) → one_answer (numbers (fields s)) ≡ Only n → n ≡ proofs_asked s
-  unfolding proofs_asked or_zero
-  asked_number n h = rw (alone_number s n (one_is _ n h))
-
-  -- Where none is read, the argument is no number.
-  pub asked_none : (k : ℕ) → one_answer (numbers (fields s)) ≡ Refused k → 0 ≡ proofs_asked s
-  unfolding proofs_asked or_zero
-  asked_none k h = go (number s) refl
-    where
-      go : (o : Option ℕ) → number s ≡ o → 0 ≡ or_zero o
-      go none e = refl
-      go (some n) e =
-          let f : Only n ≡ Refused k = sym (number_alone s n e) ∙ h in
-          let z : ◌≡◌ {A = ℕ} 0 1 = cc in absurd (omega arith)
+-- The number that is read, or 0, is the one that the argument asks for.
+pub asked_number : (s : List ℕ) → result_unwrap_or (one_answer (numbers (fields s))) 0 ≡ proofs_asked s
+unfolding proofs_asked or_zero
+asked_number s = go (number s) refl (one_answer (numbers (fields s))) refl
+  where
+    go : (o : Option ℕ) → number s ≡ o → (r : Result ℕ Reason) → one_answer (numbers (fields s)) ≡ r → result_unwrap_or r 0 ≡ or_zero o
+    go none e (Err reason) h = refl
+    go none e (Ok n) h = let k = alone_number s n (one_is _ n h) in let z : ◌≡◌ {A = ℕ} 0 1 = cc in absurd (omega arith)
+    go (some n) e r h = rw (sym h ∙ number_alone s n e)

@@ -5,7 +5,7 @@ ghost use Rattle.std.specs.Prelude.{◌≡◌, take};
 ghost use Rattle.line_writer.specs.Appending.{Fits};
 ghost use Rattle.runner_output.specs.RunnerOutput.{runner_output, proofs_asked};
 
-use line_parser::lines::{One, one_number};
+use line_parser::lines::one_number;
 use line_writer::put_refusal;
 use memory::widen;
 use outcomes::{Outcome, Request};
@@ -23,10 +23,7 @@ pub const SHEET_BYTES: usize = limits::MAX_SHEET_BYTES + 1;
 pub fn proofs_asked(argument: &[u8]) -> u32
     ensures { result ≡ proofs_asked argument.now }
 {
-    let One::Only(n) = one_number(argument) else {
-        return 0;
-    };
-    n
+    one_number(argument).unwrap_or(0)
 }
 
 // The answer text is written where the engine writes it, and the line of a refusal in its place.

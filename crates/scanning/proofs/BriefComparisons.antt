@@ -7,21 +7,22 @@ use mathlib.Core.Bool.{Bool, true, false, ◌&&◌, cond}
 use mathlib.Core.List.{List}
 use mathlib.Core.Logic.{◌⊎◌, inl, inr}
 use lib.Dec.{eqb, ltb}
+use Rattle.std.specs.Prelude.{Option, Some, None}
 use borrow.Author.Tests.{eqb-true}
-use Rattle.terms.specs.Terms.{app, Terms, substitute, substitutes}
+use Rattle.terms.specs.Terms.{substitute, substitutes}
 use Rattle.sequents.specs.Symbols.{Symbol, Ground}
 use Rattle.sequents.specs.Sequents.{Environment}
 use Rattle.sheet_format.proofs.Names.{Names}
 use Rattle.sheet_format.specs.Limits.{max_nodes}
 use Rattle.node_table.specs.Layout.{child_count, label_of, child_of}
-use Rattle.node_table.specs.Decoding.{functor_of, children_by, term_at, arguments_at, declarations_from}
+use Rattle.node_table.specs.Decoding.{children_by, term_at, arguments_at, declarations_from}
 use Rattle.node_table.specs.WellMade.{label_arity, Arguments}
 use Rattle.node_table.proofs.Decoding.{Nodes}
 use Rattle.node_table.proofs.Functors.{labels_compare}
 use Rattle.text_judging.specs.Judging.{same_term, same_terms}
 use Rattle.scanning.specs.Classes.{is_name_element, element_side, element_node, element_child, side_frame, node_element}
 use Rattle.scanning.specs.Instances.{argument_count, start_of, end_of, same_name, same_by_classes}
-use Rattle.scanning.specs.BriefComparisons.{brief_name, brief_children, brief_nodes, brief_elements, decided_by, same_atoms}
+use Rattle.scanning.specs.BriefComparisons.{brief_name, found_then, brief_children, brief_nodes, brief_elements, decided_by, same_atoms}
 use Rattle.scanning.proofs.Ranges.{Folded}
 use Rattle.scanning.proofs.InstanceSpelling.{argument_count_lem}
 use Rattle.scanning.proofs.Nodes.{same_term_swap}
@@ -29,21 +30,21 @@ use Rattle.scanning.proofs.Elements.{environment_on, Means, same_name_lem, node_
 use Rattle.scanning.proofs.Instances.{applied, child_means, AtomIn, atom_means, same_by_classes_lem}
 
 -- What is found is undecided, or z.
-abbrev Finds : ℕ → Bool → Type 0
-Finds v z = (v ≡ 2) ⊎ (v ≡ cond z 1 0)
+abbrev Finds : Option Bool → Bool → Type 0
+Finds v z = (v ≡ None) ⊎ (v ≡ Some z)
 
 -- A comparison after another one.
-finds_then : (v v' : ℕ) (y z : Bool) → Finds v y → Finds v' z → Finds (cond (eqb v 1) v' v) (y && z)
+finds_then : (v v' : Option Bool) (y z : Bool) → Finds v y → Finds v' z
+    → Finds (found_then v v') (y && z)
 finds_then v v' y z (inl e) k = inl (rw e refl)
 finds_then v v' true z (inr e) k = rw e k
 finds_then v v' false z (inr e) k = inr (rw e refl)
 
 -- Classes find it where it is undecided.
-finds_decided : (v : ℕ) (y z : Bool) → Finds v z → y ≡ z → decided_by v y ≡ z
+finds_decided : (v : Option Bool) (y z : Bool) → Finds v z → y ≡ z → decided_by v y ≡ z
 unfolding decided_by
 finds_decided v y z (inl e) k = rw e k
-finds_decided v y true (inr e) k = rw e refl
-finds_decided v y false (inr e) k = rw e refl
+finds_decided v y z (inr e) k = rw e refl
 
 module _ (b t : List ℕ) (symbols : ℕ) (names : Names (declarations_from b t symbols 0)) (x : List ℕ) (small : Folded b x)
     (nodes : ℕ) (table : Nodes t nodes) (few : nodes ≤ max_nodes) (w : List ℕ) where
@@ -57,12 +58,12 @@ module _ (b t : List ℕ) (symbols : ℕ) (names : Names (declarations_from b t 
     M i u = Means b t symbols names x small nodes table few w f g e d i u
 
     -- The comparison r is right where it decides.
-    abbrev Right : (ℕ → ℕ → ℕ) → Type 0
+    abbrev Right : (ℕ → ℕ → Option Bool) → Type 0
     Right r = (i j : ℕ) (u v : Ground) → M i u → M j v → Finds (r i j) (same_term u v)
 
     -- applications
 
-    module _ (r : ℕ → ℕ → ℕ) (right : Right r) (i j : ℕ) where
+    module _ (r : ℕ → ℕ → Option Bool) (right : Right r) (i j : ℕ) where
       abbrev one : ℕ
       one = element_node i
 
@@ -100,7 +101,7 @@ module _ (b t : List ℕ) (symbols : ℕ) (names : Names (declarations_from b t 
       finds_nodes y z u v = go (eqb (label_of t one) (label_of t two)) refl
         where
           go : (o : Bool) → eqb (label_of t one) (label_of t two) ≡ o
-              → Finds (cond o (brief_children r (argument_count t one) t i j 0) 0)
+              → Finds (cond o (brief_children r (argument_count t one) t i j 0) (Some false))
               (o && same_terms (substitutes (children_by (term_at t) t one (child_count t one) 0) (E (element_side i)))
               (substitutes (children_by (term_at t) t two (child_count t two) 0) (E (element_side j))))
           go true q =
@@ -134,9 +135,9 @@ module _ (b t : List ℕ) (symbols : ℕ) (names : Names (declarations_from b t 
     unfolding brief_name
     finds_name i j z h = go (ltb 256 (end_of w f g i - start_of w f g i))
       where
-        go : (o : Bool) → Finds (cond o 2 (cond (same_name b t x w f g i j) 1 0)) z
+        go : (o : Bool) → Finds (cond o None (Some (same_name b t x w f g i j))) z
         go true = inl refl
-        go false = inr (ap (λ (y : Bool). cond y 1 0) h)
+        go false = inr (ap (λ (y : Bool). Some y) h)
 
     -- Two elements.
     finds_elements : (n : ℕ) → Right (brief_elements n b t x w f g)

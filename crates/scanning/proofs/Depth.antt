@@ -1,20 +1,16 @@
 -- How deep a term is nested: deeper than its arguments.
 use Prim.Native.Nat.{ℕ, zero, suc, ◌+◌, ◌<◌, ◌≤◌, max}
 use native.Mathlib.Omega.{arith}
-use mathlib.Core.Path.{◌≡◌, refl, ap, ◌∙◌}
+use mathlib.Core.Path.{◌≡◌, refl, ap}
 use mathlib.Core.Bool.{Bool, true, false}
 use mathlib.Core.List.{List}
 use lib.Dec.{eqb}
-use lib.ListN.{length, drop, length-append, length-drop}
 use borrow.Author.Tests.{eqb-true, eqb-false}
-use Rattle.terms.specs.Terms.{Term, leaf, app, Terms, nil, cons, substitute, substitutes}
+use Rattle.terms.specs.Terms.{leaf, app, Terms, nil, cons, substitute, substitutes}
 use Rattle.sequents.specs.Symbols.{Symbol, Ground}
 use Rattle.sequents.specs.Sequents.{Environment}
-use Rattle.sheet_format.specs.Nodes.{Declaration}
 use Rattle.node_table.specs.Layout.{child_of}
 use Rattle.node_table.specs.Decoding.{children_by, term_at}
-use Rattle.answer_texts.specs.Spelling.{name_of, spell_term, spell_arguments, spell_more}
-use Rattle.scanning.proofs.TermsInText.{SpelledAt}
 
 -- How many brackets are open at a time.
 unfoldable mutual

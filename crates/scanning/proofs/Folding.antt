@@ -13,12 +13,10 @@ use Rattle.sheet_format.proofs.Capitals.{digit_folded, name_folded, folded_name_
 use Rattle.node_table.specs.Layout.{label_of, name_start, arity_of}
 use Rattle.node_table.specs.Fingerprints.{word_at}
 use Rattle.node_table.proofs.Words.{byte_folded, bytes_word}
-use Rattle.scanning.specs.declared.Number.{Number}
-use Rattle.scanning.specs.declared.Number.TheVariants.{Value, Missing}
-use Rattle.scanning.specs.declared.Scan.{Scan}
-use Rattle.scanning.specs.declared.Scan.TheVariants.{Term, Malformed}
-use Rattle.scanning.specs.declared.Reach.{Reach}
-use Rattle.scanning.specs.declared.Reach.TheVariants.{To, Differs}
+use Rattle.scanning.specs.Ranges.{Number}
+use Rattle.std.specs.Prelude.{Some, None, Option}
+use Rattle.scanning.specs.Scanning.{Scan}
+use Rattle.scanning.specs.Instances.{Reach}
 use Rattle.scanning.specs.Ranges.{same_range, same_folded, number_from, number_zero, scan_number}
 use Rattle.scanning.specs.Scanning.{name_from, name_end, name_size, is_named, symbol_from, symbol_named, scan_level, scan_at, scan_symbol}
 use Rattle.scanning.specs.Scanning.{higher, scan_more, scan_numeral, scan_arguments, scan_application, scan_term}
@@ -28,7 +26,7 @@ use Rattle.scanning.specs.Instances.{same_slots, match_range, match_name, match_
 use Rattle.scanning.specs.Instances.{argument_of, match_more, match_arguments, match_application, match_instance, is_instance, Compared}
 use Rattle.scanning.specs.Instances.{start_of, end_of}
 use Rattle.scanning.specs.Instances.{same_name, join_name, same_children, same_nodes, same_roots, same_elements, comparison_depth, same_by_classes}
-use Rattle.scanning.specs.BriefComparisons.{brief_name, brief_children, brief_nodes, brief_elements, decided_by, same_atoms}
+use Rattle.scanning.specs.BriefComparisons.{found_then, brief_name, brief_children, brief_nodes, brief_elements, decided_by, same_atoms}
 use Rattle.scanning.specs.Numbering.{outside_name, is_symbol, no_number, number_at, level_at}
 use Rattle.scanning.proofs.Ranges.{Folded, range_folded}
 use Rattle.scanning.proofs.SymbolsInText.{symbol_at, starts_in}
@@ -74,8 +72,8 @@ module _ (x : List ℕ) where
       go : (z : Bool) → is_digit (get_or x i 0) ≡ z → ((u : ℕ) → number_from n (folded_name x) (i + 1) u ≡ number_from n x (i + 1) u)
           → number_from (suc n) (folded_name x) i v ≡ number_from (suc n) x i v
       go true e ih =
-          rw (digit_same i e) (ap (λ (o : Number). cond (is_digit (get_or x i 0)) (cond (leb (10 * v + (get_or x i 0 - 48)) max_number) o Missing)
-          (Value v i)) (ih (10 * v + (get_or x i 0 - 48))))
+          rw (digit_same i e) (ap (λ (o : Number). cond (is_digit (get_or x i 0)) (cond (leb (10 * v + (get_or x i 0 - 48)) max_number) o None)
+          (Some (v, i))) (ih (10 * v + (get_or x i 0 - 48))))
       go false e ih = rw (digit_test i, e)
 
   number_zero_lem : (i : ℕ) → number_zero (folded_name x) i ≡ number_zero x i
@@ -90,7 +88,7 @@ module _ (x : List ℕ) where
       go : (z : Bool) → is_digit (get_or x i 0) ≡ z → scan_number (folded_name x) i ≡ scan_number x i
       go true e =
           rw (digit_same i e, number_zero_lem (i + 1), left_folded x (i + 1)) (ap (λ (o : Number). cond (is_digit (get_or x i 0))
-          (cond (eqb (get_or x i 0) 48) (number_zero x (i + 1)) o) Missing)
+          (cond (eqb (get_or x i 0) 48) (number_zero x (i + 1)) o) None)
           (number_from_lem (length x - (i + 1)) (i + 1) (get_or x i 0 - 48)))
       go false e = rw (digit_test i, e)
 
@@ -110,10 +108,10 @@ module _ (x : List ℕ) where
   symbol_folded i = rw (number_folded i, scan_symbol) (go (scan_number x i))
     where
       go : (o : Number)
-          → ◌≡◌ {A = Scan} (elim o [ Value n e ↦ scan_at (folded_name x) e | Missing ↦ Malformed ])
-          (elim o [ Value n e ↦ scan_at x e | Missing ↦ Malformed ])
-      go (Value n e) = at_folded e
-      go Missing = refl
+          → ◌≡◌ {A = Scan} (elim o [ Some (n, e) ↦ scan_at (folded_name x) e | None ↦ None ])
+          (elim o [ Some (n, e) ↦ scan_at x e | None ↦ None ])
+      go (Some (n, e)) = at_folded e
+      go None = refl
 
   -- A number as a term is read alike.
   numeral_folded : (i : ℕ) → scan_numeral (folded_name x) i ≡ scan_numeral x i
@@ -121,10 +119,10 @@ module _ (x : List ℕ) where
   numeral_folded i = rw (number_folded i, scan_numeral) (go (scan_number x i))
     where
       go : (o : Number)
-          → ◌≡◌ {A = Scan} (elim o [ Value n e ↦ cond (is_name_byte (get_or (folded_name x) e 0)) Malformed (Term e 0) | Missing ↦ Malformed ])
-          (elim o [ Value n e ↦ cond (is_name_byte (get_or x e 0)) Malformed (Term e 0) | Missing ↦ Malformed ])
-      go (Value n e) = rw (name_test e)
-      go Missing = refl
+          → ◌≡◌ {A = Scan} (elim o [ Some (n, e) ↦ cond (is_name_byte (get_or (folded_name x) e 0)) None (Some (e, 0)) | None ↦ None ])
+          (elim o [ Some (n, e) ↦ cond (is_name_byte (get_or x e 0)) None (Some (e, 0)) | None ↦ None ])
+      go (Some (n, e)) = rw (name_test e)
+      go None = refl
 
   -- names
 
@@ -152,10 +150,10 @@ module _ (x : List ℕ) where
   level_at_lem i = rw (number_folded (i + 1), level_at) (go (scan_number x (i + 1)))
     where
       go : (o : Number)
-          → ◌≡◌ {A = ℕ} (elim o [ Value n e ↦ number_at (folded_name x) (e + 1) | Missing ↦ no_number ])
-          (elim o [ Value n e ↦ number_at x (e + 1) | Missing ↦ no_number ])
-      go (Value n e) = number_at_lem (e + 1)
-      go Missing = refl
+          → ◌≡◌ {A = ℕ} (elim o [ Some (n, e) ↦ number_at (folded_name x) (e + 1) | None ↦ no_number ])
+          (elim o [ Some (n, e) ↦ number_at x (e + 1) | None ↦ no_number ])
+      go (Some (n, e)) = number_at_lem (e + 1)
+      go None = refl
 
   symbol_at_lem : (i : ℕ) → symbol_at (folded_name x) i ≡ symbol_at x i
   unfolding symbol_at is_letter is_small is_capital
@@ -178,14 +176,14 @@ module _ (x : List ℕ) where
     where
       go : (o : Scan) → ((e j : ℕ) → scan_more r n (folded_name x) 44 e (higher k j) ≡ scan_more s n x 44 e (higher k j))
           → cond (eqb (get_or x i 0) c) (elim o as (λ z. Scan) [
-            | Term e j ↦ scan_more r n (folded_name x) 44 e (higher k j)
-            | Malformed ↦ Malformed
-          ]) Malformed ≡ cond (eqb (get_or x i 0) c) (elim o as (λ z. Scan) [
-            | Term e j ↦ scan_more s n x 44 e (higher k j)
-            | Malformed ↦ Malformed
-          ]) Malformed
-      go (Term e j) ih = rw (ih e j)
-      go Malformed ih = refl
+            | Some (e, j) ↦ scan_more r n (folded_name x) 44 e (higher k j)
+            | None ↦ None
+          ]) None ≡ cond (eqb (get_or x i 0) c) (elim o as (λ z. Scan) [
+            | Some (e, j) ↦ scan_more s n x 44 e (higher k j)
+            | None ↦ None
+          ]) None
+      go (Some (e, j)) ih = rw (ih e j)
+      go None ih = refl
 
   arguments_folded : (r s : ℕ → Scan) → ((i : ℕ) → r i ≡ s i) → (n i : ℕ) → scan_arguments r n (folded_name x) i ≡ scan_arguments s n x i
   unfolding scan_arguments is_letter is_small is_capital
@@ -265,14 +263,14 @@ module _ (b t : List ℕ) where
       where
         go : (o : Reach) → ((e : ℕ) → match_more r n t m (j + 1) (folded_name x) 44 e ≡ match_more s n t m (j + 1) x 44 e)
             → cond (eqb (get_or x i 0) c) (elim o as (λ z. Reach) [
-              | To e ↦ match_more r n t m (j + 1) (folded_name x) 44 e
-              | Differs ↦ Differs
-            ]) Differs ≡ cond (eqb (get_or x i 0) c) (elim o as (λ z. Reach) [
-              | To e ↦ match_more s n t m (j + 1) x 44 e
-              | Differs ↦ Differs
-            ]) Differs
-        go (To e) ih = rw (ih e)
-        go Differs ih = refl
+              | Some e ↦ match_more r n t m (j + 1) (folded_name x) 44 e
+              | None ↦ None
+            ]) None ≡ cond (eqb (get_or x i 0) c) (elim o as (λ z. Reach) [
+              | Some e ↦ match_more s n t m (j + 1) x 44 e
+              | None ↦ None
+            ]) None
+        go (Some e) ih = rw (ih e)
+        go None ih = refl
 
     reach_arguments : (r s : ℕ → ℕ → Reach) → ((m i : ℕ) → r m i ≡ s m i) → (m i : ℕ)
         → match_arguments r t m (folded_name x) i ≡ match_arguments s t m x i
@@ -285,10 +283,10 @@ module _ (b t : List ℕ) where
     reach_application r s h m i = rw (reach_functor (label_of t m) i, match_application) (go (match_functor b t (label_of t m) x i))
       where
         go : (o : Reach)
-            → ◌≡◌ {A = Reach} (elim o [ To e ↦ match_arguments r t m (folded_name x) e | Differs ↦ Differs ])
-            (elim o [ To e ↦ match_arguments s t m x e | Differs ↦ Differs ])
-        go (To e) = reach_arguments r s h m e
-        go Differs = refl
+            → ◌≡◌ {A = Reach} (elim o [ Some e ↦ match_arguments r t m (folded_name x) e | None ↦ None ])
+            (elim o [ Some e ↦ match_arguments s t m x e | None ↦ None ])
+        go (Some e) = reach_arguments r s h m e
+        go None = refl
 
     module _ (w : List ℕ) where
       reach_instance : (f g m i : ℕ) → match_instance f (folded_name b) t (folded_name x) w g m i ≡ match_instance f b t x w g m i
@@ -357,11 +355,12 @@ module _ (b t : List ℕ) where
         unfolding brief_name
         brief_name_lem i j = rw (name_folded_too i j)
 
-        brief_children_lem : (r s : ℕ → ℕ → ℕ) → ((i j : ℕ) → r i j ≡ s i j) → (n i j k : ℕ)
+        brief_children_lem : (r s : ℕ → ℕ → Option Bool) → ((i j : ℕ) → r i j ≡ s i j) → (n i j k : ℕ)
             → brief_children r n t i j k ≡ brief_children s n t i j k
         unfolding brief_children
         brief_children_lem r s h zero i j k = refl
-        brief_children_lem r s h (suc n) i j k = rw (h (element_child t i k) (element_child t j k), brief_children_lem r s h n i j (k + 1))
+        brief_children_lem r s h (suc n) i j k =
+            ap₂ found_then (h (element_child t i k) (element_child t j k)) (brief_children_lem r s h n i j (k + 1))
 
         brief_elements_lem : (n i j : ℕ) → brief_elements n (folded_name b) t (folded_name x) w f g i j ≡ brief_elements n b t x w f g i j
         unfolding brief_elements brief_nodes

@@ -33,10 +33,9 @@ use Rattle.answer_texts.specs.Spelled.{WritableFunctor, WritableTerm, WritableTe
 use Rattle.answer_texts.proofs.Declared.{name_at, name_of_lem, takes_writable}
 use Rattle.text_judging.specs.Reading.{Span, span}
 use Rattle.text_judging.proofs.Spans.{Stops, span_split}
-use Rattle.scanning.specs.declared.Number.{Number}
-use Rattle.scanning.specs.declared.Number.TheVariants.{Value, Missing}
-use Rattle.scanning.specs.declared.Reach.{Reach}
-use Rattle.scanning.specs.declared.Reach.TheVariants.{To, Differs}
+use Rattle.scanning.specs.Ranges.{Number}
+use Rattle.std.specs.Prelude.{Some, None}
+use Rattle.scanning.specs.Instances.{Reach}
 use Rattle.scanning.specs.Scanning.{name_size}
 use Rattle.scanning.specs.Frames.{slot_start, slot_end}
 use Rattle.scanning.specs.Instances.{match_range, match_name, match_number, match_functor, match_slot, argument_count, argument_of}
@@ -52,27 +51,27 @@ use Rattle.terms.proofs.Tests.{eqb_comm}
 
 -- Where the bytes a end that stand in x at position i.
 unfoldable pub reach : List ℕ → List ℕ → ℕ → Reach
-reach a x i = cond (begins a (drop i x)) (To (i + length a)) Differs
+reach a x i = cond (begins a (drop i x)) (Some (i + length a)) None
 
 -- An empty list of bytes ends where it begins.
-reach_nil : (x : List ℕ) (i : ℕ) → To i ≡ reach [] x i
+reach_nil : (x : List ℕ) (i : ℕ) → Some i ≡ reach [] x i
 unfolding reach begins
-reach_nil x i = let e : i ≡ i + 0 = omega arith in ap To e
+reach_nil x i = let e : i ≡ i + 0 = omega arith in ap Some e
 
 -- Going on with g where a position was reached.
 abbrev onward : (ℕ → Reach) → Reach → Reach
-onward g (To j) = g j
-onward g Differs = Differs
+onward g (Some j) = g j
+onward g None = None
 
 -- What was reached agrees with p: it is p, or nothing where p ends before a digit, since a number that goes on is another number.
 abbrev pub Matches : List ℕ → Reach → Reach → Type 0
-Matches x o (To e) = (o ≡ To e) ⊎ ((o ≡ Differs) × (is_digit (get_or x e 0) ≡ true))
-Matches x o Differs = o ≡ Differs
+Matches x o (Some e) = (o ≡ Some e) ⊎ ((o ≡ None) × (is_digit (get_or x e 0) ≡ true))
+Matches x o None = o ≡ None
 
 -- What is p agrees with p.
 matches_same : (x : List ℕ) (o p : Reach) → o ≡ p → Matches x o p
-matches_same x o (To e) h = inl h
-matches_same x o Differs h = h
+matches_same x o (Some e) h = inl h
+matches_same x o None h = h
 
 -- After equal bytes, the bytes that follow decide.
 begins_append : (a c r : List ℕ) → begins (a ++ c) (a ++ r) ≡ begins c r
@@ -97,29 +96,29 @@ unfolding reach
 reach_append a c x i = go (begins a (drop i x)) refl
   where
     go : (z : Bool) → begins a (drop i x) ≡ z
-        → onward (reach c x) (cond z (To (i + length a)) Differs) ≡ cond (begins (a ++ c) (drop i x)) (To (i + length (a ++ c))) Differs
+        → onward (reach c x) (cond z (Some (i + length a)) None) ≡ cond (begins (a ++ c) (drop i x)) (Some (i + length (a ++ c))) None
     go false h = rw (begins_part a c (drop i x) h)
     go true h =
         let r = begins_rest a (drop i x) h in
         let l : i + length a + length c ≡ i + length (a ++ c) = (let q = length-append a c in omega arith) in
-        ap₂ (λ (z : Bool) (j : ℕ). cond z (To j) Differs)
+        ap₂ (λ (z : Bool) (j : ℕ). cond z (Some j) None)
         (ap (begins c) (drop_past x i a r.0 r.1) ∙ sym (begins_append a c r.0) ∙ ap (begins (a ++ c)) (sym r.1)) l
 
 -- Reaching the end of a byte and then others is a test of the byte first.
-reach_byte : (c : ℕ) (a x : List ℕ) (i : ℕ) → 0 < c → cond (eqb (get_or x i 0) c) (reach a x (i + 1)) Differs ≡ reach (c ∷ a) x i
+reach_byte : (c : ℕ) (a x : List ℕ) (i : ℕ) → 0 < c → cond (eqb (get_or x i 0) c) (reach a x (i + 1)) None ≡ reach (c ∷ a) x i
 unfolding reach begins
 reach_byte c a x i z = go (drop i x) refl
   where
     go : (y : List ℕ) → drop i x ≡ y
-        → cond (eqb (get_or x i 0) c) (cond (begins a (drop (i + 1) x)) (To (i + 1 + length a)) Differs) Differs ≡ cond (begins (c ∷ a) y)
-        (To (i + suc (length a))) Differs
+        → cond (eqb (get_or x i 0) c) (cond (begins a (drop (i + 1) x)) (Some (i + 1 + length a)) None) None ≡ cond (begins (c ∷ a) y)
+        (Some (i + suc (length a))) None
     go [] h = rw (byte_none x i h, ne_eqb 0 c (λ q. omega arith))
     go (d ∷ ds) h =
         let l : i + 1 + length a ≡ i + suc (length a) = omega arith in
         rw (byte_is x i d ds h, drop_next x i d ds h, l, eqb_comm d c) (both (eqb c d))
       where
-        both : (p : Bool) → cond p (cond (begins a ds) (To (i + suc (length a))) Differs) Differs ≡ cond (p && begins a ds)
-            (To (i + suc (length a))) Differs
+        both : (p : Bool) → cond p (cond (begins a ds) (Some (i + suc (length a))) None) None ≡ cond (p && begins a ds)
+            (Some (i + suc (length a))) None
         both true = refl
         both false = refl
 
@@ -137,7 +136,7 @@ match_range_lem l r a s x i h z p₀ q₀ =
     rw (folded_range (length l) a s x i p₀ q₀ ∙ range_begins l r a s x i h z) (go (begins l (drop i x)) refl (leb (length l) (length x - i)) refl)
   where
     go : (p : Bool) → begins l (drop i x) ≡ p → (q : Bool) → leb (length l) (length x - i) ≡ q
-        → cond q (cond p (To (i + length l)) Differs) Differs ≡ cond p (To (i + length l)) Differs
+        → cond q (cond p (Some (i + length l)) None) None ≡ cond p (Some (i + length l)) None
     go p k true m = refl
     go false k false m = refl
     go true k false m =
@@ -151,26 +150,26 @@ unfolding match_number reach
 match_number_lem n x i l = go (begins (decimal n) (drop i x)) refl
   where
     Found : Number → Reach
-    Found o = elim o [ Value m e ↦ cond (eqb m n) (To e) Differs | Missing ↦ Differs ]
+    Found o = elim o [ Some (m, e) ↦ cond (eqb m n) (Some e) None | None ↦ None ]
 
     d : Span
     d = span is_digit (drop i x)
 
     -- Where the digits at position i are not those of n, no match is found.
-    differs : (d.taken ≡ decimal n → ⊥) → match_number n x i ≡ Differs
+    differs : (d.taken ≡ decimal n → ⊥) → match_number n x i ≡ None
     differs h = ap Found (read_number x i) ∙ other (number d.taken) (number_some d.taken)
       where
         other : (o : Option ℕ) → OnSome (λ m. (d.taken ≡ decimal m) × (m ≤ max_number)) o
-            → Found (number_to (i + length d.taken) o) ≡ Differs
+            → Found (number_to (i + length d.taken) o) ≡ None
         other none k = refl
         other (some m) k = rw (ne_eqb m n (λ e. h (k.0 ∙ ap decimal e)))
 
     stands : (r : List ℕ) → drop i x ≡ decimal n ++ r → drop (i + length (decimal n)) x ≡ r
-        → Matches x (match_number n x i) (To (i + length (decimal n)))
+        → Matches x (match_number n x i) (Some (i + length (decimal n)))
     stands [] h k = inl (ap Found (read_decimal x i n [] h l tt) ∙ rw (eq-eqb n n refl))
     stands (c ∷ cs) h k = digit (is_digit c) refl
       where
-        digit : (z : Bool) → is_digit c ≡ z → Matches x (match_number n x i) (To (i + length (decimal n)))
+        digit : (z : Bool) → is_digit c ≡ z → Matches x (match_number n x i) (Some (i + length (decimal n)))
         digit false q = inl (ap Found (read_decimal x i n (c ∷ cs) h l q) ∙ rw (eq-eqb n n refl))
         digit true q = inr (
           differs (λ e. true≢false (sym q ∙ subst (Stops is_digit) (sym (drop_past x i d.taken d.rest (span_split is_digit (drop i x)))
@@ -178,7 +177,7 @@ match_number_lem n x i l = go (begins (decimal n) (drop i x)) refl
           ap is_digit (byte_is x (i + length (decimal n)) c cs k) ∙ q,
         )
 
-    go : (z : Bool) → begins (decimal n) (drop i x) ≡ z → Matches x (match_number n x i) (cond z (To (i + length (decimal n))) Differs)
+    go : (z : Bool) → begins (decimal n) (drop i x) ≡ z → Matches x (match_number n x i) (cond z (Some (i + length (decimal n))) None)
     go true h =
         let r = begins_rest (decimal n) (drop i x) h in stands r.0 r.1 (drop_past x i (decimal n) r.0 r.1)
     go false h =
@@ -324,23 +323,23 @@ more_sigil (cons u us) ds = refl
 
 -- Going on in equal ways reaches the same end.
 onward_same : (F G : ℕ → Reach) → ((e : ℕ) → F e ≡ G e) → (o : Reach)
-    → elim o as (λ z. Reach) [ To e ↦ F e | Differs ↦ Differs ] ≡ onward G o
-onward_same F G h (To e) = h e
-onward_same F G h Differs = refl
+    → elim o as (λ z. Reach) [ Some e ↦ F e | None ↦ None ] ≡ onward G o
+onward_same F G h (Some e) = h e
+onward_same F G h None = refl
 
 -- So does going on from what agrees, in ways that lead nowhere from a digit.
-onward_matches : (x : List ℕ) (F G : ℕ → Reach) → ((e : ℕ) → F e ≡ G e) → ((e : ℕ) → is_digit (get_or x e 0) ≡ true → F e ≡ Differs)
+onward_matches : (x : List ℕ) (F G : ℕ → Reach) → ((e : ℕ) → F e ≡ G e) → ((e : ℕ) → is_digit (get_or x e 0) ≡ true → F e ≡ None)
     → (o p : Reach) → Matches x o p
-    → elim o as (λ z. Reach) [ To e ↦ F e | Differs ↦ Differs ] ≡ onward G p
-onward_matches x F G h d o (To e) (inl q) = ap (λ (o : Reach). elim o as (λ z. Reach) [ To e ↦ F e | Differs ↦ Differs ]) q ∙ h e
-onward_matches x F G h d o (To e) (inr q) =
-    ap (λ (o : Reach). elim o as (λ z. Reach) [ To e ↦ F e | Differs ↦ Differs ]) q.0 ∙ sym (d e q.1) ∙ h e
-onward_matches x F G h d o Differs q = ap (λ (o : Reach). elim o as (λ z. Reach) [ To e ↦ F e | Differs ↦ Differs ]) q
+    → elim o as (λ z. Reach) [ Some e ↦ F e | None ↦ None ] ≡ onward G p
+onward_matches x F G h d o (Some e) (inl q) = ap (λ (o : Reach). elim o as (λ z. Reach) [ Some e ↦ F e | None ↦ None ]) q ∙ h e
+onward_matches x F G h d o (Some e) (inr q) =
+    ap (λ (o : Reach). elim o as (λ z. Reach) [ Some e ↦ F e | None ↦ None ]) q.0 ∙ sym (d e q.1) ∙ h e
+onward_matches x F G h d o None q = ap (λ (o : Reach). elim o as (λ z. Reach) [ Some e ↦ F e | None ↦ None ]) q
 
 -- Going on to where one is changes nothing.
-onward_to : (o : Reach) → onward To o ≡ o
-onward_to (To e) = refl
-onward_to Differs = refl
+onward_to : (o : Reach) → onward Some o ≡ o
+onward_to (Some e) = refl
+onward_to None = refl
 
 -- A digit is not a byte that is none.
 not_digit : (c k : ℕ) → is_digit c ≡ true → is_digit k ≡ false → eqb c k ≡ false
@@ -348,7 +347,7 @@ not_digit c k h n = ne_eqb c k (λ e. true≢false (sym h ∙ ap is_digit e ∙ 
 
 -- No digit stands between two children or after the last one.
 more_digit : (r : ℕ → ℕ → Reach) (c : ℕ) (t : List ℕ) (m j : ℕ) (x : List ℕ) (i : ℕ) → is_digit (get_or x i 0) ≡ true
-    → match_more r c t m j x 44 i ≡ Differs
+    → match_more r c t m j x 44 i ≡ None
 unfolding match_more is_digit
 more_digit r zero t m j x i h = rw (not_digit (get_or x i 0) 41 h refl)
 more_digit r (suc c) t m j x i h = rw (not_digit (get_or x i 0) 44 h refl)
@@ -363,11 +362,11 @@ module _ (t : List ℕ) (ds : List Declaration) (x : List ℕ) (e : Environment 
       → match_more r c t m j x k i ≡ reach (after_mark k (substitutes (children_by (term_at t) t m c j) e) ds) x i
   unfolding match_more after_mark substitutes children_by
   match_more_lem zero j k i z h =
-      ap (λ (o : Reach). cond (eqb (get_or x i 0) 41) o Differs) (reach_nil x (i + 1)) ∙ reach_byte 41 [] x i (omega arith)
+      ap (λ (o : Reach). cond (eqb (get_or x i 0) 41) o None) (reach_nil x (i + 1)) ∙ reach_byte 41 [] x i (omega arith)
   match_more_lem (suc c) j k i z h =
       let a = spell_term (substitute (term_at t (child_of t m j)) e) ds in
       let us = substitutes (children_by (term_at t) t m c (suc j)) e in
-      ap (λ (o : Reach). cond (eqb (get_or x i 0) k) o Differs)
+      ap (λ (o : Reach). cond (eqb (get_or x i 0) k) o None)
       (onward_matches x (match_more r c t m (j + 1) x 44) (reach (spell_more us ds) x)
       (λ q. ap (λ (n : ℕ). match_more r c t m n x 44 q) (add-one j)
       ∙ match_more_lem c (suc j) 44 q (omega arith) (λ n l u. h n (omega arith) (omega arith))
@@ -383,7 +382,7 @@ module _ (t : List ℕ) (ds : List Declaration) (x : List ℕ) (e : Environment 
   match_arguments_lem i few h = rw few (go (child_count t m) refl)
     where
       go : (c : ℕ) → child_count t m ≡ c
-          → cond (eqb c 0) (To i) (match_more r c t m 0 x 40 i) ≡ reach (spell_arguments (substitutes (children_by (term_at t) t m c 0) e) ds)
+          → cond (eqb c 0) (Some i) (match_more r c t m 0 x 40 i) ≡ reach (spell_arguments (substitutes (children_by (term_at t) t m c 0) e) ds)
           x i
       go zero q = reach_nil x i
       go (suc c) q = rw (ne_eqb (suc c) 0 (λ z. omega arith)) (match_more_lem (suc c) 0 40 i (omega arith) (λ n l u. h n (omega arith)))
@@ -442,10 +441,10 @@ module _ (b t : List ℕ) (symbols : ℕ) (names : Names (declarations_from b t 
         let n = label_of t m - max_symbols in
         let named : functor_of (label_of t m) ≡ numeral n = rw q refl in
         let few : child_count t m ≡ 0 = ((table.term m u is).application z).many ∙ rw q refl in
-        let ends : (j : ℕ) → match_arguments r t m x j ≡ To j = λ j. rw few refl in
+        let ends : (j : ℕ) → match_arguments r t m x j ≡ Some j = λ j. rw few refl in
         let found : match_functor b t (label_of t m) x i ≡ match_number n x i = rw q refl in
         let matched : match_instance (suc f) b t x w g m i ≡ match_number n x i = rw (match_instance, z) (rw (match_application, found)
-        (onward_same (match_arguments r t m x) To ends (match_number n x i) ∙ onward_to (match_number n x i))) in
+        (onward_same (match_arguments r t m x) Some ends (match_number n x i) ∙ onward_to (match_number n x i))) in
         let spelled : spell_term (substitute (term_at t m) e) declared ≡ decimal n =
         ap (λ (y : Term ℕ). spell_term (substitute y e) declared) (tree (numeral n) named)
         ∙ ap (λ (c : ℕ). decimal n ++ spell_arguments (substitutes (children_by (term_at t) t m c 0) e) declared) few

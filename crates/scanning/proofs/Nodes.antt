@@ -1,14 +1,13 @@
 -- Nodes of terms, each with a frame: where their instances stand, and the nodes below them.
-use Prim.Native.Nat.{ℕ, zero, suc, ◌+◌, ◌<◌, ◌≤◌}
+use Prim.Native.Nat.{ℕ, ◌+◌, ◌<◌, ◌≤◌}
 use native.Mathlib.Omega.{arith}
 use mathlib.Core.Path.{◌≡◌, refl, sym, ap, ap₂, ◌∙◌, subst}
 use mathlib.Core.Bool.{Bool, true, false, cond, true≢false}
 use mathlib.Core.List.{List, [], ◌∷◌}
 use mathlib.Core.Logic.{inl, inr}
-use lib.Dec.{eqb}
 use lib.ListN.{length, get_or, take, drop}
 use lib.Seq.{take-append_seam}
-use borrow.Author.Tests.{eqb-true, eqb-false, eq-eqb, ne_eqb}
+use borrow.Author.Tests.{eqb-true, eq-eqb, ne_eqb}
 use Rattle.terms.specs.Terms.{Term, substitute}
 use Rattle.formulas.specs.Formulas.{free_t}
 use Rattle.sequents.specs.Symbols.{Symbol, Ground}
@@ -28,8 +27,8 @@ use Rattle.answer_texts.specs.Spelled.{WritableTerm}
 use Rattle.text_judging.specs.Judging.{same_term}
 use Rattle.text_judging.proofs.Spans.{Stops}
 use Rattle.text_judging.proofs.Infer.{same_term_true, same_term_refl}
-use Rattle.scanning.specs.declared.Reach.{Reach}
-use Rattle.scanning.specs.declared.Reach.TheVariants.{To, Differs}
+use Rattle.scanning.specs.Instances.{Reach}
+use Rattle.std.specs.Prelude.{Some, None}
 use Rattle.scanning.specs.Frames.{slot_start, slot_end}
 use Rattle.scanning.specs.Instances.{match_instance, ends_at, is_instance}
 use Rattle.scanning.proofs.Positions.{byte_is, byte_none}
@@ -49,7 +48,7 @@ ends_same ds x s e u a p = both_ways (ends_at (reach a x s) e) (same_bytes (spel
     forth : ends_at (reach a x s) e ≡ true → same_bytes (spell_term u ds) a ≡ true
     forth h = go (begins a (drop s x)) refl h
       where
-        go : (z : Bool) → begins a (drop s x) ≡ z → ends_at (cond z (To (s + length a)) Differs) e ≡ true
+        go : (z : Bool) → begins a (drop s x) ≡ z → ends_at (cond z (Some (s + length a)) None) e ≡ true
             → same_bytes (spell_term u ds) a ≡ true
         go false q k = absurd (true≢false (sym k))
         go true q k =
@@ -68,9 +67,9 @@ ends_same ds x s e u a p = both_ways (ends_at (reach a x s) e) (same_bytes (spel
 -- What was reached in place of p ends where a name or a number does not go on exactly if p does.
 ends_matched : (x : List ℕ) (o p : Reach) (e : ℕ) → Matches x o p → Stops is_name_byte (drop e x) → ends_at o e ≡ ends_at p e
 unfolding ends_at is_digit
-ends_matched x o Differs e h s = ap (λ (q : Reach). ends_at q e) h
-ends_matched x o (To j) e (inl h) s = ap (λ (q : Reach). ends_at q e) h
-ends_matched x o (To j) e (inr h) s = ap (λ (q : Reach). ends_at q e) h.0 ∙ sym (ne_eqb j e (λ q. go (drop e x) refl q s))
+ends_matched x o None e h s = ap (λ (q : Reach). ends_at q e) h
+ends_matched x o (Some j) e (inl h) s = ap (λ (q : Reach). ends_at q e) h
+ends_matched x o (Some j) e (inr h) s = ap (λ (q : Reach). ends_at q e) h.0 ∙ sym (ne_eqb j e (λ q. go (drop e x) refl q s))
   where
     go : (r : List ℕ) → drop e x ≡ r → j ≡ e → Stops is_name_byte r → ⊥
     go [] d q s = true≢false (sym h.1 ∙ ap (λ (i : ℕ). is_digit (get_or x i 0)) q ∙ ap is_digit (byte_none x e d))

@@ -16,8 +16,8 @@ use Rattle.sequents.specs.Symbols.{Symbol, made, leftover, symbol_level}
 use Rattle.text_judging.specs.Judging.{Seen, show_number, show_symbol, show_symbols}
 use Rattle.text_judging.proofs.Infer.{nothing, mapped}
 use Rattle.text_judging.proofs.Showings.{shows_cons, shows_parts, shows_append, unseen}
-use Rattle.scanning.specs.declared.SymbolCounts.{SymbolCounts}
-use Rattle.scanning.specs.declared.SymbolCounts.TheVariants.{Counts, Misnumbered}
+use Rattle.scanning.specs.Numbering.{SymbolCounts}
+use Rattle.std.specs.Prelude.{Some, None}
 use Rattle.scanning.specs.Numbering.{outside_name, is_symbol, number_at, level_at, is_showing, level_from, first_level, in_order, count_after}
 use Rattle.scanning.specs.Numbering.{check_made, check_leftover, check_symbol, check_numbering}
 use Rattle.scanning.proofs.SymbolsInText.{symbol_at, starts_in, starts_append}
@@ -258,10 +258,10 @@ counted x i c ls b f = go (eqb N (length ls)) (ltb N (length ls)) refl
 
 -- Counts agree with what is seen.
 abbrev pub ShowsAs : SymbolCounts → Option Seen → Type 0
-ShowsAs Misnumbered none = Unit {0}
-ShowsAs Misnumbered (some u) = ⊥
-ShowsAs (Counts m l) none = ⊥
-ShowsAs (Counts m l) (some u) = (m ≡ length u.of_made) × (l ≡ length u.of_leftover)
+ShowsAs None none = Unit {0}
+ShowsAs None (some u) = ⊥
+ShowsAs (Some (m, l)) none = ⊥
+ShowsAs (Some (m, l)) (some u) = (m ≡ length u.of_made) × (l ≡ length u.of_leftover)
 
 module _ (x : List ℕ) (i : ℕ) (u : Seen) (within : i ≤ length x) (seen : show_symbols (starts_in i x 0) unseen ≡ some u) where
   -- Checking a made constant in place agrees with what is seen of it.
@@ -273,7 +273,7 @@ module _ (x : List ℕ) (i : ℕ) (u : Seen) (within : i ≤ length x) (seen : s
       (counted x i 33 u.of_made b (λ n l. first_level_lem true x i n u within seen l))
     where
       go : (z : Bool) (o : Option (List ℕ)) → Counted z (count_after x i (length u.of_made)) o
-          → ShowsAs (cond z (Counts (count_after x i (length u.of_made)) (length u.of_leftover)) Misnumbered)
+          → ShowsAs (cond z (Some (count_after x i (length u.of_made), length u.of_leftover)) None)
           (map (λ ls. record { of_made = ls; of_leftover = u.of_leftover }) o)
       go true none h = absurd h
       go true (some ls) h = (h, refl)
@@ -289,7 +289,7 @@ module _ (x : List ℕ) (i : ℕ) (u : Seen) (within : i ≤ length x) (seen : s
       (counted x i 95 u.of_leftover b (λ n l. first_level_lem false x i n u within seen l))
     where
       go : (z : Bool) (o : Option (List ℕ)) → Counted z (count_after x i (length u.of_leftover)) o
-          → ShowsAs (cond z (Counts (length u.of_made) (count_after x i (length u.of_leftover))) Misnumbered)
+          → ShowsAs (cond z (Some (length u.of_made, count_after x i (length u.of_leftover))) None)
           (map (λ ls. record { of_made = u.of_made; of_leftover = ls }) o)
       go true none h = absurd h
       go true (some ls) h = (refl, h)
@@ -340,19 +340,19 @@ check_numbering_lem (suc n) x i u l h =
         → ShowsAs (check_numbering n x (i + 1) (length v.of_made) (length v.of_leftover)) (show_symbols (starts_in n x (suc i)) v)
 
     symbol : (s : SymbolCounts) (o : Option Seen) → show_symbol u (symbol_at x i) ≡ o → is_symbol x i ≡ true → ShowsAs s o → Later
-        → ShowsAs (elim s as (λ z. SymbolCounts) [ Counts p q ↦ check_numbering n x (i + 1) p q | Misnumbered ↦ Misnumbered ])
+        → ShowsAs (elim s as (λ z. SymbolCounts) [ Some (p, q) ↦ check_numbering n x (i + 1) p q | None ↦ None ])
         (elim o as (λ z. Option Seen) [ none ↦ none | some v ↦ show_symbols (starts_in n x (suc i)) v ])
-    symbol Misnumbered none e z q f = tt
-    symbol Misnumbered (some v) e z q f = absurd q
-    symbol (Counts p m) none e z q f = absurd q
-    symbol (Counts p m) (some v) e z q f =
+    symbol None none e z q f = tt
+    symbol None (some v) e z q f = absurd q
+    symbol (Some (p, m)) none e z q f = absurd q
+    symbol (Some (p, m)) (some v) e z q f =
         rw (q.0, q.1) (f v (rw (starts_in, z) (shows_cons (symbol_at x i) [] u v e)))
 
     go : (z : Bool) → is_symbol x i ≡ z → Later
         → ShowsAs (elim (check_symbol x i a b) as (λ z. SymbolCounts) [
-          | Counts p q ↦ check_numbering n x (i + 1) p q
-          | Misnumbered ↦
-              Misnumbered
+          | Some (p, q) ↦ check_numbering n x (i + 1) p q
+          | None ↦
+              None
         ]) (show_symbols (cond z (symbol_at x i ∷ starts_in n x (suc i)) (starts_in n x (suc i))) u)
     go true e f = symbol (check_symbol x i a b) (show_symbol u (symbol_at x i)) refl e (symbol_as x i u (omega arith) h e) f
     go false e f = rw (check_symbol, e) (f u (rw (starts_in, e)))

@@ -12,15 +12,15 @@ use Rattle.terms.specs.Lists.{All}
 use Rattle.terms.proofs.Tests.{cond_and}
 use Rattle.formulas.proofs.Free.{and_parts}
 use Rattle.sheet_format.specs.Limits.{max_number}
-use Rattle.sheet_format.specs.Bytes.{is_digit, digits_from, at_most, number, decimal, same_bytes, lf, is_capital, folded, folded_name}
+use Rattle.sheet_format.specs.Bytes.{is_digit, digits_from, at_most, number, decimal, same_bytes, lf, folded_name}
 use Rattle.sheet_format.proofs.Bytes.{Without, digit_bounds, same_equal}
 use Rattle.sheet_format.proofs.Numbers.{decimal_digits, number_decimal}
 use Rattle.sheet_format.proofs.Options.{OnSome, some_weaken}
 use Rattle.text_judging.specs.Reading.{Span, span}
 use Rattle.text_judging.proofs.Spans.{Stops, span_append}
 use Rattle.node_table.proofs.Words.{byte_folded}
-use Rattle.scanning.specs.declared.Number.{Number}
-use Rattle.scanning.specs.declared.Number.TheVariants.{Value, Missing}
+use Rattle.scanning.specs.Ranges.{Number}
+use Rattle.std.specs.Prelude.{Some, None}
 use Rattle.scanning.specs.Ranges.{same_range, same_folded, find_byte, text_line_end, number_from, number_zero, scan_number}
 use Rattle.scanning.proofs.Positions.{byte_is, byte_none, drop_next, drop_length}
 
@@ -154,8 +154,8 @@ line_open l x i h s = find_none l x (length x - i) i h s (drop_length x i l h)
 
 -- A number that ends at e.
 abbrev pub number_to : ℕ → Option ℕ → Number
-number_to e none = Missing
-number_to e (some n) = Value n e
+number_to e none = None
+number_to e (some n) = Some (n, e)
 
 -- More digits do not make a number smaller.
 digits_grow : (l : List ℕ) (v : ℕ) → OnSome (λ n. v ≤ n) (digits_from v l)
@@ -196,12 +196,12 @@ span_no k c cs e = rw (span, e)
 number_from_lem : (l x : List ℕ) (n i v : ℕ) → drop i x ≡ l → n ≡ length l → v ≤ 65535
     → number_from n x i v ≡ number_to (i + length (span is_digit l).taken) (at_most 65535 (digits_from v (span is_digit l).taken))
 unfolding number_from span digits_from
-number_from_lem [] x zero i v h k m = let e : i ≡ i + 0 = omega arith in rw (not_high 65535 v m) (ap (Value v) e)
+number_from_lem [] x zero i v h k m = let e : i ≡ i + 0 = omega arith in rw (not_high 65535 v m) (ap (λ (j : ℕ). Some (v, j)) e)
 number_from_lem [] x (suc n) i v h k m = absurd (omega arith)
 number_from_lem (c ∷ cs) x zero i v h k m = absurd (omega arith)
 number_from_lem (c ∷ cs) x (suc n) i v h k m =
-    ap (λ (b : ℕ). cond (is_digit b) (cond (leb (10 * v + (b - 48)) 65535) (number_from n x (i + 1) (10 * v + (b - 48))) Missing)
-    (Value v i)) (byte_is x i c cs h)
+    ap (λ (b : ℕ). cond (is_digit b) (cond (leb (10 * v + (b - 48)) 65535) (number_from n x (i + 1) (10 * v + (b - 48))) None)
+    (Some (v, i))) (byte_is x i c cs h)
     ∙ go (is_digit c) refl (leb (10 * v + (c - 48)) 65535) refl
     (λ q. number_from_lem cs x n (i + 1) (10 * v + (c - 48)) (drop_next x i c cs h) (omega arith) q)
   where
@@ -212,10 +212,10 @@ number_from_lem (c ∷ cs) x (suc n) i v h k m =
         → (10 * v + (c - 48) ≤ 65535
         → number_from n x (i + 1) (10 * v + (c - 48))
         ≡ number_to (i + 1 + length (span is_digit cs).taken) (at_most 65535 (digits_from (10 * v + (c - 48)) (span is_digit cs).taken)))
-        → cond a (cond b (number_from n x (i + 1) (10 * v + (c - 48))) Missing) (Value v i) ≡ R (span is_digit (c ∷ cs)).taken
+        → cond a (cond b (number_from n x (i + 1) (10 * v + (c - 48))) None) (Some (v, i)) ≡ R (span is_digit (c ∷ cs)).taken
     go false p b q ih =
         let e : i ≡ i + 0 = omega arith in
-        ap (Value v) e ∙ ap (number_to (i + 0)) (sym (not_high 65535 v m)) ∙ ap (λ (s : Span). R s.taken) (sym (span_no is_digit c cs p))
+        ap (λ (j : ℕ). Some (v, j)) e ∙ ap (number_to (i + 0)) (sym (not_high 65535 v m)) ∙ ap (λ (s : Span). R s.taken) (sym (span_no is_digit c cs p))
     go true p false q ih =
         let d = (span is_digit cs).taken in
         let f : digits_from v (c ∷ d) ≡ digits_from (10 * v + (c - 48)) d = rw (digits_from, p) in
@@ -248,17 +248,17 @@ number_nonzero c (d ∷ ds) p q =
 number_zero_lem : (cs x : List ℕ) (i : ℕ) → drop i x ≡ cs
     → number_zero x i ≡ number_to (i + length (span is_digit cs).taken) (number (48 ∷ (span is_digit cs).taken))
 unfolding number_zero number digits_from span is_digit
-number_zero_lem [] x i h = let e : i ≡ i + 0 = omega arith in rw (byte_none x i h) (ap (Value 0) e)
-number_zero_lem (c ∷ cs) x i h = ap (λ (b : ℕ). cond (is_digit b) Missing (Value 0 i)) (byte_is x i c cs h) ∙ go (is_digit c) refl
+number_zero_lem [] x i h = let e : i ≡ i + 0 = omega arith in rw (byte_none x i h) (ap (λ (j : ℕ). Some (0, j)) e)
+number_zero_lem (c ∷ cs) x i h = ap (λ (b : ℕ). cond (is_digit b) None (Some (0, i))) (byte_is x i c cs h) ∙ go (is_digit c) refl
   where
     R : List ℕ → Number
     R s = number_to (i + length s) (number (48 ∷ s))
 
-    go : (b : Bool) → is_digit c ≡ b → cond b Missing (Value 0 i) ≡ R (span is_digit (c ∷ cs)).taken
+    go : (b : Bool) → is_digit c ≡ b → cond b None (Some (0, i)) ≡ R (span is_digit (c ∷ cs)).taken
     go true p = ap (λ (s : Span). R s.taken) (sym (span_yes is_digit c cs p))
     go false p =
         let e : i ≡ i + 0 = omega arith in
-        ap (Value 0) e ∙ ap (λ (s : Span). R s.taken) (sym (span_no is_digit c cs p))
+        ap (λ (j : ℕ). Some (0, j)) e ∙ ap (λ (s : Span). R s.taken) (sym (span_no is_digit c cs p))
 
 -- The number at position i is that of the digits that stand there.
 pub read_number : (x : List ℕ) (i : ℕ)
@@ -285,7 +285,7 @@ read_number x i = go (drop i x) refl
         ∙ ap₂ number_to e (sym (number_nonzero c d p q))
 
     cases : (c : ℕ) (cs : List ℕ) → drop i x ≡ c ∷ cs → (b : Bool) → is_digit c ≡ b
-        → cond b (cond (eqb c 48) (number_zero x (i + 1)) (number_from (length x - (i + 1)) x (i + 1) (c - 48))) Missing ≡ R
+        → cond b (cond (eqb c 48) (number_zero x (i + 1)) (number_from (length x - (i + 1)) x (i + 1) (c - 48))) None ≡ R
         (span is_digit (c ∷ cs)).taken
     cases c cs h true p = digit c cs h p (eqb c 48) refl ∙ ap (λ (s : Span). R s.taken) (sym (span_yes is_digit c cs p))
     cases c cs h false p = ap (λ (s : Span). R s.taken) (sym (span_no is_digit c cs p))
@@ -294,12 +294,12 @@ read_number x i = go (drop i x) refl
     go [] h = rw (byte_none x i h, h)
     go (c ∷ cs) h =
         ap (λ (b : ℕ). cond (is_digit b) (cond (eqb b 48) (number_zero x (i + 1)) (number_from (length x - (i + 1)) x (i + 1) (b - 48)))
-        Missing) (byte_is x i c cs h)
+        None) (byte_is x i c cs h)
         ∙ cases c cs h (is_digit c) refl ∙ ap (λ (l : List ℕ). R (span is_digit l).taken) (sym h)
 
 -- A number that stands at position i, with no digit after it, is read.
 pub read_decimal : (x : List ℕ) (i n : ℕ) (r : List ℕ) → drop i x ≡ decimal n ++ r → n ≤ max_number → Stops is_digit r
-    → scan_number x i ≡ Value n (i + length (decimal n))
+    → scan_number x i ≡ Some (n, i + length (decimal n))
 read_decimal x i n r h l s =
     let e : span is_digit (drop i x) ≡ record { taken = decimal n; rest = r } = ap (span is_digit) h
     ∙ span_append is_digit (decimal n) r (decimal_digits n) s in

@@ -28,10 +28,9 @@ use Rattle.answer_texts.specs.Spelling.{name_of}
 use Rattle.text_judging.proofs.Spans.{Stops, stops_digit, span_append, span_split}
 use Rattle.answer_texts.proofs.Declared.{name_of_lem}
 use Rattle.text_judging.proofs.Symbols.{find_name_some}
-use Rattle.scanning.specs.declared.Number.{Number}
-use Rattle.scanning.specs.declared.Number.TheVariants.{Value, Missing}
-use Rattle.scanning.specs.declared.Scan.{Scan}
-use Rattle.scanning.specs.declared.Scan.TheVariants.{Term as Scanned, Malformed}
+use Rattle.scanning.specs.Ranges.{Number}
+use Rattle.std.specs.Prelude.{Some, None}
+use Rattle.scanning.specs.Scanning.{Scan}
 use Rattle.scanning.specs.Scanning.{name_end, symbol_named, scan_level, scan_at, scan_symbol, higher, scan_more, scan_arguments}
 use Rattle.scanning.specs.Scanning.{scan_numeral, scan_application, scan_term}
 use Rattle.scanning.proofs.Positions.{byte_is, byte_none, drop_next, drop_past}
@@ -40,10 +39,10 @@ use Rattle.scanning.proofs.Names.{name_end_lem, found_at, find_symbol, name_soli
 
 -- A scan of x agrees with what was read: it ends where the rest begins, and has the term's level.
 abbrev pub Scans : List ℕ → Scan → Option (Parsed Ground) → Type 0
-Scans x Malformed none = Unit {0}
-Scans x Malformed (some p) = ⊥
-Scans x (Scanned e k) none = ⊥
-Scans x (Scanned e k) (some p) = (drop e x ≡ p.rest) × (k ≡ level p.value)
+Scans x None none = Unit {0}
+Scans x None (some p) = ⊥
+Scans x (Some (e, k)) none = ⊥
+Scans x (Some (e, k)) (some p) = (drop e x ≡ p.rest) × (k ≡ level p.value)
 
 -- symbols
 
@@ -58,7 +57,7 @@ module _ (x : List ℕ) (s : ℕ → ℕ → Symbol) (levels : (n k : ℕ) → s
       d = span is_digit (drop i x)
 
       go : (o : Option ℕ)
-          → Scans x (elim (number_to (i + length d.taken) o) as (λ z. Scan) [ Value k e ↦ Scanned e k | Missing ↦ Malformed ])
+          → Scans x (elim (number_to (i + length d.taken) o) as (λ z. Scan) [ Some (k, e) ↦ Some (e, k) | None ↦ None ])
           (with_level s (some n) o d.rest)
       go none = tt
       go (some k) = (drop_past x i d.taken d.rest (span_split is_digit (drop i x)), sym (levels n k))
@@ -68,11 +67,11 @@ module _ (x : List ℕ) (s : ℕ → ℕ → Symbol) (levels : (n k : ℕ) → s
   unfolding scan_at read_level
   scan_at_lem i n = go (drop i x) refl
     where
-      go : (l : List ℕ) → drop i x ≡ l → Scans x (cond (eqb (get_or x i 0) 64) (scan_level x (i + 1)) Malformed) (read_level s (some n) l)
+      go : (l : List ℕ) → drop i x ≡ l → Scans x (cond (eqb (get_or x i 0) 64) (scan_level x (i + 1)) None) (read_level s (some n) l)
       go [] h = rw (byte_none x i h) tt
       go (c ∷ cs) h = rw (byte_is x i c cs h) (mark (eqb c 64))
         where
-          mark : (b : Bool) → Scans x (cond b (scan_level x (i + 1)) Malformed)
+          mark : (b : Bool) → Scans x (cond b (scan_level x (i + 1)) None)
               (cond b (with_level s (some n) (number (span is_digit cs).taken) (span is_digit cs).rest) none)
           mark true =
               subst (λ (l : List ℕ). Scans x (scan_level x (i + 1))
@@ -99,9 +98,9 @@ module _ (x : List ℕ) (s : ℕ → ℕ → Symbol) (levels : (n k : ℕ) → s
       d = span is_digit (drop i x)
 
       go : (o : Option ℕ)
-          → Scans x (elim (number_to (i + length d.taken) o) as (λ z. Scan) [ Value n e ↦ scan_at x e | Missing ↦ Malformed ])
+          → Scans x (elim (number_to (i + length d.taken) o) as (λ z. Scan) [ Some (n, e) ↦ scan_at x e | None ↦ None ])
           (read_level s o d.rest)
-      go none = subst (Scans x Malformed) (sym (no_number_lem d.rest)) tt
+      go none = subst (Scans x None) (sym (no_number_lem d.rest)) tt
       go (some n) =
           subst (λ (l : List ℕ). Scans x (scan_at x (i + length d.taken)) (read_level s (some n) l))
           (drop_past x i d.taken d.rest (span_split is_digit (drop i x))) (scan_at_lem (i + length d.taken) n)
@@ -110,10 +109,10 @@ module _ (x : List ℕ) (s : ℕ → ℕ → Symbol) (levels : (n k : ℕ) → s
 
 -- A scan of arguments, k being the highest level before them.
 abbrev pub ScansAll : List ℕ → ℕ → Scan → Option (Parsed (Terms Symbol)) → Type 0
-ScansAll x k Malformed none = Unit {0}
-ScansAll x k Malformed (some p) = ⊥
-ScansAll x k (Scanned e j) none = ⊥
-ScansAll x k (Scanned e j) (some p) = (drop e x ≡ p.rest) × (j ≡ max k (levels_by p.value symbol_level))
+ScansAll x k None none = Unit {0}
+ScansAll x k None (some p) = ⊥
+ScansAll x k (Some (e, j)) none = ⊥
+ScansAll x k (Some (e, j)) (some p) = (drop e x ≡ p.rest) × (j ≡ max k (levels_by p.value symbol_level))
 
 -- Reads n arguments, the first after the byte c, and the closing bracket.
 unfoldable arguments_after : (List ℕ → Option (Parsed Ground)) → ℕ → ℕ → List ℕ → Option (Parsed (Terms Symbol))
@@ -140,10 +139,10 @@ scan_cons : (x : List ℕ) (k j : ℕ) (p : Parsed Ground) (s : Scan) (o : Optio
     → ScansAll x (higher k j) s o
     → ScansAll x k s (cons_parsed p.value o)
 unfolding cons_parsed level_by level
-scan_cons x k j p Malformed none h q = tt
-scan_cons x k j p Malformed (some a) h q = absurd q
-scan_cons x k j p (Scanned e i) none h q = absurd q
-scan_cons x k j p (Scanned e i) (some a) h q =
+scan_cons x k j p None none h q = tt
+scan_cons x k j p None (some a) h q = absurd q
+scan_cons x k j p (Some (e, i)) none h q = absurd q
+scan_cons x k j p (Some (e, i)) (some a) h q =
     let m = higher_max k j in
     let r = q.1 in
     (q.0, omega arith)
@@ -155,12 +154,12 @@ module _ (x : List ℕ) (r : ℕ → Scan) (R : List ℕ → Option (Parsed Grou
   scan_after zero c i k z = go (drop i x) refl
     where
       go : (l : List ℕ) → drop i x ≡ l
-          → ScansAll x k (cond (eqb (get_or x i 0) 41) (Scanned (i + 1) k) Malformed) (after 41 (λ ds. parsed nil ds) l)
+          → ScansAll x k (cond (eqb (get_or x i 0) 41) (Some (i + 1, k)) None) (after 41 (λ ds. parsed nil ds) l)
       go [] h = rw (byte_none x i h) tt
       go (d ∷ ds) h = rw (byte_is x i d ds h) (closing (eqb d 41) refl)
         where
           closing : (b : Bool) → eqb d 41 ≡ b
-              → ScansAll x k (cond b (Scanned (i + 1) k) Malformed) (after 41 (λ ds. parsed nil ds) (d ∷ ds))
+              → ScansAll x k (cond b (Some (i + 1, k)) None) (after 41 (λ ds. parsed nil ds) (d ∷ ds))
           closing true e = rw (after, e) (drop_next x i d ds h, omega arith)
           closing false e = rw (after, e) tt
   scan_after (suc n) c i k z = go (drop i x) refl (scan_after n)
@@ -169,12 +168,12 @@ module _ (x : List ℕ) (r : ℕ → Scan) (R : List ℕ → Option (Parsed Grou
       Rest = (c i k : ℕ) → 0 < c → ScansAll x k (scan_more r n x c i k) (arguments_after R n c (drop i x))
 
       term : (s : Scan) (o : Option (Parsed Ground)) → Scans x s o → Rest
-          → ScansAll x k (elim s as (λ z. Scan) [ Scanned e j ↦ scan_more r n x 44 e (higher k j) | Malformed ↦ Malformed ])
+          → ScansAll x k (elim s as (λ z. Scan) [ Some (e, j) ↦ scan_more r n x 44 e (higher k j) | None ↦ None ])
           (elim o as (λ z. Option (Parsed (Terms Symbol))) [ none ↦ none | some p ↦ cons_parsed p.value (read_more R n p.rest) ])
-      term Malformed none h ih = tt
-      term Malformed (some p) h ih = absurd h
-      term (Scanned e j) none h ih = absurd h
-      term (Scanned e j) (some p) h ih =
+      term None none h ih = tt
+      term None (some p) h ih = absurd h
+      term (Some (e, j)) none h ih = absurd h
+      term (Some (e, j)) (some p) h ih =
           scan_cons x k j p (scan_more r n x 44 e (higher k j)) (read_more R n p.rest) h.1
           (subst (ScansAll x (higher k j) (scan_more r n x 44 e (higher k j))) (ap (arguments_after R n 44) h.0
           ∙ sym (more_after R n p.rest)) (ih 44 e (higher k j) (omega arith)))
@@ -182,15 +181,15 @@ module _ (x : List ℕ) (r : ℕ → Scan) (R : List ℕ → Option (Parsed Grou
       go : (l : List ℕ) → drop i x ≡ l → Rest
           → ScansAll x k
           (cond (eqb (get_or x i 0) c)
-          (elim (r (i + 1)) as (λ z. Scan) [ Scanned e j ↦ scan_more r n x 44 e (higher k j) | Malformed ↦ Malformed ]) Malformed)
+          (elim (r (i + 1)) as (λ z. Scan) [ Some (e, j) ↦ scan_more r n x 44 e (higher k j) | None ↦ None ]) None)
           (arguments_after R (suc n) c l)
       go [] h ih = rw (byte_none x i h, ne_eqb 0 c (λ q. omega arith)) tt
       go (d ∷ ds) h ih = rw (byte_is x i d ds h) (first (eqb d c) refl ih)
         where
           first : (b : Bool) → eqb d c ≡ b → Rest
               → ScansAll x k
-              (cond b (elim (r (i + 1)) as (λ z. Scan) [ Scanned e j ↦ scan_more r n x 44 e (higher k j) | Malformed ↦ Malformed ])
-              Malformed)
+              (cond b (elim (r (i + 1)) as (λ z. Scan) [ Some (e, j) ↦ scan_more r n x 44 e (higher k j) | None ↦ None ])
+              None)
               (arguments_after R (suc n) c (d ∷ ds))
           first true e ih =
               rw (arguments_after, after, e)
@@ -206,10 +205,10 @@ module _ (x : List ℕ) (r : ℕ → Scan) (R : List ℕ → Option (Parsed Grou
   -- If scanning the arguments of a symbol agrees with reading them, so does scanning its application.
   scan_applied : (f : Functor) (s : Scan) (o : Option (Parsed (Terms Symbol))) → ScansAll x 0 s o → Scans x s (apply_to f o)
   unfolding apply_to level level_by
-  scan_applied f Malformed none h = tt
-  scan_applied f Malformed (some p) h = absurd h
-  scan_applied f (Scanned e k) none h = absurd h
-  scan_applied f (Scanned e k) (some p) h = (h.0, let q = h.1 in omega arith)
+  scan_applied f None none h = tt
+  scan_applied f None (some p) h = absurd h
+  scan_applied f (Some (e, k)) none h = absurd h
+  scan_applied f (Some (e, k)) (some p) h = (h.0, let q = h.1 in omega arith)
 
   -- Scanning the application of symbol k agrees with reading it, also where k is no function symbol.
   pub scan_application_lem : (t : List ℕ) (symbols k i : ℕ)
@@ -218,7 +217,7 @@ module _ (x : List ℕ) (r : ℕ → Scan) (R : List ℕ → Option (Parsed Grou
   scan_application_lem t symbols k i = go (ltb k symbols) (eqb (is_function_bit t k) 1)
     where
       go : (a b : Bool)
-          → Scans x (cond a (cond b (scan_arguments r (arity_of t k) x i) Malformed) Malformed)
+          → Scans x (cond a (cond b (scan_arguments r (arity_of t k) x i) None) None)
           (read_application R (head_of none (cond a (cond b (some (record { symbol = k; arity = arity_of t k })) none) none)) (drop i x))
       go true true =
           scan_applied (sheet_symbol k) (scan_arguments r (arity_of t k) x i) (read_arguments R (arity_of t k) (drop i x))
@@ -313,7 +312,7 @@ module _ (x : List ℕ) (i : ℕ) where
   scan_numeral_lem R ds ns c cs h z = rw (scan_numeral, read_number x i) (go (is_name_byte next) refl)
     where
       Scanning : Number → Scan
-      Scanning o = elim o [ Value n e ↦ cond (is_name_byte (get_or x e 0)) Malformed (Scanned e 0) | Missing ↦ Malformed ]
+      Scanning o = elim o [ Some (n, e) ↦ cond (is_name_byte (get_or x e 0)) None (Some (e, 0)) | None ↦ None ]
 
       -- No symbol has the name.
       unknown : find_name 0 ds named.taken ≡ none
@@ -323,7 +322,7 @@ module _ (x : List ℕ) (i : ℕ) where
           (sym (ap (λ (l : List ℕ). (span is_name_byte l).taken) h ∙ ap (λ (s : Span). s.taken) (span_yes is_name_byte c cs (digit_name c z))))
           (digit_no_name c (span is_name_byte cs).taken z))
 
-      longer : (o : Option ℕ) → is_name_byte next ≡ true → Scanning (number_to (i + length digits.taken) o) ≡ Malformed
+      longer : (o : Option ℕ) → is_name_byte next ≡ true → Scanning (number_to (i + length digits.taken) o) ≡ None
       longer none e = refl
       longer (some m) e = rw e
 

@@ -26,8 +26,8 @@ use Rattle.text_judging.specs.Judging.{same_term}
 use Rattle.text_judging.proofs.Spans.{Stops}
 use Rattle.text_judging.proofs.ReadTerms.{read_term_lem, ReadsTerm, read_term_some, read_field, term_graphic}
 use Rattle.text_judging.proofs.Infer.{same_term_true, same_term_refl}
-use Rattle.scanning.specs.declared.Scan.{Scan}
-use Rattle.scanning.specs.declared.Scan.TheVariants.{Term as Scanned, Malformed}
+use Rattle.scanning.specs.Scanning.{Scan}
+use Rattle.std.specs.Prelude.{Some, None}
 use Rattle.scanning.specs.Ranges.{same_folded}
 use Rattle.scanning.specs.Scanning.{scan_term}
 use Rattle.scanning.specs.Instances.{same_slots}
@@ -149,13 +149,13 @@ module _ (b t : List ℕ) (symbols : ℕ) (names : Names (declarations_from b t 
   ds = declarations_from b t symbols 0
 
   -- What a scan finds in a line is a term.
-  pub scanned_line : (f i : ℕ) (l r : List ℕ) (e k : ℕ) → drop i x ≡ l ++ (lf ∷ r) → scan_term f b t symbols x i ≡ Scanned e k
+  pub scanned_line : (f i : ℕ) (l r : List ℕ) (e k : ℕ) → drop i x ≡ l ++ (lf ∷ r) → scan_term f b t symbols x i ≡ Some (e, k)
       → ScansTerm ds x i l r e k
   scanned_line f i l r e k h q =
       go (read_term f ds (drop i x)) (subst (λ (s : Scan). Scans x s (read_term f ds (drop i x))) q (scan_term_lem b t symbols names stand x small f i))
       (read_term_some f ds (drop i x))
     where
-      go : (o : Option (Parsed Ground)) → Scans x (Scanned e k) o → OnSome (ReadsTerm ds (drop i x)) o → ScansTerm ds x i l r e k
+      go : (o : Option (Parsed Ground)) → Scans x (Some (e, k)) o → OnSome (ReadsTerm ds (drop i x)) o → ScansTerm ds x i l r e k
       go none s p = absurd s
       go (some u) s p =
           let a = spell_term u.value ds in
@@ -179,13 +179,13 @@ module _ (b t : List ℕ) (symbols : ℕ) (names : Names (declarations_from b t 
   -- A term that stands at position i, with no name byte after it, is found with its end and its level.
   pub spelled_scan : (f i : ℕ) (u : Ground) (c : ℕ) (r : List ℕ) → drop i x ≡ spell_term u ds ++ (c ∷ r) → WritableTerm u ds
       → length (spell_term u ds) ≤ f
-      → is_name_byte c ≡ false → scan_term f b t symbols x i ≡ Scanned (i + length (spell_term u ds)) (level u)
+      → is_name_byte c ≡ false → scan_term f b t symbols x i ≡ Some (i + length (spell_term u ds), level u)
   spelled_scan f i u c r h w l s =
       go (scan_term f b t symbols x i)
       (subst (Scans x (scan_term f b t symbols x i)) (ap (read_term f ds) h ∙ read_term_lem u ds f (c ∷ r) names w l s)
       (scan_term_lem b t symbols names stand x small f i))
     where
-      go : (a : Scan) → Scans x a (parsed u (c ∷ r)) → a ≡ Scanned (i + length (spell_term u ds)) (level u)
-      go Malformed q = absurd q
-      go (Scanned e k) q =
-          ap₂ Scanned (position_unique x e (i + length (spell_term u ds)) c r q.0 (drop_past x i (spell_term u ds) (c ∷ r) h)) q.1
+      go : (a : Scan) → Scans x a (parsed u (c ∷ r)) → a ≡ Some (i + length (spell_term u ds), level u)
+      go None q = absurd q
+      go (Some (e, k)) q =
+          ap₂ (λ (j l : ℕ). Some (j, l)) (position_unique x e (i + length (spell_term u ds)) c r q.0 (drop_past x i (spell_term u ds) (c ∷ r) h)) q.1

@@ -1,6 +1,5 @@
 -- The work buffer: records of 64 numbers (memory/specs/Records), with the fields of Fields.
 use Rattle.std.specs.Prelude.{ℕ, zero, suc, ◌+◌, ◌*◌, List}
-use Rattle.sheet_format.specs.Limits.{numbers_per_unit}
 use Rattle.scanning.specs.Fields as fields
 use Rattle.memory.specs.Records.{field, put_field}
 

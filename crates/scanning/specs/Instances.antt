@@ -1,19 +1,20 @@
 -- Comparing instances of sheet terms without unfolding them: a node of the table with a frame, whose names are positions in the text. Terms
 -- found to be the same are put into one class, so the work grows with the nodes of two atoms and with the texts of their names, however
 -- often these stand in the atoms.
-use Rattle.std.specs.Prelude.{ℕ, zero, suc, ◌+◌, ◌-◌, ◌%◌, Bool, true, false, cond, List, eqb, leb, ltb, length, get_or, set}
+use Rattle.std.specs.Prelude.{ℕ, zero, suc, ◌+◌, ◌-◌, ◌%◌, Bool, true, false, cond, List, eqb, leb, ltb, length, get_or, set, Option, Some, None}
 use Prim.Native.Char.{code}
 use Rattle.sheet_format.specs.Limits.{max_symbols, max_nodes}
 use Rattle.node_table.specs.Layout.{kind_of, child_count, label_of, child_of, name_start, variable_kind}
-use Rattle.scanning.specs.declared.Number.TheVariants.{Value, Missing}
-use Rattle.scanning.specs.declared.Reach.{Reach}
-use Rattle.scanning.specs.declared.Reach.TheVariants.{To, Differs}
 use Rattle.scanning.specs.Ranges.{same_folded, scan_number}
 use Rattle.scanning.specs.Scanning.{name_size}
 use Rattle.scanning.specs.Frames.{slot_start, slot_end}
 use Rattle.scanning.specs.Classes.{node_element, is_name_element, element_side, element_name, element_node, element_child, side_frame}
 use Rattle.scanning.specs.Classes.{separate}
 use Rattle.scanning.specs.Classes.{root_of}
+
+-- How far a text goes along with the spelling of an instance.
+abbrev pub Reach : Type 0
+Reach = Option ℕ
 
 -- Two terms of the text, from s to e and from i to j, names in either case. Where they start at one position they are one term.
 unfoldable pub same_slots : List ℕ → ℕ → ℕ → ℕ → ℕ → Bool
@@ -23,7 +24,7 @@ same_slots x s e i j = cond (eqb s i) true (cond (eqb (e - s) (j - i)) (same_fol
 
 -- The n bytes of a from s on stand at position i, within the text, names in either case.
 unfoldable pub match_range : ℕ → List ℕ → ℕ → List ℕ → ℕ → Reach
-match_range n a s x i = cond (leb n (length x - i)) (cond (same_folded n a s x i) (To (i + n)) Differs) Differs
+match_range n a s x i = cond (leb n (length x - i)) (cond (same_folded n a s x i) (Some (i + n)) None) None
 
 -- So does the name of symbol k.
 unfoldable pub match_name : List ℕ → List ℕ → ℕ → List ℕ → ℕ → Reach
@@ -31,7 +32,7 @@ match_name b t k x i = match_range (name_size b t k) b (name_start t k) x i
 
 -- So does the number n: it is the number at position i.
 unfoldable pub match_number : ℕ → List ℕ → ℕ → Reach
-match_number n x i = elim (scan_number x i) [ Value m e ↦ cond (eqb m n) (To e) Differs | Missing ↦ Differs ]
+match_number n x i = elim (scan_number x i) [ Some (m, e) ↦ cond (eqb m n) (Some e) None | None ↦ None ]
 
 -- So does what the label l stands for, a symbol or a number (`functor_of` in node_table/specs/Decoding).
 unfoldable pub match_functor : List ℕ → List ℕ → ℕ → List ℕ → ℕ → Reach
@@ -54,22 +55,22 @@ argument_of t m j = child_of t m j % max_nodes
 
 -- So do n children of node m from the j-th on, the first after the byte c, each other one after a comma, and the closing bracket.
 unfoldable pub match_more : (ℕ → ℕ → Reach) → ℕ → List ℕ → ℕ → ℕ → List ℕ → ℕ → ℕ → Reach
-match_more r zero t m j x c i = cond (eqb (get_or x i 0) (code ")")) (To (i + 1)) Differs
+match_more r zero t m j x c i = cond (eqb (get_or x i 0) (code ")")) (Some (i + 1)) None
 match_more r (suc n) t m j x c i =
-    cond (eqb (get_or x i 0) c) (elim (r (argument_of t m j) (i + 1)) [ To e ↦ match_more r n t m (j + 1) x (code ",") e | Differs ↦ Differs ])
-    Differs
+    cond (eqb (get_or x i 0) c) (elim (r (argument_of t m j) (i + 1)) [ Some e ↦ match_more r n t m (j + 1) x (code ",") e | None ↦ None ])
+    None
 
 -- All children of node m stand at position i, in brackets if there are any.
 unfoldable pub match_arguments : (ℕ → ℕ → Reach) → List ℕ → ℕ → List ℕ → ℕ → Reach
-match_arguments r t m x i = cond (eqb (argument_count t m) 0) (To i) (match_more r (argument_count t m) t m 0 x (code "(") i)
+match_arguments r t m x i = cond (eqb (argument_count t m) 0) (Some i) (match_more r (argument_count t m) t m 0 x (code "(") i)
 
 -- The symbol or the number of node m stands at position i, and after it the node's children.
 unfoldable pub match_application : (ℕ → ℕ → Reach) → List ℕ → List ℕ → ℕ → List ℕ → ℕ → Reach
-match_application r b t m x i = elim (match_functor b t (label_of t m) x i) [ To e ↦ match_arguments r t m x e | Differs ↦ Differs ]
+match_application r b t m x i = elim (match_functor b t (label_of t m) x i) [ Some e ↦ match_arguments r t m x e | None ↦ None ]
 
 -- The instance of node m in frame g stands at position i. Children have smaller numbers: the first argument is above the node's.
 unfoldable pub match_instance : ℕ → List ℕ → List ℕ → List ℕ → List ℕ → ℕ → ℕ → ℕ → Reach
-match_instance zero b t x w g m i = Differs
+match_instance zero b t x w g m i = None
 match_instance (suc f) b t x w g m i =
     cond (eqb (kind_of t m) variable_kind)
     (match_slot x w g (label_of t m) i)
@@ -77,8 +78,8 @@ match_instance (suc f) b t x w g m i =
 
 -- The term of the text from s to e is the instance of node m in frame g.
 unfoldable pub ends_at : Reach → ℕ → Bool
-ends_at (To i) e = eqb i e
-ends_at Differs e = false
+ends_at (Some i) e = eqb i e
+ends_at None e = false
 
 -- The instance of node m in frame g stands at position s and ends at e.
 unfoldable pub is_instance : List ℕ → List ℕ → List ℕ → List ℕ → ℕ → ℕ → ℕ → ℕ → Bool

@@ -1,12 +1,13 @@
 -- Numbering by first showing, checked in place: a number is the next one of its kind, or has the level that it had where it showed
 -- first. That position is looked for in the text from its beginning.
-use Rattle.std.specs.Prelude.{ℕ, zero, suc, ◌+◌, ◌-◌, Bool, true, false, not, cond, List, eqb, ltb, length, get_or}
+use Rattle.std.specs.Prelude.{ℕ, zero, suc, ◌+◌, ◌-◌, Bool, true, false, not, cond, List, eqb, ltb, length, get_or, Option, Some, None}
 use Prim.Native.Char.{code}
 use Rattle.sheet_format.specs.Bytes.{is_name_byte}
-use Rattle.scanning.specs.declared.Number.TheVariants.{Value, Missing}
-use Rattle.scanning.specs.declared.SymbolCounts.{SymbolCounts}
-use Rattle.scanning.specs.declared.SymbolCounts.TheVariants.{Counts, Misnumbered}
 use Rattle.scanning.specs.Ranges.{scan_number}
+
+-- How many made constants and how many leftover variables have shown.
+abbrev pub SymbolCounts : Type 0
+SymbolCounts = Option (ℕ × ℕ)
 
 -- A symbol begins at position i: `!`, or `_` that is not inside a name.
 unfoldable pub outside_name : List ℕ → ℕ → Bool
@@ -22,11 +23,11 @@ no_number = 65536
 
 -- Its number and its level; 65,536 where there is none.
 unfoldable pub number_at : List ℕ → ℕ → ℕ
-number_at x i = elim (scan_number x i) [ Value n e ↦ n | Missing ↦ no_number ]
+number_at x i = elim (scan_number x i) [ Some (n, e) ↦ n | None ↦ no_number ]
 
 -- The level of the symbol at position i stands after its number and `@`; it is 65,536 where there is none.
 unfoldable pub level_at : List ℕ → ℕ → ℕ
-level_at x i = elim (scan_number x (i + 1)) [ Value n e ↦ number_at x (e + 1) | Missing ↦ no_number ]
+level_at x i = elim (scan_number x (i + 1)) [ Some (n, e) ↦ number_at x (e + 1) | None ↦ no_number ]
 
 -- A symbol with first byte c and number n begins at position i.
 unfoldable pub is_showing : List ℕ → ℕ → ℕ → ℕ → Bool
@@ -53,17 +54,17 @@ count_after x i k = cond (eqb (number_at x (i + 1)) k) (k + 1) k
 
 -- Checks a made constant at position i, and counts it if its number is new.
 unfoldable pub check_made : List ℕ → ℕ → ℕ → ℕ → SymbolCounts
-check_made x i m l = cond (in_order x i m) (Counts (count_after x i m) l) Misnumbered
+check_made x i m l = cond (in_order x i m) (Some (count_after x i m, l)) None
 
 -- Checks a leftover variable at position i, and counts it if its number is new.
 unfoldable pub check_leftover : List ℕ → ℕ → ℕ → ℕ → SymbolCounts
-check_leftover x i m l = cond (in_order x i l) (Counts m (count_after x i l)) Misnumbered
+check_leftover x i m l = cond (in_order x i l) (Some (m, count_after x i l)) None
 
 -- Checks the symbol at position i, if one begins there.
 unfoldable pub check_symbol : List ℕ → ℕ → ℕ → ℕ → SymbolCounts
-check_symbol x i m l = cond (is_symbol x i) (cond (eqb (get_or x i 0) (code "!")) (check_made x i m l) (check_leftover x i m l)) (Counts m l)
+check_symbol x i m l = cond (is_symbol x i) (cond (eqb (get_or x i 0) (code "!")) (check_made x i m l) (check_leftover x i m l)) (Some (m, l))
 
 -- Checks the symbols that begin at n positions from i on.
 unfoldable pub check_numbering : ℕ → List ℕ → ℕ → ℕ → ℕ → SymbolCounts
-check_numbering zero x i m l = Counts m l
-check_numbering (suc n) x i m l = elim (check_symbol x i m l) [ Counts p q ↦ check_numbering n x (i + 1) p q | Misnumbered ↦ Misnumbered ]
+check_numbering zero x i m l = Some (m, l)
+check_numbering (suc n) x i m l = elim (check_symbol x i m l) [ Some (p, q) ↦ check_numbering n x (i + 1) p q | None ↦ None ]

@@ -4,33 +4,6 @@
 pub mod class_elements;
 pub mod fields;
 
-// Above every number of a text: there is none (specs/Showing.antt).
+// Above every number of a text: there is none (specs/Numbering.antt).
+// A number, not an Option: `in_order` and `count_after` compare it with counts, and an Option would change what they say of 65,536.
 pub const NO_NUMBER: u32 = 65536;
-
-// A number at a position: its value and where it ends.
-#[derive(Clone, Copy)]
-pub enum Number {
-    Value(u32, usize),
-    Missing,
-}
-
-// A term at a position: where it ends, and the highest level in it.
-#[derive(Clone, Copy)]
-pub enum Scan {
-    Term(usize, u32),
-    Malformed,
-}
-
-// How far a text goes along with the spelling of an instance.
-#[derive(Clone, Copy)]
-pub enum Reach {
-    To(usize),
-    Differs,
-}
-
-// How many made constants and leftover variables have shown.
-#[derive(Clone, Copy)]
-pub enum SymbolCounts {
-    Counts(u32, u32),
-    Misnumbered,
-}

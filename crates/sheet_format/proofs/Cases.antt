@@ -1,11 +1,10 @@
 -- Refusals 6 to 11 with their lines, on small sheets, computed. Limits at and one past are in the tests.
-use Prim.Native.Nat.{ℕ, ◌+◌}
+use Prim.Native.Nat.{ℕ}
 use Prim.Native.String.{String}
 use mathlib.Core.Path.{◌≡◌, refl}
-use mathlib.Core.List.{List, [], ◌∷◌, ◌++◌}
 use Rattle.formulas.specs.Rules.{Order, oldest, latest}
 use Rattle.sheet_format.specs.Bytes.{ascii}
-use Rattle.sheet_format.specs.Sheets.{Sheet, Refusal, refusal, Read, sheet, refused}
+use Rattle.sheet_format.specs.Sheets.{Read, sheet, refused}
 use Rattle.sheet_format.proofs.Computing.{compute_sheet}
 
 -- A refusal is told as its number and its line, a sheet as 0 and 0.

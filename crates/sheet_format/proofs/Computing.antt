@@ -1,11 +1,10 @@
 -- One name under which all that reading a sheet computes with unfolds.
 use Prim.Native.Nat.{ℕ}
-use Prim.Native.String.{String}
 use mathlib.Core.List.{List}
 use Rattle.terms.specs.Terms.{size}
 use Rattle.formulas.specs.Formulas.{free_t, free_g, free_c}
 use Rattle.sheet_format.specs.Bytes.{ascii, extend_line, lines_of, extend_field, fields, is_digit, is_small, is_capital, is_letter}
-use Rattle.sheet_format.specs.Bytes.{is_name_byte, digits_from, at_most, number, digits, decimal, name_bytes, is_name, same_bytes, folded, same_name}
+use Rattle.sheet_format.specs.Bytes.{is_name_byte, digits_from, at_most, number, name_bytes, is_name, same_bytes, folded, same_name}
 use Rattle.sheet_format.specs.SheetLines.{cons_number, numbers, declared, declaration, no_number, one_number, two_numbers, with_variable}
 use Rattle.sheet_format.specs.SheetLines.{application, line_of, of_fields, parse_line}
 use Rattle.sheet_format.specs.Nodes.{neither, member_count, term_nodes, sized, term_node, applied, apply_node, map2}

@@ -1,7 +1,6 @@
 -- A sheet without N lines is read as before request W-204.
 use Prim.Native.Nat.{ℕ}
 use mathlib.Core.Path.{◌≡◌, refl, sym}
-use mathlib.Core.List.{[]}
 use mathlib.Core.Option.{Option, none, some}
 use Rattle.terms.proofs.Lists.{all_weaken}
 use Rattle.sheet_format.specs.Bytes.{lines_of, same_name}

@@ -1,7 +1,7 @@
 -- Document 01, the paragraph after the table: what a node is. "Terms on a sheet are V and F applications ... Goals are ... Clauses
 -- are ... A node may be goal and clause." Request W-204 adds the numbers of N lines to the terms. Nodes are made from nodes already
 -- there, so that shared ones stand for themselves.
-use Rattle.std.specs.Prelude.{ℕ, zero, suc, ◌+◌, Bool, true, false, ◌&&◌, ◌||◌, cond, List, [], ◌∷◌, eqb, leb, length}
+use Rattle.std.specs.Prelude.{ℕ, ◌+◌, Bool, true, false, ◌||◌, cond, List, [], ◌∷◌, eqb, leb, length}
 use Rattle.std.proofs.Math.Option.{Option, none, some, map}
 use Rattle.std.proofs.Math.ListN.{get_elem?}
 use Rattle.terms.specs.Terms.{sheet_symbol, number_term, Term, leaf, app, Terms, nil, cons, size}

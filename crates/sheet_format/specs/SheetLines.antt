@@ -1,7 +1,7 @@
 -- Document 01, the table of "The sheet", and refusal 6: "A line is malformed: letter, field count, number, name, arity, variable".
 use Rattle.std.specs.Prelude.{ℕ, Bool, true, false, ◌&&◌, cond, List, [], ◌∷◌, eqb, leb, ltb, length}
 use Prim.Native.Char.{code}
-use Rattle.std.proofs.Math.Option.{Option, none, some, map}
+use Rattle.std.proofs.Math.Option.{Option, none, some}
 use Rattle.sheet_format.specs.Limits.{max_arity, variable_names}
 use Rattle.sheet_format.specs.Bytes.{fields, number, is_name}
 

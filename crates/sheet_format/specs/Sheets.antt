@@ -1,6 +1,6 @@
 -- Document 01, "Turned back", refusals 6 to 11: "6 to 10 are tried line by line; 11 gives the line where Q is missing or where the
 -- surplus starts." The sheet that the bytes are, or the refusal with its line, for every string of bytes.
-use Rattle.std.specs.Prelude.{ℕ, zero, suc, Bool, true, false, not, ◌&&◌, ◌||◌, cond, List, [], ◌∷◌, ◌++◌, ltb, length}
+use Rattle.std.specs.Prelude.{ℕ, zero, suc, Bool, true, false, not, ◌||◌, cond, List, [], ◌∷◌, ◌++◌, ltb, length}
 use Rattle.std.proofs.Math.Option.{Option, none, some}
 use Rattle.std.proofs.Math.ListN.{get_elem?}
 use Rattle.formulas.specs.Formulas.{Goal, Clause, free_c}

@@ -1,6 +1,6 @@
 // The first line of a sheet, which may give the order (request W-207).
 ghost use Rattle.std.specs.Prelude.{◌≡◌};
-ghost use Rattle.sheet_reader.specs.FirstLine.{begins_with, begins_with_order, started, read_order};
+ghost use Rattle.sheet_reader.specs.FirstLine.{begins_with_order, started, read_order};
 
 use node_table::layout;
 use table_builder::orders::put_order;
@@ -15,28 +15,11 @@ pub struct Start {
     pub line: u32,
 }
 
-// Whether the bytes s begin with the bytes a.
-fn begins_with(a: &[u8], s: &[u8]) -> bool
-    ensures { result ≡ begins_with a.now s.now }
-{
-    let mut i: usize = 0;
-    while i < a.len() {
-        if s.len() <= i {
-            return false;
-        }
-        if s[i] != a[i] {
-            return false;
-        }
-        i += 1;
-    }
-    true
-}
-
 // Whether the sheet begins with the line `O latest`.
 pub fn begins_with_order(sheet: &[u8]) -> bool
     ensures { result ≡ begins_with_order sheet.now }
 {
-    begins_with(b"O\tlatest\n", sheet)
+    sheet.starts_with(b"O\tlatest\n")
 }
 
 // The order in force goes into the table, and the lines to be read begin behind the line that gives it.

@@ -1,7 +1,9 @@
--- What a line makes in the table, or the number it is refused with: the code's functions on lists. That they agree with the trees of
+-- What a line makes in the table, or why it is refused: the code's functions on lists. That they agree with the trees of
 -- document 01 is proved in crate table_decoding.
-use Rattle.std.specs.Prelude.{ℕ, zero, suc, ◌+◌, ◌*◌, ◌/◌, ◌%◌, cond, List, [], ◌∷◌, leb, eqb, get_or, set}
+use Rattle.std.specs.Prelude.{ℕ, zero, suc, ◌+◌, ◌*◌, ◌/◌, ◌%◌, cond, List, [], ◌∷◌, leb, eqb, get_or, set, Result, Ok, Err}
 use Rattle.std.specs.Int.Bits.{bit_or}
+use Rattle.outcomes.specs.declared.refusals.Reason.{Reason}
+use Rattle.outcomes.specs.declared.refusals.Reason.TheVariants.{TooMany, Unknown, WrongKind, FreeVariable}
 use Rattle.sheet_format.specs.Limits.{max_members, max_symbols, max_nodes, max_clauses}
 use Rattle.node_table.specs.Layout.{node_at, clause_at, kind_of, mask_of, goal_bit, members_of, pack_info, atom_kind, variable_kind, application_kind}
 use Rattle.node_table.specs.Layout.{true_kind, and_kind, or_kind, implies_kind, exists_kind, forall_kind, head_field, label_field, first_child_field}
@@ -9,15 +11,13 @@ use Rattle.node_table.specs.Layout.{second_child_field, third_child_field, fourt
 use Rattle.node_table.specs.Chains.{below_of, names_over, count_over}
 use Rattle.table_builder.specs.declared.node_info.Counts.{Counts}
 use Rattle.table_builder.specs.declared.node_info.NodeRecord.{NodeRecord}
-use Rattle.table_builder.specs.declared.node_info.Taken.{Taken}
-use Rattle.table_builder.specs.declared.node_info.Taken.TheVariants.{Next, Stop, Last}
 
--- The table and the answer after a line.
-pub record Made : Type 0 where
+-- The table after a line, and what the line comes to: how much there is then, or why it is refused.
+pub record Made (A : Type 0) : Type 0 where
   pub table : List ℕ
-  pub answer : Taken
+  pub answer : Result A Reason
 
-abbrev pub made : List ℕ → Taken → Made
+abbrev pub made : {A : Type 0} → List ℕ → Result A Reason → Made A
 made t r = record { table = t; answer = r }
 
 abbrev pub counts : ℕ → ℕ → ℕ → Counts
@@ -43,11 +43,11 @@ unfoldable pub without_bit : ℕ → ℕ → ℕ
 without_bit zero m = m / 2 * 2
 without_bit (suc v) m = without_bit v (m / 2) * 2 + m % 2
 
--- 9 where the node is nothing.
-unfoldable pub add_node : List ℕ → Counts → NodeRecord → Made
+-- Refused where the node is nothing.
+unfoldable pub add_node : List ℕ → Counts → NodeRecord → Made Counts
 add_node t k r =
-    cond (eqb (r.info / goal_unit) 0) (made t (Stop 9))
-    (made (node_written t k.nodes r) (Next (counts k.symbols (k.nodes + 1) k.clauses)))
+    cond (eqb (r.info / goal_unit) 0) (made t (Err WrongKind))
+    (made (node_written t k.nodes r) (Ok (counts k.symbols (k.nodes + 1) k.clauses)))
 
 -- What a node is, from what its children are.
 unfoldable pub both_goals : List ℕ → ℕ → ℕ → ℕ
@@ -81,55 +81,55 @@ unfoldable pub forall_info : List ℕ → ℕ → ℕ → ℕ
 forall_info t v a = pack_info (without_bit v (mask_of t a)) (goal_bit t a) (members_of t a) 0
 
 -- V, N and Y. The number n is an application of label 256 + n, as `functor_of` of `node_table` reads it.
-unfoldable pub insert_variable : List ℕ → Counts → ℕ → Made
+unfoldable pub insert_variable : List ℕ → Counts → ℕ → Made Counts
 insert_variable t k v =
-    cond (leb max_nodes k.nodes) (made t (Stop 7)) (add_node t k (node_record variable_kind v 0 0 0 0 (pack_info (only_bit v) 0 0 1)))
+    cond (leb max_nodes k.nodes) (made t (Err TooMany)) (add_node t k (node_record variable_kind v 0 0 0 0 (pack_info (only_bit v) 0 0 1)))
 
-unfoldable pub insert_numeral : List ℕ → Counts → ℕ → Made
+unfoldable pub insert_numeral : List ℕ → Counts → ℕ → Made Counts
 insert_numeral t k n =
-    cond (leb max_nodes k.nodes) (made t (Stop 7))
+    cond (leb max_nodes k.nodes) (made t (Err TooMany))
     (add_node t k (node_record application_kind (max_symbols + n) 0 0 0 0 (pack_info 0 0 0 1)))
 
-unfoldable pub insert_true : List ℕ → Counts → Made
-insert_true t k = cond (leb max_nodes k.nodes) (made t (Stop 7)) (add_node t k (node_record true_kind 0 0 0 0 0 goal_unit))
+unfoldable pub insert_true : List ℕ → Counts → Made Counts
+insert_true t k = cond (leb max_nodes k.nodes) (made t (Err TooMany)) (add_node t k (node_record true_kind 0 0 0 0 0 goal_unit))
 
--- A node of that kind with two children, a node with one: 7, then 8, then 9.
-unfoldable pub add_two : List ℕ → Counts → ℕ → ℕ → ℕ → ℕ → Made
+-- A node of that kind with two children, a node with one: one too many, a child that is not there, of the wrong kind, in this order.
+unfoldable pub add_two : List ℕ → Counts → ℕ → ℕ → ℕ → ℕ → Made Counts
 add_two t k kind a b info =
-    cond (leb max_nodes k.nodes) (made t (Stop 7))
-    (cond (leb k.nodes a) (made t (Stop 8))
-    (cond (leb k.nodes b) (made t (Stop 8)) (add_node t k (node_record (kind + 2 * child_unit) 0 a b 0 0 info))))
+    cond (leb max_nodes k.nodes) (made t (Err TooMany))
+    (cond (leb k.nodes a) (made t (Err Unknown))
+    (cond (leb k.nodes b) (made t (Err Unknown)) (add_node t k (node_record (kind + 2 * child_unit) 0 a b 0 0 info))))
 
-unfoldable pub add_one : List ℕ → Counts → NodeRecord → Made
+unfoldable pub add_one : List ℕ → Counts → NodeRecord → Made Counts
 add_one t k r =
-    cond (leb max_nodes k.nodes) (made t (Stop 7)) (cond (leb k.nodes r.first) (made t (Stop 8)) (add_node t k r))
+    cond (leb max_nodes k.nodes) (made t (Err TooMany)) (cond (leb k.nodes r.first) (made t (Err Unknown)) (add_node t k r))
 
-unfoldable pub insert_and : List ℕ → Counts → ℕ → ℕ → Made
+unfoldable pub insert_and : List ℕ → Counts → ℕ → ℕ → Made Counts
 insert_and t k a b = add_two t k and_kind a b (and_info t a b)
 
-unfoldable pub insert_or : List ℕ → Counts → ℕ → ℕ → Made
+unfoldable pub insert_or : List ℕ → Counts → ℕ → ℕ → Made Counts
 insert_or t k a b = add_two t k or_kind a b (or_info t a b)
 
-unfoldable pub insert_implies : List ℕ → Counts → ℕ → ℕ → Made
+unfoldable pub insert_implies : List ℕ → Counts → ℕ → ℕ → Made Counts
 insert_implies t k a b = add_two t k implies_kind a b (implies_info t a b)
 
-unfoldable pub insert_exists : List ℕ → Counts → ℕ → ℕ → Made
+unfoldable pub insert_exists : List ℕ → Counts → ℕ → ℕ → Made Counts
 insert_exists t k v a = add_one t k (node_record (exists_kind + child_unit) v a 0 0 0 (exists_info t v a))
 
 -- The record of a U node has what the U nodes from it on come to.
-unfoldable pub insert_forall : List ℕ → Counts → ℕ → ℕ → Made
+unfoldable pub insert_forall : List ℕ → Counts → ℕ → ℕ → Made Counts
 insert_forall t k v a =
     add_one t k (node_record (forall_kind + child_unit) v a (below_of t a) (names_over t v a) (count_over t v a) (forall_info t v a))
 
 -- C and Q.
-unfoldable pub insert_clause : List ℕ → Counts → ℕ → Made
+unfoldable pub insert_clause : List ℕ → Counts → ℕ → Made Counts
 insert_clause t k n =
-    cond (leb max_clauses k.clauses) (made t (Stop 7))
-    (cond (leb k.nodes n) (made t (Stop 8))
-    (cond (eqb (members_of t n) 0) (made t (Stop 9))
+    cond (leb max_clauses k.clauses) (made t (Err TooMany))
+    (cond (leb k.nodes n) (made t (Err Unknown))
+    (cond (eqb (members_of t n) 0) (made t (Err WrongKind))
     (cond (eqb (mask_of t n) 0)
-    (made (set t (clause_at k.clauses) n) (Next (counts k.symbols k.nodes (k.clauses + 1))))
-    (made t (Stop 10)))))
+    (made (set t (clause_at k.clauses) n) (Ok (counts k.symbols k.nodes (k.clauses + 1))))
+    (made t (Err FreeVariable)))))
 
-unfoldable pub check_goal : List ℕ → Counts → ℕ → Taken
-check_goal t k n = cond (leb k.nodes n) (Stop 8) (cond (eqb (goal_bit t n) 1) (Last n) (Stop 9))
+unfoldable pub check_goal : List ℕ → Counts → ℕ → Result ℕ Reason
+check_goal t k n = cond (leb k.nodes n) (Err Unknown) (cond (eqb (goal_bit t n) 1) (Ok n) (Err WrongKind))

@@ -1,14 +1,14 @@
 -- What F, P and A lines make in the table: the code's functions on lists. That they agree with the trees of document 01 is proved in
 -- crate table_decoding.
-use Rattle.std.specs.Prelude.{ℕ, zero, suc, ◌+◌, ◌*◌, ◌≤◌, ◌≡◌, Bool, true, false, cond, List, [], ◌∷◌, ltb, leb, eqb, length, take, drop, get_or, set}
+use Rattle.std.specs.Prelude.{ℕ, zero, suc, ◌+◌, ◌*◌, ◌≤◌, ◌≡◌, Bool, true, false, cond, List, [], ◌∷◌, ltb, leb, eqb, length, take, drop, get_or, set, Ok, Err}
 use Rattle.std.specs.Int.Bits.{bit_or}
+use Rattle.outcomes.specs.declared.refusals.Reason.TheVariants.{TooMany, Unknown}
 use Rattle.sheet_format.specs.Limits.{max_term_size, max_symbols, max_nodes}
 use Rattle.sheet_format.specs.Bytes.{folded}
 use Rattle.node_table.specs.Layout.{symbol_at, mask_of, size_of, pack_info, name_start, name_word, is_function_bit, arity_of, application_kind}
 use Rattle.node_table.specs.Layout.{atom_kind, name_start_field, name_word_field, arity_field, child_unit}
 use Rattle.node_table.specs.Fingerprints.{word_at}
 use Rattle.table_builder.specs.declared.node_info.Counts.{Counts}
-use Rattle.table_builder.specs.declared.node_info.Taken.TheVariants.{Next, Stop}
 use Rattle.table_builder.specs.Nodes.{Made, made, counts, node_record, add_node}
 
 -- Arguments: all there, all terms; their sizes added to s, their masks united with m.
@@ -46,13 +46,13 @@ applied_kind t f = cond (eqb (is_function_bit t f) 1) application_kind atom_kind
 abbrev pub first_of : ℕ → ℕ → ℕ → ℕ → ℕ → List ℕ
 first_of count a b c d = take count (a ∷ b ∷ c ∷ d ∷ [])
 
-unfoldable pub insert_application : List ℕ → Counts → ℕ → ℕ → ℕ → ℕ → ℕ → ℕ → Made
+unfoldable pub insert_application : List ℕ → Counts → ℕ → ℕ → ℕ → ℕ → ℕ → ℕ → Made Counts
 insert_application t k f count a b c d =
-    cond (leb max_nodes k.nodes) (made t (Stop 7))
-    (cond (leb k.symbols f) (made t (Stop 8))
+    cond (leb max_nodes k.nodes) (made t (Err TooMany))
+    (cond (leb k.symbols f) (made t (Err Unknown))
     (cond (all_there k.nodes (first_of count a b c d))
     (add_node t k (node_record (applied_kind t f + child_unit * count) f a b c d (application_info t f (first_of count a b c d))))
-    (made t (Stop 8))))
+    (made t (Err Unknown))))
 
 -- F and P. The name stands on the sheet at `at`; it is symbol i's name; it is one of `left` symbols' names from the i-th on. Names are
 -- compared whatever the case of their letters (request W-201), and only if their words are equal.
@@ -81,9 +81,9 @@ symbol_word function arity = cond function (2 * arity + 1) (2 * arity)
 abbrev pub StandsAt : List ℕ → ℕ → List ℕ → Type 0
 StandsAt sheet start name = (start + length name ≤ length sheet) × (name ≡ take (length name) (drop start sheet))
 
-unfoldable pub insert_declaration : List ℕ → List ℕ → Counts → Bool → ℕ → ℕ → ℕ → Made
+unfoldable pub insert_declaration : List ℕ → List ℕ → Counts → Bool → ℕ → ℕ → ℕ → Made Counts
 insert_declaration sheet t k function start len arity =
-    cond (leb max_symbols k.symbols) (made t (Stop 7))
-    (cond (find_name sheet t k.symbols (word_at sheet start len) (take len (drop start sheet))) (made t (Stop 8))
+    cond (leb max_symbols k.symbols) (made t (Err TooMany))
+    (cond (find_name sheet t k.symbols (word_at sheet start len) (take len (drop start sheet))) (made t (Err Unknown))
     (made (symbol_written t k.symbols start (word_at sheet start len) (symbol_word function arity))
-    (Next (counts (k.symbols + 1) k.nodes k.clauses))))
+    (Ok (counts (k.symbols + 1) k.nodes k.clauses))))

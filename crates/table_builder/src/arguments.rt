@@ -12,30 +12,14 @@ use sheet_format::limits;
 pub fn all_there(n: u32, args: &[u32]) -> bool
     ensures { result ≡ all_there n args.now }
 {
-    let mut i: usize = 0;
-    while i < args.len() {
-        let a = args[i];
-        if n <= a {
-            return false;
-        }
-        i += 1;
-    }
-    true
+    args.iter().all(|a| *a < n)
 }
 
 // Whether all are terms.
 fn all_terms(t: &[u32], args: &[u32]) -> bool
     ensures { result ≡ all_terms t.now args.now }
 {
-    let mut i: usize = 0;
-    while i < args.len() {
-        let a = args[i];
-        if size(t, a) == 0 {
-            return false;
-        }
-        i += 1;
-    }
-    true
+    args.iter().all(|a| size(t, *a) != 0)
 }
 
 // One more than the sizes together.
@@ -44,11 +28,8 @@ fn sum_sizes(t: &[u32], args: &[u32]) -> u32
     ensures { result ≡ sizes_from t.now 1 args.now }
 {
     let mut sum: u32 = 1;
-    let mut i: usize = 0;
-    while i < args.len() {
-        let a = args[i];
-        sum += size(t, a);
-        i += 1;
+    for a in args {
+        sum += size(t, *a);
     }
     sum
 }
@@ -58,11 +39,8 @@ fn unite_masks(t: &[u32], args: &[u32]) -> u32
     ensures { (result ≡ masks_from t.now 0 args.now) × (result < 256) }
 {
     let mut free: u32 = 0;
-    let mut i: usize = 0;
-    while i < args.len() {
-        let a = args[i];
-        free = free | mask(t, a);
-        i += 1;
+    for a in args {
+        free |= mask(t, *a);
     }
     free
 }
@@ -90,7 +68,7 @@ fn applied_info(t: &[u32], f: u32, args: &[u32]) -> u32
     pack_info(free, 1, 1, 0)
 }
 
-// 0 where the arity does not agree or an argument is no term.
+// 0, which the table has of a node that is nothing, where the arity does not agree or an argument is no term.
 pub fn application_info(t: &[u32], f: u32, args: &[u32]) -> u32
     requires { length args.now ≤ 4 }
     ensures { result ≡ application_info t.now f args.now }

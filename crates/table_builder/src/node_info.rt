@@ -1,11 +1,10 @@
 // What a node is, from what its children are: a goal?, how many members as a clause, its free variables. No tree is walked.
-ghost use Rattle.std.specs.Prelude.{◌≡◌, ◌<◌, ◌≤◌};
+ghost use Rattle.std.specs.Prelude.{◌≡◌, ◌<◌, ◌≤◌, eqb};
 ghost use Rattle.node_table.specs.Layout.{mask_of, pack_info};
 ghost use Rattle.node_table.specs.Chains.{names_over, count_over};
-ghost use Rattle.table_builder.specs.Nodes.{only_bit, without_bit, both_goals, sum_members, supposed_goal, ruled_members, united_mask};
+ghost use Rattle.table_builder.specs.Nodes.{node_record, only_bit, without_bit, both_goals, sum_members, supposed_goal, ruled_members, united_mask};
 ghost use Rattle.table_builder.specs.Nodes.{and_info, or_info, implies_info, exists_info, forall_info};
 
-use memory::widen;
 use node_table::{
     chain_count, chain_names, goal_bit, is_free, is_goal, kind, kinds, layout, mask, members,
     name_before, one_more,
@@ -18,14 +17,6 @@ pub struct Counts {
     pub symbols: u32,
     pub nodes: u32,
     pub clauses: u32,
-}
-
-// A line is taken, refused with a number, or the Q line with the goal's node.
-#[derive(Clone, Copy)]
-pub enum Taken {
-    Next(Counts),
-    Stop(u32),
-    Last(u32),
 }
 
 // The seven numbers of a node: kind + 16 * number of children, label (symbol, number or variable), children, what it is. Of a U node,
@@ -41,6 +32,23 @@ pub struct NodeRecord {
     pub info: u32,
 }
 
+impl NodeRecord {
+    // A node without children.
+    pub fn leaf(head: u32, label: u32, info: u32) -> NodeRecord
+        ensures { result ≡ node_record head label 0 0 0 0 info }
+    {
+        NodeRecord {
+            head,
+            label,
+            first: 0,
+            second: 0,
+            third: 0,
+            fourth: 0,
+            info,
+        }
+    }
+}
+
 // A mask, goal bit, members and size as one number.
 pub fn pack_info(mask: u32, goal: u32, members: u32, size: u32) -> u32
     requires { (mask < 256) × (goal ≤ 1) × (members < 128) × (size ≤ 1024) }
@@ -54,12 +62,10 @@ pub fn only_bit(v: u32) -> u32
     requires { v < 8 }
     ensures { (result ≡ only_bit v) × (result < 256) }
 {
-    let bits: [u32; 8] = [1, 2, 4, 8, 16, 32, 64, 128];
-    let i = widen(v);
-    bits[i]
+    1 << v
 }
 
-// The mask without variable v.
+// The mask without variable v. By recursion: v has no bound, and a shift would need one.
 fn without_bit(v: u32, mask: u32) -> u32
     ensures { (result ≡ without_bit v mask) × (result ≤ mask) }
 {
@@ -69,14 +75,11 @@ fn without_bit(v: u32, mask: u32) -> u32
     without_bit(v - 1, mask / 2) * 2 + mask % 2
 }
 
-// 1 if both are goals.
-fn both_goals(t: &[u32], a: u32, b: u32) -> u32
-    ensures { (result ≡ both_goals t.now a b) × (result ≤ 1) }
+// Whether both are goals.
+fn both_goals(t: &[u32], a: u32, b: u32) -> bool
+    ensures { result ≡ eqb (both_goals t.now a b) 1 }
 {
-    if is_goal(t, a) {
-        return goal_bit(t, b);
-    }
-    0
+    is_goal(t, a) && is_goal(t, b)
 }
 
 // The members of two clauses together, at most 64; 0 if one is no clause.
@@ -96,24 +99,18 @@ fn sum_members(m: u32, n: u32) -> u32
     0
 }
 
-// 1 if the first is a clause and the second a goal.
-fn supposed_goal(t: &[u32], a: u32, b: u32) -> u32
-    ensures { (result ≡ supposed_goal t.now a b) × (result ≤ 1) }
+// Whether the first is a clause and the second a goal.
+fn supposed_goal(t: &[u32], a: u32, b: u32) -> bool
+    ensures { result ≡ eqb (supposed_goal t.now a b) 1 }
 {
-    if members(t, a) == 0 {
-        return 0;
-    }
-    goal_bit(t, b)
+    members(t, a) != 0 && is_goal(t, b)
 }
 
-// 1 if the first is a goal and the second an atom.
+// One member if the first is a goal and the second an atom.
 fn ruled_members(t: &[u32], a: u32, b: u32) -> u32
     ensures { (result ≡ ruled_members t.now a b) × (result ≤ 1) }
 {
-    if kind(t, b) == kinds::ATOM {
-        return both_goals(t, a, b);
-    }
-    0
+    u32::from(kind(t, b) == kinds::ATOM && both_goals(t, a, b))
 }
 
 fn united_mask(t: &[u32], a: u32, b: u32) -> u32
@@ -126,7 +123,7 @@ pub fn and_info(t: &[u32], a: u32, b: u32) -> u32
     ensures { result ≡ and_info t.now a b }
 {
     let free = united_mask(t, a, b);
-    let goal = both_goals(t, a, b);
+    let goal = u32::from(both_goals(t, a, b));
     let m = sum_members(members(t, a), members(t, b));
     pack_info(free, goal, m, 0)
 }
@@ -135,7 +132,7 @@ pub fn or_info(t: &[u32], a: u32, b: u32) -> u32
     ensures { result ≡ or_info t.now a b }
 {
     let free = united_mask(t, a, b);
-    let goal = both_goals(t, a, b);
+    let goal = u32::from(both_goals(t, a, b));
     pack_info(free, goal, 0, 0)
 }
 
@@ -143,7 +140,7 @@ pub fn implies_info(t: &[u32], a: u32, b: u32) -> u32
     ensures { result ≡ implies_info t.now a b }
 {
     let free = united_mask(t, a, b);
-    let goal = supposed_goal(t, a, b);
+    let goal = u32::from(supposed_goal(t, a, b));
     let m = ruled_members(t, a, b);
     pack_info(free, goal, m, 0)
 }

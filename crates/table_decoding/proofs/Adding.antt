@@ -9,6 +9,8 @@ use mathlib.Core.List.{List, [], ◌∷◌, ◌++◌}
 use mathlib.Core.Option.{Option, none, some}
 use lib.Dec.{leb, eqb}
 use borrow.Author.Tests.{eqb-true, eqb-false, ne_eqb, lt-leb, leb-true, leb-false}
+use Rattle.std.specs.Prelude.{Ok, Err}
+use Rattle.outcomes.specs.declared.refusals.Reason.TheVariants.{WrongKind}
 use Rattle.terms.specs.Terms.{Term}
 use Rattle.formulas.specs.Formulas.{Goal, Clause}
 use Rattle.sheet_format.specs.Nodes.{Declaration, Node, is_some, is_something}
@@ -24,9 +26,8 @@ use Rattle.node_table.proofs.Decoding.{Nodes, term_at_same, goal_at_same, clause
 use Rattle.node_table.proofs.Nodes.{is_term_back, is_goal_back, is_clause_back, is_clause_same, labelled_same, term_same, goal_same, clause_same}
 use Rattle.table_builder.specs.declared.node_info.Counts.{Counts}
 use Rattle.table_builder.specs.declared.node_info.NodeRecord.{NodeRecord}
-use Rattle.table_builder.specs.declared.node_info.Taken.TheVariants.{Next, Stop}
 use Rattle.table_builder.specs.Nodes.{made, counts, node_written, add_node}
-use Rattle.table_decoding.specs.Decoding.{node_read, nodes_from, table_of, Decodes, Agrees, Follows}
+use Rattle.table_decoding.specs.Decoding.{node_read, nodes_from, table_of, Decodes, Agrees, TableIs, Follows}
 use Rattle.table_decoding.proofs.Writing.{Rest, rest_node, same_before, clause_kept, read_info}
 use Rattle.table_decoding.proofs.Sequences.{from_more, from_agree, declarations_list, nodes_list, clauses_list}
 
@@ -214,7 +215,7 @@ module _ (bytes t : List ℕ) (k : Counts) (st : Decodes bytes t k) (h : k.nodes
 
   -- A node that is nothing is refused, any other is added.
   pub added : (node : Node) → node_read u n ≡ node → NewNode u n k.symbols
-      → Follows bytes t k (add_node t k r) (sheetAddNode (table_of bytes t k) (some node))
+      → Follows (TableIs bytes) t (add_node t k r) (sheetAddNode (table_of bytes t k) (some node))
   unfolding add_node sheetAddNode Agrees Rest
   added node e new = go (eqb (r.info / 256) 0) refl
     where
@@ -222,7 +223,7 @@ module _ (bytes t : List ℕ) (k : Counts) (st : Decodes bytes t k) (h : k.nodes
       is = ap is_something (sym e) ∙ something
 
       go : (b : Bool) → eqb (r.info / 256) 0 ≡ b
-          → Follows bytes t k (cond b (made t (Stop 9)) (made u (Next k')))
+          → Follows (TableIs bytes) t (cond b (made t (Err WrongKind)) (made u (Ok k')))
           (cond (is_something node)
           (next (record {
             symbols = (table_of bytes t k).symbols;

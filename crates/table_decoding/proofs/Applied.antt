@@ -30,7 +30,7 @@ use Rattle.table_builder.specs.Nodes.{node_record, node_written, add_node}
 use Rattle.table_builder.specs.Symbols.{all_there, all_terms, sizes_from, masks_from, term_info, applied_info, application_info, applied_kind}
 use Rattle.table_builder.specs.Symbols.{first_of}
 use Rattle.table_builder.proofs.symbols.Laws.{first_length}
-use Rattle.table_decoding.specs.Decoding.{node_read, table_of, Decodes, Agrees, Follows}
+use Rattle.table_decoding.specs.Decoding.{node_read, table_of, Decodes, Agrees, TableIs, Follows}
 use Rattle.table_decoding.proofs.Bits.{bit_none}
 use Rattle.table_decoding.proofs.Writing.{NodeIs, written}
 use Rattle.table_decoding.proofs.Adding.{node_agree, NewNode, nodes_of_stands, same, added}
@@ -156,7 +156,7 @@ module _ (bytes t : List ℕ) (k : Counts) (st : Decodes bytes t k) (h : k.nodes
           clause = λ i. let m = term_is.members in absurd (omega arith);
         }
 
-    pub term_added : Follows bytes t k (add_node t k term_record)
+    pub term_added : Follows (TableIs bytes) t (add_node t k term_record)
         (sheetAddNode (table_of bytes t k) (some (term_node (some (app (sheet_symbol f) terms)))))
     term_added = added bytes t k st h term_record _ term_read term_new
 
@@ -205,7 +205,7 @@ module _ (bytes t : List ℕ) (k : Counts) (st : Decodes bytes t k) (h : k.nodes
               (arguments_there all agree 2 mask 1 1 0 atom_record atom_is);
         }
 
-    pub atom_added : Follows bytes t k (add_node t k atom_record) (sheetAddNode (table_of bytes t k) (some
+    pub atom_added : Follows (TableIs bytes) t (add_node t k atom_record) (sheetAddNode (table_of bytes t k) (some
         (record { term = none; goal = some (atom f terms); clause = some (fact f terms) })))
     atom_added = added bytes t k st h atom_record _ atom_read atom_new
 
@@ -213,7 +213,7 @@ module _ (bytes t : List ℕ) (k : Counts) (st : Decodes bytes t k) (h : k.nodes
 
   -- A node that is nothing is refused as in the definitions.
   nothing : (r : NodeRecord) (node : Node) → r.info ≡ 0 → is_something node ≡ false
-      → Follows bytes t k (add_node t k r) (sheetAddNode (table_of bytes t k) (some node))
+      → Follows (TableIs bytes) t (add_node t k r) (sheetAddNode (table_of bytes t k) (some node))
   unfolding add_node sheetAddNode Agrees
   nothing r node e s = rw (e, s) (record { agrees = refl; long = refl; rest = refl; order = refl })
 
@@ -225,19 +225,19 @@ module _ (bytes t : List ℕ) (k : Counts) (st : Decodes bytes t k) (h : k.nodes
 
   -- Where the arity agrees and all arguments are terms, the node is added as in the definitions.
   of_terms : All (Argument bytes t k st) args → arity_of t f ≡ count
-      → Follows bytes t k (add_node t k (node_record (applied_kind t f + 16 * count) f a b c d (applied_info t f args)))
+      → Follows (TableIs bytes) t (add_node t k (node_record (applied_kind t f + 16 * count) f a b c d (applied_info t f args)))
       (sheetAddNode (table_of bytes t k) (some (applied (eqb (is_function_bit t f) 1) f (some terms))))
   unfolding applied_kind applied_info term_info applied sized term_node is_something is_some
   of_terms all agree = go (eqb (is_function_bit t f) 1) refl
     where
       bounded : (x : Bool) → leb (sizes_from t 1 args) 1024 ≡ x
-          → Follows bytes t k (add_node t k (node_record (1 + 16 * count) f a b c d (cond x (pack_info mask 0 0 (sizes_from t 1 args)) 0)))
+          → Follows (TableIs bytes) t (add_node t k (node_record (1 + 16 * count) f a b c d (cond x (pack_info mask 0 0 (sizes_from t 1 args)) 0)))
           (sheetAddNode (table_of bytes t k) (some (term_node (cond x (some (app (sheet_symbol f) terms)) none))))
       bounded true p = term_added all agree
       bounded false p = nothing (node_record (1 + 16 * count) f a b c d 0) (term_node none) refl refl
 
       go : (x : Bool) → eqb (is_function_bit t f) 1 ≡ x
-          → Follows bytes t k
+          → Follows (TableIs bytes) t
           (add_node t k (node_record (cond x 1 2 + 16 * count) f a b c d
           (cond x (cond (leb (sizes_from t 1 args) 1024) (pack_info mask 0 0 (sizes_from t 1 args)) 0) (pack_info mask 1 1 0))))
           (sheetAddNode (table_of bytes t k) (some (applied x f (some terms))))
@@ -250,7 +250,7 @@ module _ (bytes t : List ℕ) (k : Counts) (st : Decodes bytes t k) (h : k.nodes
   neither_nothing = refl
 
   pub application_added : all_there n args ≡ true
-      → Follows bytes t k (add_node t k any_record) (sheetAddNode (table_of bytes t k) (some (apply_node declared f (map (node_read t) args))))
+      → Follows (TableIs bytes) t (add_node t k any_record) (sheetAddNode (table_of bytes t k) (some (apply_node declared f (map (node_read t) args))))
   unfolding application_info apply_node declaration_at applied
   application_added there =
       rw (length_map (node_read t) args, eqb_comm (length args) (arity_of t f)) (go (eqb (arity_of t f) (length args)) refl)
@@ -260,7 +260,7 @@ module _ (bytes t : List ℕ) (k : Counts) (st : Decodes bytes t k) (h : k.nodes
       none_applied false = neither_nothing
 
       go₂ : arity_of t f ≡ count → (x : Bool) → all_terms t args ≡ x
-          → Follows bytes t k (add_node t k (node_record (applied_kind t f + 16 * count) f a b c d (cond x (applied_info t f args) 0)))
+          → Follows (TableIs bytes) t (add_node t k (node_record (applied_kind t f + 16 * count) f a b c d (cond x (applied_info t f args) 0)))
           (sheetAddNode (table_of bytes t k) (some (applied (eqb (is_function_bit t f) 1) f (cond x (some terms) none))))
       go₂ e true p = of_terms (all_arguments bytes t k st args there p) e
       go₂ e false p =
@@ -268,7 +268,7 @@ module _ (bytes t : List ℕ) (k : Counts) (st : Decodes bytes t k) (h : k.nodes
           (none_applied (eqb (is_function_bit t f) 1))
 
       go : (x : Bool) → eqb (arity_of t f) (length args) ≡ x
-          → Follows bytes t k
+          → Follows (TableIs bytes) t
           (add_node t k (node_record (applied_kind t f + 16 * count) f a b c d (cond x (cond (all_terms t args) (applied_info t f args) 0) 0)))
           (sheetAddNode (table_of bytes t k)
           (some (cond x (applied (eqb (is_function_bit t f) 1) f (term_nodes (map (node_read t) args))) neither)))

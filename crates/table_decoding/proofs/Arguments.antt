@@ -10,7 +10,7 @@ use lib.Dec.{ltb, leb, eqb}
 use lib.ListN.{length, get_or, get_elem?}
 use borrow.Author.Tests.{ltb-true, ltb-false, eqb-true, eqb-false, le-leb, lt-leb}
 use Rattle.terms.specs.Lists.{All}
-use Rattle.terms.specs.Terms.{Term, Terms, nil, cons, size, sizes}
+use Rattle.terms.specs.Terms.{Term, Terms, nil, cons, sizes}
 use Rattle.formulas.specs.Formulas.{free_t, free_ts}
 use Rattle.sheet_format.specs.Nodes.{Node, term_nodes, nodes_at, map2}
 use Rattle.node_table.specs.Layout.{child_of, mask_of, bit_of, size_of}

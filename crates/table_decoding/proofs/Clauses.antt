@@ -9,6 +9,8 @@ use mathlib.Core.Option.{none, some}
 use lib.Dec.{ltb, leb, eqb}
 use lib.ListN.{length, set, get_elem?}
 use borrow.Author.Tests.{eqb-true, eqb-false, le-ltb, lt-ltb, le-leb, lt-leb, leb-true, leb-false}
+use Rattle.std.specs.Prelude.{Ok, Err}
+use Rattle.outcomes.specs.declared.refusals.Reason.TheVariants.{TooMany, Unknown, WrongKind, FreeVariable}
 use Rattle.formulas.specs.Formulas.{Clause, free_c}
 use Rattle.sheet_format.specs.Sheets.{next, stop, any_free, add_clause, last_goal}
 use Rattle.sheet_format.specs.Sheets.{clause_at as sheetClauseAt}
@@ -22,9 +24,8 @@ use Rattle.node_table.proofs.Words.{name_same}
 use Rattle.node_table.proofs.Decoding.{clause_at_same}
 use Rattle.node_table.proofs.Nodes.{is_term_back, is_goal_back, is_clause_back, is_clause_same, labelled_same, term_same, goal_same, clause_same}
 use Rattle.table_builder.specs.declared.node_info.Counts.{Counts}
-use Rattle.table_builder.specs.declared.node_info.Taken.TheVariants.{Next, Stop, Last}
 use Rattle.table_builder.specs.Nodes.{made, counts, insert_clause, check_goal}
-use Rattle.table_decoding.specs.Decoding.{node_read, table_of, Decodes, Agrees, Follows}
+use Rattle.table_decoding.specs.Decoding.{node_read, table_of, Decodes, Agrees, TableIs, GoalIs, Follows}
 use Rattle.table_decoding.proofs.Bits.{any_of, any_bit}
 use Rattle.table_decoding.proofs.Writing.{Rest, rest_clause, same_but_clause, clause_other, clause_written}
 use Rattle.table_decoding.proofs.Sequences.{from_length, from_more, clauses_list}
@@ -114,13 +115,13 @@ module _ (bytes t : List ℕ) (k : Counts) (st : Decodes bytes t k) (n : ℕ) wh
   unfolding table_of
   clauses_length = ap length (clauses_list t k.clauses 0) ∙ from_length (λ j. clause_at_node t (clause_node t j)) k.clauses 0
 
-  pub clause_follows : Follows bytes t k (insert_clause t k n) (sheetTakeClause (table_of bytes t k) n)
+  pub clause_follows : Follows (TableIs bytes) t (insert_clause t k n) (sheetTakeClause (table_of bytes t k) n)
   unfolding insert_clause sheetTakeClause sheetClauseAt add_clause node_read Agrees Rest
   clause_follows = rw clauses_length (room (leb 128 k.clauses) refl)
     where
       free : (l : n < k.nodes) (i : IsClause t n) → k.clauses < 128 → (x : Bool)
-          → Follows bytes t k (cond x (made (set t (clause_at k.clauses) n) (Next (counts k.symbols k.nodes (k.clauses + 1))))
-          (made t (Stop 10)))
+          → Follows (TableIs bytes) t (cond x (made (set t (clause_at k.clauses) n) (Ok (counts k.symbols k.nodes (k.clauses + 1))))
+          (made t (Err FreeVariable)))
           (cond (not x) (stop 10)
           (next (record {
             symbols = (table_of bytes t k).symbols;
@@ -133,10 +134,10 @@ module _ (bytes t : List ℕ) (k : Counts) (st : Decodes bytes t k) (n : ℕ) wh
       free l i h false = record { agrees = refl; long = refl; rest = refl; order = refl }
 
       clause : n < k.nodes → k.clauses < 128 → (x : Bool) → eqb (members_of t n) 0 ≡ x
-          → Follows bytes t k
-          (cond x (made t (Stop 9))
-          (cond (eqb (mask_of t n) 0) (made (set t (clause_at k.clauses) n) (Next (counts k.symbols k.nodes (k.clauses + 1))))
-          (made t (Stop 10))))
+          → Follows (TableIs bytes) t
+          (cond x (made t (Err WrongKind))
+          (cond (eqb (mask_of t n) 0) (made (set t (clause_at k.clauses) n) (Ok (counts k.symbols k.nodes (k.clauses + 1))))
+          (made t (Err FreeVariable))))
           (add_clause (table_of bytes t k) (cond (leb 1 (members_of t n)) (some (clause_at_node t n)) none))
       clause l h true e =
           let z = eqb-true (members_of t n) 0 e in rw (lt-leb 1 (members_of t n) (omega arith))
@@ -147,38 +148,38 @@ module _ (bytes t : List ℕ) (k : Counts) (st : Decodes bytes t k) (n : ℕ) wh
           rw (le-leb 1 (members_of t n) i, masked l i) (free l i h (eqb (mask_of t n) 0))
 
       there : k.clauses < 128 → (x : Bool) → leb k.nodes n ≡ x
-          → Follows bytes t k
-          (cond x (made t (Stop 8)) (cond (eqb (members_of t n) 0) (made t (Stop 9))
-          (cond (eqb (mask_of t n) 0) (made (set t (clause_at k.clauses) n) (Next (counts k.symbols k.nodes (k.clauses + 1))))
-          (made t (Stop 10)))))
+          → Follows (TableIs bytes) t
+          (cond x (made t (Err Unknown)) (cond (eqb (members_of t n) 0) (made t (Err WrongKind))
+          (cond (eqb (mask_of t n) 0) (made (set t (clause_at k.clauses) n) (Ok (counts k.symbols k.nodes (k.clauses + 1))))
+          (made t (Err FreeVariable)))))
           (sheetClauseAt (table_of bytes t k) (get_elem? (table_of bytes t k).nodes n))
       there h true e =
           rw (node_missing bytes t k st n (leb-true k.nodes n e)) (record { agrees = refl; long = refl; rest = refl; order = refl })
       there h false e = let l = leb-false k.nodes n e in rw (node_there bytes t k st n l) (clause l h (eqb (members_of t n) 0) refl)
 
       room : (x : Bool) → leb 128 k.clauses ≡ x
-          → Follows bytes t k
-          (cond x (made t (Stop 7)) (cond (leb k.nodes n) (made t (Stop 8))
-          (cond (eqb (members_of t n) 0) (made t (Stop 9))
-          (cond (eqb (mask_of t n) 0) (made (set t (clause_at k.clauses) n) (Next (counts k.symbols k.nodes (k.clauses + 1))))
-          (made t (Stop 10))))))
+          → Follows (TableIs bytes) t
+          (cond x (made t (Err TooMany)) (cond (leb k.nodes n) (made t (Err Unknown))
+          (cond (eqb (members_of t n) 0) (made t (Err WrongKind))
+          (cond (eqb (mask_of t n) 0) (made (set t (clause_at k.clauses) n) (Ok (counts k.symbols k.nodes (k.clauses + 1))))
+          (made t (Err FreeVariable))))))
           (cond (not (ltb k.clauses 128)) (stop 7) (sheetClauseAt (table_of bytes t k) (get_elem? (table_of bytes t k).nodes n)))
       room true e =
           let p = leb-true 128 k.clauses e in
           rw (le-ltb k.clauses 128 p) (record { agrees = refl; long = refl; rest = refl; order = refl })
       room false e = let p = leb-false 128 k.clauses e in rw (lt-ltb k.clauses 128 p) (there p (leb k.nodes n) refl)
 
-  pub goal_follows : Follows bytes t k (made t (check_goal t k n)) (sheetGoalAt (get_elem? (table_of bytes t k).nodes n))
+  pub goal_follows : Follows (GoalIs k) t (made t (check_goal t k n)) (sheetGoalAt (get_elem? (table_of bytes t k).nodes n))
   unfolding check_goal sheetGoalAt last_goal node_read Agrees
   goal_follows = there (leb k.nodes n) refl
     where
       goal : n < k.nodes → (x : Bool) → eqb (goal_bit t n) 1 ≡ x
-          → Follows bytes t k (made t (cond x (Last n) (Stop 9))) (last_goal (cond x (some (goal_at t n)) none))
+          → Follows (GoalIs k) t (made t (cond x (Ok n) (Err WrongKind))) (last_goal (cond x (some (goal_at t n)) none))
       goal l true e = record { agrees = (refl, l, eqb-true (goal_bit t n) 1 e); long = refl; rest = refl; order = refl }
       goal l false e = record { agrees = refl; long = refl; rest = refl; order = refl }
 
       there : (x : Bool) → leb k.nodes n ≡ x
-          → Follows bytes t k (made t (cond x (Stop 8) (cond (eqb (goal_bit t n) 1) (Last n) (Stop 9))))
+          → Follows (GoalIs k) t (made t (cond x (Err Unknown) (cond (eqb (goal_bit t n) 1) (Ok n) (Err WrongKind))))
           (sheetGoalAt (get_elem? (table_of bytes t k).nodes n))
       there true e =
           rw (node_missing bytes t k st n (leb-true k.nodes n e)) (record { agrees = refl; long = refl; rest = refl; order = refl })

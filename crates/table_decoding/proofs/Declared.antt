@@ -9,6 +9,8 @@ use lib.Dec.{ltb, leb, eqb}
 use lib.ListN.{length, take, drop, get_or, length-drop}
 use lib.Seq.{drop-cons, length-take-le}
 use borrow.Author.Tests.{eqb-true, eqb-false, eq-eqb, ne_eqb, le-ltb, lt-ltb, leb-true, leb-false}
+use Rattle.std.specs.Prelude.{Ok, Err}
+use Rattle.outcomes.specs.declared.refusals.Reason.TheVariants.{TooMany, Unknown}
 use Rattle.terms.proofs.Tests.{eqb_comm, cond_and}
 use Rattle.sheet_format.specs.Limits.{max_name}
 use Rattle.sheet_format.specs.Bytes.{same_bytes, folded, same_name}
@@ -23,10 +25,9 @@ use Rattle.node_table.proofs.Same.{Same, same_kind}
 use Rattle.node_table.proofs.Words.{word_of, word_list, word_length, same_name_word, name_same}
 use Rattle.node_table.proofs.Nodes.{is_term_back, is_goal_back, is_clause_back, is_clause_same, labelled_same, term_same, goal_same, clause_same}
 use Rattle.table_builder.specs.declared.node_info.Counts.{Counts}
-use Rattle.table_builder.specs.declared.node_info.Taken.TheVariants.{Next, Stop}
 use Rattle.table_builder.specs.Nodes.{made, counts}
 use Rattle.table_builder.specs.Symbols.{same_at, name_is, find_from, find_name, symbol_word, symbol_written, insert_declaration}
-use Rattle.table_decoding.specs.Decoding.{table_of, Decodes, Agrees, Follows}
+use Rattle.table_decoding.specs.Decoding.{table_of, Decodes, Agrees, TableIs, Follows}
 use Rattle.table_decoding.proofs.Writing.{Rest, rest_symbol, same_but_symbol, clause_kept_symbol, written_start, written_name}
 use Rattle.table_decoding.proofs.Writing.{written_function, written_arity}
 use Rattle.table_decoding.proofs.Sequences.{from_length, from_more, declarations_list}
@@ -225,13 +226,13 @@ module _ (bytes t : List ℕ) (k : Counts) (st : Decodes bytes t k) (function : 
       (record { within = fits; short = short; part = refl; word_is = refl })
       (λ j p q. st.names j (omega arith))
 
-  pub declaration_follows : Follows bytes t k (insert_declaration bytes t k function start len arity)
+  pub declaration_follows : Follows (TableIs bytes) t (insert_declaration bytes t k function start len arity)
       (sheetTakeDeclaration same_name (table_of bytes t k) declared)
   unfolding insert_declaration sheetTakeDeclaration Agrees Rest
   declaration_follows = rw (symbols_length, ← is_found) (room (leb 256 i) refl)
     where
       name : (x : Bool) → i < 256
-          → Follows bytes t k (cond x (made t (Stop 8)) (made u (Next k')))
+          → Follows (TableIs bytes) t (cond x (made t (Err Unknown)) (made u (Ok k')))
           (cond x (stop 8)
           (next (record {
             symbols = (table_of bytes t k).symbols ++ (declared ∷ []);
@@ -244,8 +245,8 @@ module _ (bytes t : List ℕ) (k : Counts) (st : Decodes bytes t k) (function : 
           record { agrees = (ap next (sym (table_symbol l)), stands_symbol l); long = rest.0; rest = rest.1; order = rest.2 }
 
       room : (x : Bool) → leb 256 i ≡ x
-          → Follows bytes t k
-          (cond x (made t (Stop 7)) (cond (find_name bytes t i (word_at bytes start len) (take len (drop start bytes))) (made t (Stop 8)) (made u (Next k'))))
+          → Follows (TableIs bytes) t
+          (cond x (made t (Err TooMany)) (cond (find_name bytes t i (word_at bytes start len) (take len (drop start bytes))) (made t (Err Unknown)) (made u (Ok k'))))
           (cond (not (ltb i 256)) (stop 7)
           (cond (find_name bytes t i (word_at bytes start len) (take len (drop start bytes))) (stop 8)
           (next (record {

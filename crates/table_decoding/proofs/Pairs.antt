@@ -24,7 +24,7 @@ use Rattle.table_builder.specs.declared.node_info.Counts.{Counts}
 use Rattle.table_builder.specs.declared.node_info.NodeRecord.{NodeRecord}
 use Rattle.table_builder.specs.Nodes.{node_record, node_written, add_node, both_goals, sum_members, supposed_goal, ruled_members, united_mask}
 use Rattle.table_builder.specs.Nodes.{and_info, or_info, implies_info}
-use Rattle.table_decoding.specs.Decoding.{node_read, table_of, Decodes, Follows}
+use Rattle.table_decoding.specs.Decoding.{node_read, table_of, Decodes, TableIs, Follows}
 use Rattle.table_decoding.proofs.Bits.{bit_or_lem}
 use Rattle.table_decoding.proofs.Writing.{NodeIs, written}
 use Rattle.table_decoding.proofs.Adding.{node_agree, NewNode, nodes_of_stands, same, added}
@@ -145,7 +145,7 @@ module _ (bytes t : List ℕ) (k : Counts) (st : Decodes bytes t k) (h : k.nodes
             (m ∙ sum ∙ sym (ap₂ ◌+◌ (child_members and_record a 0 la and_is.first) (child_members and_record b 1 lb and_is.second)));
       }
 
-  pub and_added : Follows bytes t k (add_node t k and_record) (sheetAddNode (table_of bytes t k) (some
+  pub and_added : Follows (TableIs bytes) t (add_node t k and_record) (sheetAddNode (table_of bytes t k) (some
       (record {
         term = none;
         goal = map2 and (node_read t a).goal (node_read t b).goal;
@@ -201,7 +201,7 @@ module _ (bytes t : List ℕ) (k : Counts) (st : Decodes bytes t k) (h : k.nodes
         clause = λ i. let m = or_is.members in absurd (omega arith);
       }
 
-  pub or_added : Follows bytes t k (add_node t k or_record) (sheetAddNode (table_of bytes t k) (some
+  pub or_added : Follows (TableIs bytes) t (add_node t k or_record) (sheetAddNode (table_of bytes t k) (some
       (record { term = none; goal = map2 or (node_read t a).goal (node_read t b).goal; clause = none })))
   or_added = added bytes t k st h or_record _ or_read or_new
 
@@ -348,7 +348,7 @@ module _ (bytes t : List ℕ) (k : Counts) (st : Decodes bytes t k) (h : k.nodes
             (implies_rule p.0 p.1 p.2 o ((st.goal b lb p.2).atom p.0));
       }
 
-  pub implies_added : Follows bytes t k (add_node t k implies_record) (sheetAddNode (table_of bytes t k) (some
+  pub implies_added : Follows (TableIs bytes) t (add_node t k implies_record) (sheetAddNode (table_of bytes t k) (some
       (record {
         term = none;
         goal = map2 implies (node_read t a).clause (node_read t b).goal;

@@ -25,7 +25,7 @@ use Rattle.table_builder.specs.declared.node_info.Counts.{Counts}
 use Rattle.table_builder.specs.declared.node_info.NodeRecord.{NodeRecord}
 use Rattle.table_builder.specs.Nodes.{node_record, node_written, add_node, only_bit, without_bit, exists_info, forall_info}
 use Rattle.table_builder.proofs.node_info.Laws.{only_below}
-use Rattle.table_decoding.specs.Decoding.{node_read, table_of, Decodes, Follows}
+use Rattle.table_decoding.specs.Decoding.{node_read, table_of, Decodes, TableIs, Follows}
 use Rattle.table_decoding.proofs.Bits.{bit_none, bit_only, bit_without, without_le}
 use Rattle.table_decoding.proofs.Writing.{NodeIs, written}
 use Rattle.table_decoding.proofs.Adding.{node_agree, NewNode, same, added}
@@ -71,7 +71,7 @@ module _ (bytes t : List ℕ) (k : Counts) (st : Decodes bytes t k) (h : k.nodes
         clause = λ i. let m = true_is.members in absurd (omega arith);
       }
 
-  pub true_added : Follows bytes t k (add_node t k true_record)
+  pub true_added : Follows (TableIs bytes) t (add_node t k true_record)
       (sheetAddNode (table_of bytes t k) (some (record { term = none; goal = some truth; clause = none })))
   true_added = added bytes t k st h true_record _ true_read true_new
 
@@ -126,7 +126,7 @@ module _ (bytes t : List ℕ) (k : Counts) (st : Decodes bytes t k) (h : k.nodes
           clause = λ i. let c = numeral_is.members in absurd (omega arith);
         }
 
-    pub numeral_added : Follows bytes t k (add_node t k numeral_record)
+    pub numeral_added : Follows (TableIs bytes) t (add_node t k numeral_record)
         (sheetAddNode (table_of bytes t k) (some (term_node (some (number_term m)))))
     numeral_added = added bytes t k st h numeral_record _ numeral_read numeral_new
 
@@ -166,7 +166,7 @@ module _ (bytes t : List ℕ) (k : Counts) (st : Decodes bytes t k) (h : k.nodes
           clause = λ i. let m = variable_is.members in absurd (omega arith);
         }
 
-    pub variable_added : Follows bytes t k (add_node t k variable_record) (sheetAddNode (table_of bytes t k) (some (term_node (some (leaf v)))))
+    pub variable_added : Follows (TableIs bytes) t (add_node t k variable_record) (sheetAddNode (table_of bytes t k) (some (term_node (some (leaf v)))))
     variable_added = added bytes t k st h variable_record _ variable_read variable_new
 
     module _ (a : ℕ) (la : a < k.nodes) where
@@ -222,7 +222,7 @@ module _ (bytes t : List ℕ) (k : Counts) (st : Decodes bytes t k) (h : k.nodes
             clause = λ i. let m = exists_is.members in absurd (omega arith);
           }
 
-      pub exists_added : Follows bytes t k (add_node t k exists_record) (sheetAddNode (table_of bytes t k) (some
+      pub exists_added : Follows (TableIs bytes) t (add_node t k exists_record) (sheetAddNode (table_of bytes t k) (some
           (record { term = none; goal = map (exists v) (node_read t a).goal; clause = none })))
       exists_added = added bytes t k st h exists_record _ exists_read exists_new
 
@@ -303,6 +303,6 @@ module _ (bytes t : List ℕ) (k : Counts) (st : Decodes bytes t k) (h : k.nodes
                 (rw (forall_is.label, forall_is.first) forall_chain);
           }
 
-      pub forall_added : Follows bytes t k (add_node t k forall_record) (sheetAddNode (table_of bytes t k) (some
+      pub forall_added : Follows (TableIs bytes) t (add_node t k forall_record) (sheetAddNode (table_of bytes t k) (some
           (record { term = none; goal = map (forall v) (node_read t a).goal; clause = map (each v) (node_read t a).clause })))
       forall_added = added bytes t k st h forall_record _ forall_read forall_new

@@ -1,7 +1,9 @@
 -- The table that is being made, read back as the reader's state of document 01's definitions; and when a line's answer agrees with
 -- theirs.
-use Rattle.std.specs.Prelude.{ℕ, zero, suc, ◌≤◌, ◌<◌, ◌≡◌, cond, List, [], ◌∷◌, leb, eqb, length, drop}
+use Rattle.std.specs.Prelude.{ℕ, zero, suc, ◌≤◌, ◌<◌, ◌≡◌, cond, List, [], ◌∷◌, leb, eqb, length, drop, Result, Ok, Err}
 use Rattle.std.proofs.Math.Option.{none, some}
+use Rattle.outcomes.specs.declared.refusals.Reason.{Reason}
+use Rattle.outcomes.specs.Refusals.{number_of}
 use Rattle.sheet_format.specs.Nodes.{Node}
 use Rattle.sheet_format.specs.Sheets.{Table, next, stop, last}
 use Rattle.sheet_format.specs.Sheets.{Taken as SheetTaken}
@@ -12,8 +14,6 @@ use Rattle.node_table.specs.Fingerprints.{NamesStand}
 use Rattle.node_table.specs.Decoding.{term_at, goal_at, clause_at_node, declarations_from, clauses_from}
 use Rattle.node_table.specs.WellMade.{IsTerm, IsGoal, IsClause, Labelled, TermNode, GoalNode, ClauseNode}
 use Rattle.table_builder.specs.declared.node_info.Counts.{Counts}
-use Rattle.table_builder.specs.declared.node_info.Taken.{Taken}
-use Rattle.table_builder.specs.declared.node_info.Taken.TheVariants.{Next, Stop, Last}
 use Rattle.table_builder.specs.Nodes.{Made}
 
 -- A node as a term, as a goal and as a clause, where it is one.
@@ -48,15 +48,21 @@ pub record Decodes (bytes t : List ℕ) (k : Counts) : Type 0 where
   pub clause : (n : ℕ) → n < k.nodes → IsClause t n → ClauseNode t n
   pub clauses : (i : ℕ) → i < k.clauses → (clause_node t i < k.nodes) × IsClause t (clause_node t i)
 
--- The answer to a line, with the table after it, is the one of the definitions.
-unfoldable pub Agrees : List ℕ → List ℕ → Counts → Taken → SheetTaken → Type 0
-Agrees bytes t k (Next j) s = (s ≡ next (table_of bytes t j)) × Decodes bytes t j
-Agrees bytes t k (Stop n) s = s ≡ stop n
-Agrees bytes t k (Last n) s = (s ≡ last (goal_at t n)) × (n < k.nodes) × IsGoal t n
+-- With so many symbols, nodes and clauses the table is what the definitions make of a line; the node is the goal that they find.
+abbrev pub TableIs : List ℕ → List ℕ → Counts → SheetTaken → Type 0
+TableIs bytes t j s = (s ≡ next (table_of bytes t j)) × Decodes bytes t j
+
+abbrev pub GoalIs : Counts → List ℕ → ℕ → SheetTaken → Type 0
+GoalIs k t n s = (s ≡ last (goal_at t n)) × (n < k.nodes) × IsGoal t n
+
+-- The answer to a line is the one of the definitions: if it is taken, by P; otherwise they refuse it for the same reason.
+unfoldable pub Agrees : {A : Type 0} → (A → SheetTaken → Type 0) → Result A Reason → SheetTaken → Type 0
+Agrees P (Ok a) s = P a s
+Agrees P (Err reason) s = s ≡ stop (number_of reason)
 
 -- The same, and from 8,192 on the table is as it was. So is the number of the order in force (request W-207).
-pub record Follows (bytes t : List ℕ) (k : Counts) (m : Made) (s : SheetTaken) : Type 0 where
-  pub agrees : Agrees bytes m.table k m.answer s
+pub record Follows {A : Type 0} (P : List ℕ → A → SheetTaken → Type 0) (t : List ℕ) (m : Made A) (s : SheetTaken) : Type 0 where
+  pub agrees : Agrees (P m.table) m.answer s
   pub long : length m.table ≡ length t
   pub rest : drop table_numbers m.table ≡ drop table_numbers t
   pub order : order_number m.table ≡ order_number t

@@ -1,2 +1,2 @@
--- The numbers that a writing of terms works with, in one array.
+-- The state of a writing of terms.
 pub mod State

@@ -10,9 +10,8 @@ use machine_memory::words::{name_of, tag_of};
 pub fn deref(n: u32, w: &[u32], a: u32) -> u32
     ensures { result ≡ deref n w.now a }
 {
-    let mut bindings = n;
     let mut at = a;
-    while 0 < bindings {
+    for _turn in 0..n {
         if tag_of(at) != tags::VARIABLE {
             return at;
         }
@@ -21,7 +20,6 @@ pub fn deref(n: u32, w: &[u32], a: u32) -> u32
             return at;
         }
         at = b;
-        bindings -= 1;
     }
     at
 }

@@ -1,13 +1,13 @@
 // The state of the printer: bytes, names, variables and constants written with it. Each function is a definition of the crate
 // printing, and its contract says so; a function that leaves the work buffer alone says so for any memory.
-ghost use Rattle.std.specs.Prelude.{◌≡◌, List, ℕ, ◌-◌};
+ghost use Rattle.std.specs.Prelude.{◌≡◌, List, ℕ};
 ghost use Rattle.printing.specs.Numbering.{printer, write_variable, write_constant};
 ghost use Rattle.printing.specs.WriteTerms.{emit_to, write_name, write_functor, separator};
-ghost use Rattle.term_printer.specs.State.{state_of, cursor_in, bounds_in, with_limit};
 
 use super::numbering::with_position;
 use super::output::{copy_bytes, emit, write_number};
 use super::symbols::{write_constant, write_variable};
+use super::{Bounds, Source};
 use memory::widen;
 use node_table::{name_length, name_start};
 use printing::Cursor;
@@ -21,29 +21,29 @@ pub fn emit_to(limit: u32, out: &mut [u8], p: Cursor, b: u8) -> Cursor
 }
 
 // The name of symbol f, from the sheet.
-fn write_name(sheet: &[u8], t: &[u32], limit: u32, out: &mut [u8], p: Cursor, f: u32) -> Cursor
-    ensures { (m : List ℕ) → printer m out.new result ≡ write_name sheet.now t.now limit
+fn write_name(source: &Source<'_>, limit: u32, out: &mut [u8], p: Cursor, f: u32) -> Cursor
+    ensures { (m : List ℕ) → printer m out.new result ≡ write_name source.now.sheet.now source.now.table.now limit
         (printer m out.old p) f }
 {
-    let start = widen(name_start(t, f));
-    let to = copy_bytes(name_length(t, f), sheet, start, out, limit, p.at);
+    let start = widen(name_start(source.table, f));
+    let to = copy_bytes(
+        name_length(source.table, f),
+        source.sheet,
+        start,
+        out,
+        limit,
+        p.at,
+    );
     with_position(p, to)
 }
 
 // What stands before the arguments, by its label: the name of a symbol, or a number in base ten (request W-204).
-pub fn write_functor(
-    sheet: &[u8],
-    t: &[u32],
-    limit: u32,
-    out: &mut [u8],
-    p: Cursor,
-    l: u32,
-) -> Cursor
-    ensures { (m : List ℕ) → printer m out.new result ≡ write_functor sheet.now t.now limit
+pub fn write_functor(source: &Source<'_>, limit: u32, out: &mut [u8], p: Cursor, l: u32) -> Cursor
+    ensures { (m : List ℕ) → printer m out.new result ≡ write_functor source.now.sheet.now source.now.table.now limit
         (printer m out.old p) l }
 {
     if l < MAX_SYMBOLS {
-        return write_name(sheet, t, limit, out, p, l);
+        return write_name(source, limit, out, p, l);
     }
     let to = write_number(out, limit, p.at, l - MAX_SYMBOLS);
     with_position(p, to)
@@ -59,94 +59,44 @@ pub fn separator(j: u32) -> u8
     b','
 }
 
-// The numbers of the state below (specs/State.antt).
-pub const AT: usize = 0;
-
-pub const VARIABLES: usize = 1;
-
-pub const CONSTANTS: usize = 2;
-
-pub const TURNS: usize = 3;
-
-pub const LIMIT: usize = 4;
-
-pub const NUMBERS: usize = 5;
-
-// The state of a writing is the cursor, the turns and the limit. All levels of a term share one by reference, so that a level takes
-// little stack: 192 bytes at -O3. It is an array since the prover has no rules for a reference to a struct.
-pub fn cursor_in(s: &[u32; NUMBERS]) -> Cursor
-    ensures { result ≡ cursor_in s.now }
-{
-    Cursor {
-        at: s[AT],
-        variables: s[VARIABLES],
-        constants: s[CONSTANTS],
-    }
-}
-
-fn put_cursor(s: &mut [u32; NUMBERS], p: Cursor)
-    ensures { s.new ≡ state_of p (bounds_in s.old) }
-{
-    let turns = s[TURNS];
-    let limit = s[LIMIT];
-    *s = [p.at, p.variables, p.constants, turns, limit];
-}
-
-// Changes the limit.
-pub fn put_limit(s: &mut [u32; NUMBERS], limit: u32)
-    ensures { (cursor_in s.new ≡ cursor_in s.old)
-        × (bounds_in s.new ≡ with_limit (bounds_in s.old) limit) }
-{
-    let at = s[AT];
-    let variables = s[VARIABLES];
-    let constants = s[CONSTANTS];
-    let turns = s[TURNS];
-    *s = [at, variables, constants, turns, limit];
-}
-
-// The limit for what stands before one byte more.
-pub fn lower(limit: u32) -> u32
-    ensures { result ≡ limit - 1 }
-{
-    if limit == 0 {
-        return 0;
-    }
-    limit - 1
+// The state of a writing. All levels of a term share one by reference, so that a level takes little stack: at most 192 bytes at -O3.
+#[derive(Clone, Copy)]
+pub struct State {
+    pub cursor: Cursor,
+    pub bounds: Bounds,
 }
 
 // The functions above, and those of the module symbols that show a symbol, on the cursor in the state.
-pub fn emit_in(out: &mut [u8], s: &mut [u32; NUMBERS], b: u8)
-    ensures { ((m : List ℕ) → printer m out.new (cursor_in s.new) ≡ emit_to (bounds_in s.old).limit
-        (printer m out.old (cursor_in s.old)) b) × (bounds_in s.new ≡ bounds_in s.old) }
-{
-    let q = emit_to(s[LIMIT], out, cursor_in(s), b);
-    put_cursor(s, q);
-}
+impl State {
+    pub fn emit(&mut self, out: &mut [u8], b: u8)
+        ensures { ((m : List ℕ) → printer m out.new self.new.cursor ≡ emit_to self.old.bounds.limit
+            (printer m out.old self.old.cursor) b) × (self.new.bounds ≡ self.old.bounds) }
+    {
+        self.cursor = emit_to(self.bounds.limit, out, self.cursor, b);
+    }
 
-pub fn write_functor_in(sheet: &[u8], t: &[u32], out: &mut [u8], s: &mut [u32; NUMBERS], l: u32)
-    ensures { ((m : List ℕ) → printer m out.new (cursor_in s.new) ≡ write_functor sheet.now t.now
-        (bounds_in s.old).limit (printer m out.old (cursor_in s.old)) l)
-        × (bounds_in s.new ≡ bounds_in s.old) }
-{
-    let q = write_functor(sheet, t, s[LIMIT], out, cursor_in(s), l);
-    put_cursor(s, q);
-}
+    pub fn write_functor(&mut self, source: &Source<'_>, out: &mut [u8], l: u32)
+        ensures { ((m : List ℕ) → printer m out.new self.new.cursor ≡ write_functor source.now.sheet.now source.now.table.now
+            self.old.bounds.limit (printer m out.old self.old.cursor) l)
+            × (self.new.bounds ≡ self.old.bounds) }
+    {
+        self.cursor = write_functor(source, self.bounds.limit, out, self.cursor, l);
+    }
 
-pub fn write_variable_in(w: &mut [u32], out: &mut [u8], s: &mut [u32; NUMBERS], x: u32)
-    ensures { (printer w.new out.new (cursor_in s.new) ≡ write_variable (bounds_in s.old).limit
-        (printer w.old out.old (cursor_in s.old)) x)
-        × (bounds_in s.new ≡ bounds_in s.old) }
-{
-    let q = write_variable(s[LIMIT], w, out, cursor_in(s), x);
-    put_cursor(s, q);
-}
+    pub fn write_variable(&mut self, w: &mut [u32], out: &mut [u8], x: u32)
+        ensures { (printer w.new out.new self.new.cursor ≡ write_variable self.old.bounds.limit
+            (printer w.old out.old self.old.cursor) x)
+            × (self.new.bounds ≡ self.old.bounds) }
+    {
+        self.cursor = write_variable(self.bounds.limit, w, out, self.cursor, x);
+    }
 
-pub fn write_constant_in(w: &mut [u32], out: &mut [u8], s: &mut [u32; NUMBERS], x: u32)
-    ensures { (printer w.new out.new (cursor_in s.new) ≡ write_constant (bounds_in s.old).turns
-        (bounds_in s.old).limit
-        (printer w.old out.old (cursor_in s.old)) x)
-        × (bounds_in s.new ≡ bounds_in s.old) }
-{
-    let q = write_constant(s[TURNS], s[LIMIT], w, out, cursor_in(s), x);
-    put_cursor(s, q);
+    pub fn write_constant(&mut self, w: &mut [u32], out: &mut [u8], x: u32)
+        ensures { (printer w.new out.new self.new.cursor ≡ write_constant self.old.bounds.turns
+            self.old.bounds.limit (printer w.old out.old self.old.cursor) x)
+            × (self.new.bounds ≡ self.old.bounds) }
+    {
+        let turns = self.bounds.turns;
+        self.cursor = write_constant(turns, self.bounds.limit, w, out, self.cursor, x);
+    }
 }

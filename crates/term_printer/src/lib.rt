@@ -12,13 +12,9 @@ mod symbols;
 ghost use Rattle.std.specs.Prelude.{◌≡◌, ◌-◌, ◌≤◌};
 ghost use Rattle.printing.specs.Numbering.{printer};
 ghost use Rattle.printing.specs.WriteTerms.{separator, write_term, term_to};
-ghost use Rattle.term_printer.specs.State.{cursor_in, bounds_in};
 
 use bindings::deref;
-use cursor::{
-    AT, LIMIT, NUMBERS, TURNS, cursor_in, emit_in, lower, put_limit, separator, write_constant_in,
-    write_functor_in, write_variable_in,
-};
+use cursor::{State, separator};
 use machine::tags;
 use machine_memory::words::{frame_of, increment, name_of, node_of, tag_of, word_of};
 use node_table::{child, child_count, label};
@@ -31,65 +27,69 @@ pub struct Bounds {
     pub limit: u32,
 }
 
+// What a text is written from: the bytes of the sheet, and its table.
+#[derive(Clone, Copy)]
+pub struct Source<'a> {
+    pub sheet: &'a [u8],
+    pub table: &'a [u32],
+}
+
 // The term of word a: its name, and its arguments in brackets by calls of itself. It ends since the remaining answer bytes plus the
 // rank fall. The limit of the arguments is lower by the bracket that closes them, so that no more brackets are opened than could be
-// closed; the rank, which is one above the limit, tells it again after them. The sheet and the table are lent as references to
-// slices: a slice itself is a pair, which each level would copy.
+// closed; the rank, which is one above the limit, tells it again after them. The source is lent by reference, so that no
+// level copies its slices.
 pub fn write_term(
     rank: u32,
-    sheet: &&[u8],
-    t: &&[u32],
+    source: &Source<'_>,
     w: &mut [u32],
     out: &mut [u8],
-    s: &mut [u32; NUMBERS],
+    s: &mut State,
     a: u32,
 )
-    requires { ((bounds_in s.old).limit ≤ 65535) × ((bounds_in s.old).limit ≡ rank - 1) }
-    ensures { (printer w.new out.new (cursor_in s.new) ≡ write_term rank sheet.now.now
-        t.now.now (bounds_in s.old).turns (bounds_in s.old).limit
-        (printer w.old out.old (cursor_in s.old)) a)
-        × (bounds_in s.new ≡ bounds_in s.old) }
+    requires { (s.old.bounds.limit ≤ 65535) × (s.old.bounds.limit ≡ rank - 1) }
+    ensures { (printer w.new out.new s.new.cursor ≡ write_term rank source.now.sheet.now
+        source.now.table.now s.old.bounds.turns s.old.bounds.limit
+        (printer w.old out.old s.old.cursor) a)
+        × (s.new.bounds ≡ s.old.bounds) }
 {
     if rank == 0 {
         return;
     }
-    if s[LIMIT] < s[AT] {
+    if s.bounds.limit < s.cursor.at {
         return;
     }
-    let b = deref(s[TURNS], w, a);
+    let b = deref(s.bounds.turns, w, a);
     let tag = tag_of(b);
     if tag == tags::VARIABLE {
-        write_variable_in(w, out, s, name_of(b));
+        s.write_variable(w, out, name_of(b));
         return;
     }
     if tag == tags::CONSTANT {
-        write_constant_in(w, out, s, name_of(b));
+        s.write_constant(w, out, name_of(b));
         return;
     }
+    let t = source.table;
     let n = node_of(b);
-    write_functor_in(*sheet, *t, out, s, label(*t, n));
-    let c = child_count(*t, n);
+    s.write_functor(source, out, label(t, n));
+    let c = child_count(t, n);
     if c == 0 {
         return;
     }
     let f = frame_of(b);
     let limit = rank - 1;
-    put_limit(s, lower(limit));
-    let mut j: u32 = 0;
-    while j < c {
-        emit_in(out, s, separator(j));
-        let x = word_of(*t, w, child(*t, n, j), f);
-        write_term(limit, sheet, t, w, out, s, x);
-        j += 1;
+    s.bounds.limit = limit.saturating_sub(1);
+    for j in 0..c {
+        s.emit(out, separator(j));
+        let x = word_of(t, w, child(t, n, j), f);
+        write_term(limit, source, w, out, s, x);
     }
-    put_limit(s, limit);
-    emit_in(out, s, b')');
+    s.bounds.limit = limit;
+    s.emit(out, b')');
 }
 
 // The same, at a rank that suffices.
 pub fn term_to(
-    sheet: &[u8],
-    t: &[u32],
+    source: &Source<'_>,
     bounds: Bounds,
     w: &mut [u32],
     out: &mut [u8],
@@ -97,10 +97,10 @@ pub fn term_to(
     a: u32,
 ) -> Cursor
     requires { bounds.limit ≤ 65535 }
-    ensures { printer w.new out.new result ≡ term_to sheet.now t.now bounds.turns
+    ensures { printer w.new out.new result ≡ term_to source.now.sheet.now source.now.table.now bounds.turns
         bounds.limit (printer w.old out.old p) a }
 {
-    let mut s = [p.at, p.variables, p.constants, bounds.turns, bounds.limit];
-    write_term(increment(bounds.limit), &sheet, &t, w, out, &mut s, a);
-    cursor_in(&s)
+    let mut s = State { cursor: p, bounds };
+    write_term(increment(bounds.limit), source, w, out, &mut s, a);
+    s.cursor
 }

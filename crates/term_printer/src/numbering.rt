@@ -1,5 +1,6 @@
 // The numbers of constants and variables at their first showing, kept in the lent work buffer.
-// Each function is a definition of the crate printing, and its contract says so.
+// They are numbers, 0 for none, since they stand in lent memory. Each function is a definition of the crate printing, and its contract
+// says so.
 ghost use Rattle.std.specs.Prelude.{◌≡◌, ◌+◌, ◌<◌};
 ghost use Rattle.printing.specs.Numbering.{with_position, with_variables, with_constants, numbered_memory, number_variable};
 ghost use Rattle.printing.specs.Numbering.{clear_constants, constant_mark, clear_at_first, number_constant};
@@ -13,25 +14,19 @@ use printing::Cursor;
 pub fn with_position(p: Cursor, a: u32) -> Cursor
     ensures { result ≡ with_position p a }
 {
-    let mut q = p;
-    q.at = a;
-    q
+    Cursor { at: a, ..p }
 }
 
 pub fn with_variables(p: Cursor, n: u32) -> Cursor
     ensures { result ≡ with_variables p n }
 {
-    let mut q = p;
-    q.variables = n;
-    q
+    Cursor { variables: n, ..p }
 }
 
 pub fn with_constants(p: Cursor, n: u32) -> Cursor
     ensures { result ≡ with_constants p n }
 {
-    let mut q = p;
-    q.constants = n;
-    q
+    Cursor { constants: n, ..p }
 }
 
 // The next number for variable x, if it has none yet: number + 1 as a word of tag 0 in its own binding.
@@ -50,10 +45,8 @@ pub fn number_variable(w: &mut [u32], p: Cursor, x: u32) -> Cursor
 fn clear_constants(n: u32, w: &mut [u32])
     ensures { w.new ≡ clear_constants n w.old }
 {
-    let mut left = n;
-    while 0 < left {
-        left -= 1;
-        put_field(w, left, printing::fields::CONSTANT_NUMBER, 0);
+    for c in (0..n).rev() {
+        put_field(w, c, printing::fields::CONSTANT_NUMBER, 0);
     }
 }
 

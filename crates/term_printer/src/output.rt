@@ -1,18 +1,10 @@
 // Bytes into the lent answer buffer: a byte, bytes, numbers, the name of a made constant or a leftover variable.
 // Each function is a definition of the crate printing, and its contract says so.
-ghost use Rattle.std.specs.Prelude.{◌≡◌, ◌+◌, ◌<◌, set};
+ghost use Rattle.std.specs.Prelude.{◌≡◌, ◌+◌, ◌<◌};
 ghost use Rattle.printing.specs.Output.{written, emit, write_bytes, copy_bytes, write_digits, write_number, write_symbol};
 
 use machine_memory::words::increment;
-use memory::widen;
-
-fn put_byte(out: &mut [u8], i: usize, b: u8)
-    ensures { out.new ≡ set out.old i b }
-{
-    if i < out.len() {
-        out[i] = b;
-    }
-}
+use memory::{put_item, widen};
 
 // One byte, unless the position has passed the limit.
 pub fn emit(out: &mut [u8], limit: u32, at: u32, b: u8) -> u32
@@ -21,18 +13,16 @@ pub fn emit(out: &mut [u8], limit: u32, at: u32, b: u8) -> u32
     if limit < at {
         return at;
     }
-    put_byte(out, widen(at), b);
+    put_item(out, widen(at), b);
     increment(at)
 }
 
 pub fn write_bytes(bs: &[u8], out: &mut [u8], limit: u32, at: u32) -> u32
     ensures { written out.new result ≡ write_bytes bs.now out.old limit at }
 {
-    let mut i: usize = 0;
     let mut to = at;
-    while i < bs.len() {
-        to = emit(out, limit, to, bs[i]);
-        i += 1;
+    for &b in bs {
+        to = emit(out, limit, to, b);
     }
     to
 }
@@ -41,18 +31,9 @@ pub fn write_bytes(bs: &[u8], out: &mut [u8], limit: u32, at: u32) -> u32
 pub fn copy_bytes(n: u32, sheet: &[u8], i: usize, out: &mut [u8], limit: u32, at: u32) -> u32
     ensures { written out.new result ≡ copy_bytes n sheet.now i out.old limit at }
 {
-    let mut left = n;
-    let mut from = i;
-    let mut to = at;
-    while 0 < left {
-        if sheet.len() <= from {
-            return to;
-        }
-        to = emit(out, limit, to, sheet[from]);
-        from += 1;
-        left -= 1;
-    }
-    to
+    let rest = &sheet[i.min(sheet.len())..];
+    let bs = &rest[..widen(n).min(rest.len())];
+    write_bytes(bs, out, limit, at)
 }
 
 fn digit(n: u32) -> u8
@@ -62,7 +43,7 @@ fn digit(n: u32) -> u8
     b'0' + n as u8
 }
 
-// A number in base ten, of at most f digits.
+// A number in base ten, of at most f digits. It is not line_writer's `put_digits`, which requires room: past the limit it writes nothing.
 pub fn write_digits(f: usize, out: &mut [u8], limit: u32, at: u32, n: u32) -> u32
     ensures { written out.new result ≡ write_digits f out.old limit at n }
 {

@@ -12,7 +12,7 @@ use memory::{field, put_field, widen};
 
 const LINE_CODES: usize = printing::LINE_CODES as usize;
 
-// A pointer to the record of a line, and which line it is.
+// A pointer to the record of a line, and which line it is. A link is a number, 0 for none, since it stands in lent memory.
 pub fn link_word(p: u32, k: u32) -> u32
     ensures { result ≡ link_word p k }
 {
@@ -23,11 +23,10 @@ pub fn link_word(p: u32, k: u32) -> u32
 pub fn link_path(n: u32, w: &mut [u32], p: u32, k: u32, e: u32) -> u32
     ensures { linked w.new result ≡ link_path n w.old p k e }
 {
-    let mut left = n;
     let mut pointer = p;
     let mut line = k;
     let mut link = e;
-    while 0 < left {
+    for _turn in 0..n {
         if pointer == 0 {
             return link;
         }
@@ -38,7 +37,6 @@ pub fn link_path(n: u32, w: &mut [u32], p: u32, k: u32, e: u32) -> u32
         link = link_word(pointer, line);
         pointer = before;
         line = which;
-        left -= 1;
     }
     link
 }
@@ -57,9 +55,7 @@ fn clear_variable(w: &mut [u32], x: u32)
 pub fn clear_variables(n: u32, w: &mut [u32])
     ensures { w.new ≡ clear_variables n w.old }
 {
-    let mut left = n;
-    while 0 < left {
-        left -= 1;
-        clear_variable(w, left);
+    for x in (0..n).rev() {
+        clear_variable(w, x);
     }
 }

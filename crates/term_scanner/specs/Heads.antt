@@ -3,26 +3,26 @@ use Rattle.std.specs.Prelude.{ℕ, ◌+◌, true, false, cond, List, eqb, ltb, g
 use Prim.Native.Char.{code}
 use Rattle.sheet_format.specs.Bytes.{is_digit}
 use Rattle.node_table.specs.Layout.{is_function_bit, arity_of}
-use Rattle.scanning.specs.declared.Scan.{Scan}
-use Rattle.scanning.specs.declared.Scan.TheVariants.{Term, Malformed}
+use Rattle.scanning.specs.Scanning.{Scan}
+use Rattle.std.specs.Prelude.{Option, Some, None}
 use Rattle.scanning.specs.Scanning.{name_end, symbol_named, scan_symbol, scan_numeral}
 use Rattle.term_scanner.specs.declared.Head.{Head}
-use Rattle.term_scanner.specs.declared.Head.TheVariants.{Leaf, Open, Absent}
+use Rattle.term_scanner.specs.declared.Head.TheVariants.{Leaf, Open}
 
 -- A made constant, a leftover variable or a number has no arguments.
-unfoldable pub leaf_of : Scan → Head
-leaf_of s = elim s [ Term e k ↦ Leaf e k | Malformed ↦ Absent ]
+unfoldable pub leaf_of : Scan → Option Head
+leaf_of s = elim s [ Some (e, k) ↦ Some (Leaf e k) | None ↦ None ]
 
 -- A name that ends at i, of a symbol with n arguments.
-unfoldable pub open_at : ℕ → List ℕ → ℕ → Head
-open_at n x i = cond (eqb n 0) (Leaf i 0) (cond (eqb (get_or x i 0) (code "(")) (Open (i + 1) n) Absent)
+unfoldable pub open_at : ℕ → List ℕ → ℕ → Option Head
+open_at n x i = cond (eqb n 0) (Some (Leaf i 0)) (cond (eqb (get_or x i 0) (code "(")) (Some (Open (i + 1) n)) None)
 
 -- A name that ends at i, of symbol k of so many symbols.
-unfoldable pub head_of : List ℕ → ℕ → ℕ → List ℕ → ℕ → Head
-head_of t symbols k x i = cond (cond (ltb k symbols) (eqb (is_function_bit t k) 1) false) (open_at (arity_of t k) x i) Absent
+unfoldable pub head_of : List ℕ → ℕ → ℕ → List ℕ → ℕ → Option Head
+head_of t symbols k x i = cond (cond (ltb k symbols) (eqb (is_function_bit t k) 1) false) (open_at (arity_of t k) x i) None
 
 -- What begins at i.
-unfoldable pub head_at : List ℕ → List ℕ → ℕ → List ℕ → ℕ → Head
+unfoldable pub head_at : List ℕ → List ℕ → ℕ → List ℕ → ℕ → Option Head
 head_at b t symbols x i =
     cond (cond (eqb (get_or x i 0) (code "!")) true (eqb (get_or x i 0) (code "_"))) (leaf_of (scan_symbol x (i + 1)))
     (cond (is_digit (get_or x i 0)) (leaf_of (scan_numeral x i))

@@ -11,11 +11,9 @@ fn block_has(text: &[u8], c: u8, d: u8, i: usize) -> bool
     ensures { result ≡ has_either 16 text.now c d i }
 {
     let mut has = false;
-    let mut k: usize = 0;
-    while k < BLOCK {
+    for k in 0..BLOCK {
         let b = text[i + k];
         has = has | ((b == c) | (b == d));
-        k += 1;
     }
     has
 }
@@ -25,11 +23,9 @@ pub fn skip_blocks(text: &[u8], c: u8, d: u8, i: usize, e: usize) -> usize
     requires { e ≤ length text.now }
     ensures { Passes text.now c d i e result }
 {
+    let blocks = e.saturating_sub(i) / BLOCK;
     let mut at = i;
-    while at < e {
-        if e - at < BLOCK {
-            return at;
-        }
+    for _block in 0..blocks {
         if block_has(text, c, d, at) {
             return at;
         }

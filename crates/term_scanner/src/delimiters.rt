@@ -10,7 +10,7 @@ pub const COMMA: u64 = 1;
 pub const WORD_BITS: u32 = 64;
 
 // The nearest delimiter is the lowest bit of `top`, which has `count` bits. When it has 64 it goes to the lent words, of which so
-// many are in use.
+// many are in use: the words are lent from the stack, since nothing is on the heap.
 #[derive(Clone, Copy)]
 pub struct DelimiterStack {
     pub top: u64,
@@ -54,21 +54,12 @@ pub fn push_arguments(lent: &mut [u64], s: DelimiterStack, n: u32) -> DelimiterS
     ensures { Fits lent.new result × (delimiters lent.new result ≡ pushed n 0 (delimiters lent.old s)) }
 {
     let mut r = s;
-    let mut left = n;
     let mut bit = BRACKET;
-    while 0 < left {
+    for _argument in 0..n {
         r = push(lent, r, bit);
         bit = COMMA;
-        left -= 1;
     }
     r
-}
-
-// A word. The bound is for callers: a number that is read has no range of its own.
-fn word(v: u64) -> u64
-    ensures { (result ≡ v) × (result < 18446744073709551616) }
-{
-    v
 }
 
 // The same delimiters where none is on top: the next word comes there.
@@ -79,7 +70,7 @@ pub fn next_word(lent: &[u64], s: DelimiterStack) -> DelimiterStack
 {
     let words = s.words - 1;
     DelimiterStack {
-        top: word(lent[words]),
+        top: lent[words],
         count: WORD_BITS,
         words,
     }

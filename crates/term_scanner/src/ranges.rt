@@ -1,21 +1,11 @@
 // Ranges of bytes of an answer text: whether two hold the same, and where a line ends.
-ghost use Rattle.std.specs.Prelude.{◌≡◌, true, false, cond, ◌+◌, ◌-◌, ◌<◌, ◌≤◌, ltb, length};
+ghost use Rattle.std.specs.Prelude.{◌≡◌, ℕ, Bool, true, false, cond, eqb, map, ◌+◌, ◌-◌, ◌<◌, ◌≤◌, ltb, length};
 ghost use Rattle.scanning.specs.Ranges.{same_range, find_byte, text_line_end};
 
 use super::blocks::skip_blocks;
 use memory::byte;
 
-// What is left of a after b; 0 where nothing is.
-pub fn monus(a: usize, b: usize) -> usize
-    ensures { result ≡ a - b }
-{
-    if a < b {
-        return 0;
-    }
-    a - b
-}
-
-// The position after i. Past the end all positions read as 0, so there it may stay.
+// The position after i. Past the end all positions read as 0, so there it may stay; no method of std adds one up to a length that way.
 pub fn position_after(a: &[u8], i: usize) -> usize
     ensures { result ≡ cond (ltb i (length a.now)) (i + 1) i }
 {
@@ -25,35 +15,41 @@ pub fn position_after(a: &[u8], i: usize) -> usize
     i
 }
 
-// Whether the n bytes of a from i on and of b from j on are the same, where some may lie past the end.
-fn same_total(n: usize, a: &[u8], i: usize, b: &[u8], j: usize) -> bool
-    ensures { result ≡ same_range n a.now i b.now j }
+// Whether the n bytes of a from i on and of b from j on are the same by a comparison of bytes, where some may lie past the end. What the
+// comparison tells of two bytes is whether they are equal after a function f, as it is or folded.
+pub fn same_by<F: Fn(u8, u8) -> bool>(
+    n: usize,
+    a: &[u8],
+    i: usize,
+    b: &[u8],
+    j: usize,
+    same: F,
+) -> bool
+    requires { F.IsAlwaysCallable same }
+    ensures { (f : ℕ → ℕ) → f 0 ≡ 0 → ((x y : ℕ) (z : Bool) → F.post same x y z → z ≡ eqb (f x) (f y))
+        → result ≡ same_range n (map f a.now) i (map f b.now) j }
 {
-    let mut left = n;
     let mut p = i;
     let mut q = j;
-    while 0 < left {
-        if byte(a, p) == byte(b, q) {
-            p = position_after(a, p);
-            q = position_after(b, q);
-            left -= 1;
-        } else {
+    for _byte in 0..n {
+        if !same(byte(a, p), byte(b, q)) {
             return false;
         }
+        p = position_after(a, p);
+        q = position_after(b, q);
     }
     true
 }
 
-// The same where none does: all bytes are compared, so that the compiler can compare many at once.
+// Whether the n bytes of a from i on and of b from j on are the same, where none lies past the end. All bytes are compared, so that the
+// compiler can compare many at once.
 fn same_inside(n: usize, a: &[u8], i: usize, b: &[u8], j: usize) -> bool
     requires { (n ≤ length a.now - i) × (n ≤ length b.now - j) }
     ensures { result ≡ same_range n a.now i b.now j }
 {
     let mut same = true;
-    let mut k: usize = 0;
-    while k < n {
+    for k in 0..n {
         same = same & (a[i + k] == b[j + k]);
-        k += 1;
     }
     same
 }
@@ -62,11 +58,8 @@ fn same_inside(n: usize, a: &[u8], i: usize, b: &[u8], j: usize) -> bool
 pub fn same_range(n: usize, a: &[u8], i: usize, b: &[u8], j: usize) -> bool
     ensures { result ≡ same_range n a.now i b.now j }
 {
-    if monus(a.len(), i) < n {
-        return same_total(n, a, i, b, j);
-    }
-    if monus(b.len(), j) < n {
-        return same_total(n, a, i, b, j);
+    if a.len().saturating_sub(i) < n || b.len().saturating_sub(j) < n {
+        return same_by(n, a, i, b, j, |c, d| c == d);
     }
     same_inside(n, a, i, b, j)
 }
@@ -75,14 +68,13 @@ pub fn same_range(n: usize, a: &[u8], i: usize, b: &[u8], j: usize) -> bool
 pub fn find_byte(text: &[u8], c: u8, i: usize) -> usize
     ensures { result ≡ find_byte (length text.now - i) text.now c i }
 {
-    let mut at = skip_blocks(text, c, c, i, text.len());
-    while at < text.len() {
+    let from = skip_blocks(text, c, c, i, text.len());
+    for at in from..text.len() {
         if text[at] == c {
             return at;
         }
-        at += 1;
     }
-    at
+    from.max(text.len())
 }
 
 // Where the line from i on ends: at its LF, or at the end of the text.

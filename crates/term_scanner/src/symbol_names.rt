@@ -4,7 +4,7 @@ ghost use Rattle.scanning.specs.Ranges.{same_folded};
 ghost use Rattle.scanning.specs.Scanning.{name_size, is_named, symbol_named};
 
 use super::folded_ranges::same_folded;
-use super::ranges::{monus, same_range};
+use super::ranges::same_range;
 use memory::{byte, widen};
 use node_table::fingerprints::word_at;
 use node_table::{name_length, name_start, name_word};
@@ -14,12 +14,7 @@ use sheet_format::letters::same_letter;
 pub fn name_size(sheet: &[u8], t: &[u32], k: u32) -> usize
     ensures { (result ≡ name_size sheet.now t.now k) × (result < 4294967296) }
 {
-    let n = widen(name_length(t, k));
-    let room = monus(sheet.len(), widen(name_start(t, k)));
-    if n < room {
-        return n;
-    }
-    room
+    widen(name_length(t, k)).min(sheet.len().saturating_sub(widen(name_start(t, k))))
 }
 
 // Whether the name of n bytes from s on stands in the text from i to e. Many names are one letter, so the last one is compared first; and
@@ -51,7 +46,7 @@ fn is_named(sheet: &[u8], t: &[u32], k: u32, word: u32, text: &[u8], i: usize, e
         return false;
     }
     let n = name_size(sheet, t, k);
-    if monus(e, i) == n {
+    if e.saturating_sub(i) == n {
         return is_spelled(n, sheet, widen(name_start(t, k)), text, i, e);
     }
     false
@@ -62,12 +57,10 @@ pub fn symbol_named(symbols: u32, sheet: &[u8], t: &[u32], text: &[u8], i: usize
     ensures { result ≡ symbol_named symbols sheet.now t.now text.now i e }
 {
     let word = word_at(text, i, e);
-    let mut k: u32 = 0;
-    while k < symbols {
+    for k in 0..symbols {
         if is_named(sheet, t, k, word, text, i, e) {
             return k;
         }
-        k += 1;
     }
-    k
+    symbols
 }

@@ -6,59 +6,47 @@ ghost use Rattle.scanning.specs.Scanning.{name_end};
 
 use line_parser::names::is_name_byte;
 use memory::byte;
-use scanning::Number;
 use sheet_format::limits;
 
 // The byte is a digit, 0 to 9.
 pub fn is_digit(b: u8) -> bool
     ensures { result ≡ is_digit b }
 {
-    if b < b'0' {
-        return false;
-    }
-    if b'9' < b {
-        return false;
-    }
-    true
+    b.is_ascii_digit()
 }
 
 // A number, with the value v before position i.
-fn number_from(text: &[u8], i: usize, v: u32) -> Number
+fn number_from(text: &[u8], i: usize, v: u32) -> Option<(u32, usize)>
     requires { v ≤ 65535 }
     ensures { result ≡ number_from (length text.now - i) text.now i v }
 {
-    let mut at = i;
     let mut value = v;
-    while at < text.len() {
+    for at in i..text.len() {
         let b = text[at];
-        if b < b'0' {
-            return Number::Value(value, at);
+        if !is_digit(b) {
+            return Some((value, at));
         }
-        if b'9' < b {
-            return Number::Value(value, at);
-        }
-        let next = 10 * value + ((b - b'0') as u32);
+        let next = 10 * value + u32::from(b - b'0');
         if limits::MAX_NUMBER < next {
-            return Number::Missing;
+            return None;
         }
         value = next;
-        at += 1;
     }
-    Number::Value(value, at)
+    Some((value, i.max(text.len())))
 }
 
 // After a first digit 0 there is no digit.
-fn number_zero(text: &[u8], i: usize) -> Number
+fn number_zero(text: &[u8], i: usize) -> Option<(u32, usize)>
     ensures { result ≡ number_zero text.now i }
 {
     if is_digit(byte(text, i)) {
-        return Number::Missing;
+        return None;
     }
-    Number::Value(0, i)
+    Some((0, i))
 }
 
 // The number at position i.
-pub fn scan_number(text: &[u8], i: usize) -> Number
+pub fn scan_number(text: &[u8], i: usize) -> Option<(u32, usize)>
     ensures { result ≡ scan_number text.now i }
 {
     let b = byte(text, i);
@@ -66,22 +54,19 @@ pub fn scan_number(text: &[u8], i: usize) -> Number
         if b == b'0' {
             return number_zero(text, i + 1);
         }
-        return number_from(text, i + 1, (b - b'0') as u32);
+        return number_from(text, i + 1, u32::from(b - b'0'));
     }
-    Number::Missing
+    None
 }
 
 // Where the name at position i ends.
 pub fn name_end(text: &[u8], i: usize) -> usize
     ensures { result ≡ name_end text.now i }
 {
-    let mut at = i;
-    while at < text.len() {
-        if is_name_byte(text[at]) {
-            at += 1;
-        } else {
+    for at in i..text.len() {
+        if !is_name_byte(text[at]) {
             return at;
         }
     }
-    at
+    i.max(text.len())
 }

@@ -1,6 +1,6 @@
 -- One law for each way through a turn of a loop or through a call; the hypotheses are the facts on the code's path.
-use Prim.Native.Nat.{ℕ, zero, suc, ◌+◌, ◌-◌, ◌/◌, ◌%◌, ◌≤◌, ◌<◌}
-use native.Mathlib.Numerals.{add-one, sub-one}
+use Prim.Native.Nat.{ℕ, suc, ◌+◌, ◌-◌, ◌/◌, ◌%◌, ◌≤◌, ◌<◌}
+use native.Mathlib.Numerals.{add-one}
 use native.Mathlib.Omega.{arith}
 use mathlib.Core.Path.{◌≡◌, refl}
 use mathlib.Core.Bool.{Bool, true, false, cond}
@@ -33,15 +33,16 @@ module _ (sheet t : List ℕ) (turns limit : ℕ) where
     unfolding term_line
     binding_some s g₁ g₂ g₃ a e e₁ e₂ e₃ ea es = rw (es, ea, e₃, e₂, e₁) (simp (term_line, eq-eqb _ _ e))
 
-    pub bindings_end : (n : ℕ) → n ≤ 0 → bindings_to sheet t turns limit n bits v g ≡ g
+    pub bindings_end : (n : ℕ) → n ≤ v → bindings_to sheet t turns limit (n - v) bits v g ≡ g
     unfolding bindings_to
-    bindings_end zero h = refl
-    bindings_end (suc n) h = absurd (omega arith)
+    bindings_end n h =
+        let z : n - v ≡ 0 = omega arith in
+        rw z
 
-    pub bindings_on : (n : ℕ) (s : Printer) → 0 < n → s ≡ cond (eqb (bits % 2) 1) (binding_line g v) g
-        → bindings_to sheet t turns limit n bits v g ≡ bindings_to sheet t turns limit (n - 1) (bits / 2) (v + 1) s
+    pub bindings_on : (n : ℕ) (s : Printer) → v < n → s ≡ cond (eqb (bits % 2) 1) (binding_line g v) g
+        → bindings_to sheet t turns limit (n - v) bits v g ≡ bindings_to sheet t turns limit (n - (v + 1)) (bits / 2) (v + 1) s
     unfolding bindings_to
-    bindings_on zero s h e = absurd (omega arith)
-    bindings_on (suc n) s h e =
-        rw (sub-one (suc n), add-one v, e)
-        (then_either (bindings_to sheet t turns limit n (bits / 2) (suc v)) (binding_line g v) g (eqb (bits % 2) 1))
+    bindings_on n s h e =
+        let k : n - v ≡ suc (n - (v + 1)) = omega arith in
+        rw (k, add-one v, e)
+        (then_either (bindings_to sheet t turns limit (n - suc v) (bits / 2) (suc v)) (binding_line g v) g (eqb (bits % 2) 1))

@@ -1,9 +1,10 @@
 -- One law for each way through a turn of a loop or through a call; the hypotheses are the facts on the code's path.
-use Prim.Native.Nat.{ℕ, zero, suc, ◌-◌, ◌/◌, ◌%◌, ◌≤◌, ◌<◌}
-use native.Mathlib.Numerals.{sub-one}
+use Prim.Native.Nat.{ℕ, zero, suc, ◌+◌, ◌-◌, ◌/◌, ◌%◌, ◌≤◌, ◌<◌}
 use native.Mathlib.Omega.{arith}
 use mathlib.Core.Path.{◌≡◌, refl}
+use mathlib.Core.Bool.{false}
 use mathlib.Core.List.{List}
+use lib.Dec.{eqb}
 use borrow.Author.Tests.{lt-ltb, le-ltb, eq-eqb, ne_eqb}
 use Rattle.sheet_format.specs.Bytes.{ascii, lf}
 use Rattle.machine.specs.Fields as fields
@@ -15,29 +16,16 @@ use Rattle.printing.specs.PathLinks.{next_line_field}
 use Rattle.memory.specs.Records.{field}
 use Rattle.printing.specs.WriteTerms.{emit_to, term_to}
 
-module _ (limit : ℕ) (g s : Printer) where
-  module _ (k : ℕ) where
-    pub plain_true : k ≡ 0 → s ≡ bytes_to limit g (ascii "D\ttrue\n") → s ≡ bytes_to limit g (plain_bytes k)
-    unfolding plain_bytes
-    plain_true e es = rw es (simp (plain_bytes, eq-eqb _ _ e))
+module _ (limit : ℕ) (g s : Printer) (k : ℕ) where
+  -- The line of a kind that is known.
+  pub plain_kind : (j : ℕ) → k ≡ j → s ≡ bytes_to limit g (plain_bytes j) → s ≡ bytes_to limit g (plain_bytes k)
+  plain_kind j e es = rw (es, e)
 
-    pub plain_and : (k ≡ 0 → ⊥) → k ≡ 1 → s ≡ bytes_to limit g (ascii "D\tand\n") → s ≡ bytes_to limit g (plain_bytes k)
-    unfolding plain_bytes
-    plain_and n₀ e es = rw es (simp (plain_bytes, ne_eqb _ _ n₀, eq-eqb _ _ e))
-
-    pub plain_left : (k ≡ 0 → ⊥) → (k ≡ 1 → ⊥) → k ≡ 2 → s ≡ bytes_to limit g (ascii "D\tleft\n") → s ≡ bytes_to limit g (plain_bytes k)
-    unfolding plain_bytes
-    plain_left n₀ n₁ e es = rw es (simp (plain_bytes, ne_eqb _ _ n₀, ne_eqb _ _ n₁, eq-eqb _ _ e))
-
-    pub plain_right : (k ≡ 0 → ⊥) → (k ≡ 1 → ⊥) → (k ≡ 2 → ⊥) → k ≡ 3 → s ≡ bytes_to limit g (ascii "D\tright\n")
-        → s ≡ bytes_to limit g (plain_bytes k)
-    unfolding plain_bytes
-    plain_right n₀ n₁ n₂ e es = rw es (simp (plain_bytes, ne_eqb _ _ n₀, ne_eqb _ _ n₁, ne_eqb _ _ n₂, eq-eqb _ _ e))
-
-    pub plain_assume : (k ≡ 0 → ⊥) → (k ≡ 1 → ⊥) → (k ≡ 2 → ⊥) → (k ≡ 3 → ⊥) → s ≡ bytes_to limit g (ascii "D\tassume\n")
-        → s ≡ bytes_to limit g (plain_bytes k)
-    unfolding plain_bytes
-    plain_assume n₀ n₁ n₂ n₃ es = rw es (simp (plain_bytes, ne_eqb _ _ n₀, ne_eqb _ _ n₁, ne_eqb _ _ n₂, ne_eqb _ _ n₃))
+  pub plain_assume : 4 ≤ k → s ≡ bytes_to limit g (ascii "D\tassume\n") → s ≡ bytes_to limit g (plain_bytes k)
+  unfolding plain_bytes
+  plain_assume h es =
+      let n : (j : ℕ) → j < 4 → eqb k j ≡ false = λ j l. ne_eqb _ _ (λ e. omega arith) in
+      rw es (simp (plain_bytes, n 0 (omega arith), n 1 (omega arith), n 2 (omega arith), n 3 (omega arith)))
 
 module _ (sheet t : List ℕ) (turns limit : ℕ) where
   module _ (w out : List ℕ) (p : Cursor) (u : ℕ) (s : Printer) where
@@ -46,36 +34,41 @@ module _ (sheet t : List ℕ) (turns limit : ℕ) where
     unfolding line_to
     line_plain k h es = rw es (simp (line_to, lt-ltb _ _ h))
 
-    pub line_some : (k f a : ℕ) (g : Printer) → 5 ≤ k → k ≡ 5 → f ≡ field w u fields.variables → a ≡ variable_word f
+    pub line_some : (k f a : ℕ) (g : Printer) → k ≡ 5 → f ≡ field w u fields.variables → a ≡ variable_word f
         → g ≡ bytes_to limit (printer w out p) (ascii "D\tsome\t") → s ≡ emit_to limit (term_to sheet t turns limit g a) lf
         → s ≡ line_to sheet t turns limit (printer w out p) u k
     unfolding line_to term_line
-    line_some k f a g h e ef ea eg es = rw (es, eg, ea, ef) (simp (line_to, term_line, le-ltb _ _ h, eq-eqb _ _ e))
+    line_some k f a g e ef ea eg es = rw (es, eg, ea, ef, e)
 
-    pub line_all : (k a : ℕ) (g : Printer) → 5 ≤ k → (k ≡ 5 → ⊥) → k ≡ 6 → a ≡ constant_word u
+    pub line_all : (k a : ℕ) (g : Printer) → k ≡ 6 → a ≡ constant_word u
         → g ≡ bytes_to limit (printer w out p) (ascii "D\tall\t") → s ≡ emit_to limit (term_to sheet t turns limit g a) lf
         → s ≡ line_to sheet t turns limit (printer w out p) u k
     unfolding line_to term_line
-    line_all k a g h n e ea eg es = rw (es, eg, ea) (simp (line_to, term_line, le-ltb _ _ h, ne_eqb _ _ n, eq-eqb _ _ e))
+    line_all k a g e ea eg es = rw (es, eg, ea, e)
 
-    pub line_clause : (k : ℕ) → 5 ≤ k → (k ≡ 5 → ⊥) → (k ≡ 6 → ⊥) → s ≡ clause_to sheet t turns limit (printer w out p) u
+    pub line_clause : (k : ℕ) → 7 ≤ k → s ≡ clause_to sheet t turns limit (printer w out p) u
         → s ≡ line_to sheet t turns limit (printer w out p) u k
     unfolding line_to
-    line_clause k h n₅ n₆ es = rw es (simp (line_to, le-ltb _ _ h, ne_eqb _ _ n₅, ne_eqb _ _ n₆))
+    line_clause k h es =
+        let n₅ : eqb k 5 ≡ false = ne_eqb _ _ (λ e. omega arith) in
+        let n₆ : eqb k 6 ≡ false = ne_eqb _ _ (λ e. omega arith) in
+        rw es (simp (line_to, le-ltb k 5 (omega arith), n₅, n₆))
 
-  pub lines_end : (g : Printer) (e n : ℕ) → n ≤ 0 → lines_to sheet t turns limit n g e ≡ g
+  pub lines_end : (g : Printer) (e n i : ℕ) → n ≤ i → lines_to sheet t turns limit (n - i) g e ≡ g
   unfolding lines_to
-  lines_end g e zero h = refl
-  lines_end g e (suc n) h = absurd (omega arith)
+  lines_end g e n i h =
+      let z : n - i ≡ 0 = omega arith in
+      rw z
 
   pub lines_last : (g : Printer) (e n : ℕ) → e / 8 ≡ 0 → lines_to sheet t turns limit n g e ≡ g
   unfolding lines_to
   lines_last g e zero z = refl
   lines_last g e (suc n) z = simp (lines_to, eq-eqb _ _ z)
 
-  pub lines_on : (w out : List ℕ) (p : Cursor) (e n u l : ℕ) (s : Printer) → 0 < n → (e / 8 ≡ 0 → ⊥) → u ≡ e / 8 - 1
+  pub lines_on : (w out : List ℕ) (p : Cursor) (e n i u l : ℕ) (s : Printer) → i < n → (e / 8 ≡ 0 → ⊥) → u ≡ e / 8 - 1
       → l ≡ field w u next_line_field → s ≡ line_to sheet t turns limit (printer w out p) u (e % 8)
-      → lines_to sheet t turns limit n (printer w out p) e ≡ lines_to sheet t turns limit (n - 1) s l
+      → lines_to sheet t turns limit (n - i) (printer w out p) e ≡ lines_to sheet t turns limit (n - (i + 1)) s l
   unfolding lines_to
-  lines_on w out p e zero u l s h z eu el es = absurd (omega arith)
-  lines_on w out p e (suc n) u l s h z eu el es = rw (sub-one (suc n), es, el, eu) (simp (lines_to, ne_eqb _ _ z))
+  lines_on w out p e n i u l s h z eu el es =
+      let k : n - i ≡ suc (n - (i + 1)) = omega arith in
+      rw (k, es, el, eu) (simp (lines_to, ne_eqb _ _ z))

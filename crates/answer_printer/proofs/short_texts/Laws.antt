@@ -1,11 +1,12 @@
 -- One law for each way through a turn of a loop or through a call; the hypotheses are the facts on the code's path.
-use Prim.Native.Nat.{ℕ, ◌+◌, ◌-◌, ◌≤◌, ◌<◌}
+use Prim.Native.Nat.{ℕ, ◌≤◌, ◌<◌}
 use mathlib.Core.Path.{◌≡◌}
 use mathlib.Core.List.{List, [], ◌++◌}
 use borrow.Author.Tests.{lt-ltb, le-ltb}
 use lib.ListN.{length}
 use Rattle.printing.specs.Output.{Written, written, emit, write_bytes, write_number}
-use Rattle.printing.specs.Writer.{text_limit, append_result, write_short}
+use Rattle.std.specs.Prelude.{None}
+use Rattle.printing.specs.Writer.{fitted, fitting, text_limit, append_result, write_short}
 use Rattle.answer_printer.proofs.line_parts.Laws.{no_bytes}
 
 -- The R line.
@@ -22,13 +23,13 @@ module _ (bs : List ℕ) (units : ℕ) (out : List ℕ) (limit n : ℕ) (o : Lis
   short_counted : written o n ≡ append_result bs units [] (text_limit out) 0
   short_counted = rw el at e₁
 
-  pub short_unfit : limit < n → written (o ++ out) 65536 ≡ write_short bs units out
+  pub short_unfit : limit < n → fitted (o ++ out) None ≡ write_short bs units out
   unfolding write_short
   short_unfit h =
       let h' : text_limit out < n = rw el at h in
       rw (no_bytes o eo) (simp (write_short, ← short_counted, lt-ltb _ _ h'))
 
-  pub short_fits : (s : Written) → n ≤ limit → s ≡ append_result bs units (o ++ out) limit 0 → s ≡ write_short bs units out
+  pub short_fits : (s : Written) → n ≤ limit → s ≡ append_result bs units (o ++ out) limit 0 → fitting s ≡ write_short bs units out
   unfolding write_short
   short_fits s h es =
       let h' : n ≤ text_limit out = rw el at h in

@@ -1,28 +1,16 @@
-use mathlib.Core.Path.{sym, ap, ◌∙◌}
-use Rattle.clause_members.specs.Members.{find_member}
-use Rattle.clause_members.proofs.Laws.{find_end, find_side, find_on, find_done}
+use Prim.Native.Nat.{◌+◌, ◌-◌}
+use native.Mathlib.Omega.{arith}
+use Rattle.clause_members.proofs.Laws.{find_on, find_done, found_trans}
 use Rattle.clause_members.proofs.find_member.Goals as goal
 
-pub loop-left-init : goal.loop-left-init
-loop-left-init c = ap (find_member _ _ _) (sym c.no_names-m.ensures)
-
-pub loop-left-preserved-then-kind-eq-AND : goal.loop-left-preserved-then-kind-eq-AND
-loop-left-preserved-then-kind-eq-AND c =
-    c.loop-left.invariant
-    ∙ find_side _ _ _ _ _ c.loop-left-test.true c.kind.ensures _ _ c.if-kind-eq-AND.true
-    c.side_of-s.ensures c.with_leaf-m.ensures
-
 pub returns-then-kind-ne-AND : goal.returns-then-kind-ne-AND
-returns-then-kind-ne-AND c =
-    sym (c.loop-left.invariant
-    ∙ find_done _ _ _ _ _ c.loop-left-test.true c.kind.ensures _ c.if-kind-eq-AND.false
-    c.pass_chain-m.ensures _ c.kind-in-loop-left.ensures c.if-kind-ne-AND.true)
+returns-then-kind-ne-AND g c =
+    found_trans _ _ _ _
+    (find_done _ _ (c.args.fuel - (c.loop-turn._turn + 1)) _ _ (omega arith) _ c.kind.ensures _ _ c.if-kind-eq-AND.false
+    c.pass-m.ensures _ c.kind-in-loop-turn.ensures c.if-kind-ne-AND.true) c.loop-turn.invariant
 
-pub loop-left-preserved : goal.loop-left-preserved
-loop-left-preserved c =
-    c.loop-left.invariant
-    ∙ find_on _ _ _ _ _ c.loop-left-test.true c.kind.ensures _ c.if-kind-eq-AND.false
-    c.pass_chain-m.ensures _ c.kind-in-loop-left.ensures c.if-kind-ne-AND.false
-
-pub returns : goal.returns
-returns c = sym (c.loop-left.invariant ∙ find_end _ _ _ _ c.loop-left-test.false)
+pub loop-turn-preserved : goal.loop-turn-preserved
+loop-turn-preserved g c =
+    found_trans _ _ _ _
+    (find_on _ _ _ _ _ (omega arith) _ c.kind.ensures _ _ c.if-kind-eq-AND.false c.pass-m.ensures _ c.kind-in-loop-turn.ensures
+    c.if-kind-ne-AND.false) c.loop-turn.invariant

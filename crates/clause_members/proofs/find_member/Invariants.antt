@@ -1,9 +1,9 @@
-use mathlib.Core.Path.{◌≡◌}
-use Rattle.clause_members.specs.Members.{found, find_member}
+use Prim.Native.Nat.{◌-◌}
+use Rattle.clause_members.specs.Members.{found, find_member, FoundAs}
+use Rattle.clause_members.specs.contracts.find_member.{NAMES-type}
 use Rattle.clause_members.proofs.find_member.Given as goal
 
-abbrev pub invariant-loop-left : goal.invariant-loop-left
-invariant-loop-left l = find_member l.fuel l.t l.k (found l.n 0 0) ≡ find_member l.left l.t l.place l.m
-
-abbrev pub decreases-loop-left : goal.decreases-loop-left
-decreases-loop-left l = l.left
+abbrev pub invariant-loop-turn : goal.invariant-loop-turn
+invariant-loop-turn g l =
+    FoundAs (NAMES-type (denote.Param.number g.row.NAMES)) (find_member (l.fuel - l._turn) l.t l.place l.m)
+    (find_member l.fuel l.t l.k (found l.n 0 0))

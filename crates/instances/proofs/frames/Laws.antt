@@ -1,7 +1,6 @@
 -- One law for each way through a turn of a loop or through a call; the hypotheses are the facts on the code's path.
-use Prim.Native.Nat.{ℕ, zero, suc, ◌+◌, ◌-◌, ◌*◌, ◌<◌, ◌≤◌}
+use Prim.Native.Nat.{ℕ, suc, ◌+◌, ◌-◌, ◌*◌, ◌<◌, ◌≤◌}
 use native.Mathlib.Omega.{arith}
-use native.Mathlib.Numerals.{sub-one}
 use mathlib.Core.Path.{◌≡◌, refl}
 use mathlib.Core.List.{List}
 use Rattle.scanning.specs.Fields as fields
@@ -12,16 +11,14 @@ pub slot_made : (w w₁ w₂ : List ℕ) (r v s e : ℕ) → w₁ ≡ put_field 
 unfolding put_range
 slot_made w w₁ w₂ r v s e p q = rw (q, p)
 
-pub copy_end : (n : ℕ) (w : List ℕ) (r q f : ℕ) → n ≤ 0 → copy_ranges n w r q f ≡ w
+pub copy_end : (e : ℕ) (w : List ℕ) (r q f : ℕ) → e ≤ f → copy_ranges (e - f) w r q f ≡ w
 unfolding copy_ranges
-copy_end zero w r q f h = refl
-copy_end (suc n) w r q f h = absurd (omega arith)
+copy_end e w r q f h = let z : e - f ≡ 0 = omega arith in rw z refl
 
-pub copy_on : (n : ℕ) (w w' : List ℕ) (r q f a : ℕ) → 0 < n → a ≡ field w q f → w' ≡ put_field w r f a
-    → copy_ranges n w r q f ≡ copy_ranges (n - 1) w' r q (f + 1)
+pub copy_on : (e : ℕ) (w w' : List ℕ) (r q f a : ℕ) → f < e → a ≡ field w q f → w' ≡ put_field w r f a
+    → copy_ranges (e - f) w r q f ≡ copy_ranges (e - (f + 1)) w' r q (f + 1)
 unfolding copy_ranges
-copy_on zero w w' r q f a h p e = absurd (omega arith)
-copy_on (suc n) w w' r q f a h p e = rw (sub-one (suc n), e, p)
+copy_on e w w' r q f a h p y = let z : e - f ≡ suc (e - (f + 1)) = omega arith in rw z (rw (y, p) refl)
 
 pub bind_made : (w w₁ w₂ : List ℕ) (r q v s e : ℕ) → w₁ ≡ copy_ranges fields.frame_numbers w r q 0 → w₂ ≡ put_range w₁ r v s e
     → w₂ ≡ bind_frame w r q v s e

@@ -1,17 +1,15 @@
 -- One law for each way through a turn of a loop or through a call; the hypotheses are the facts on the code's path.
-use Prim.Native.Nat.{ℕ, zero, suc, ◌+◌, ◌-◌, ◌<◌, ◌≤◌}
-use native.Mathlib.Omega.{arith}
-use mathlib.Core.Path.{◌≡◌, refl}
+use Prim.Native.Nat.{ℕ, ◌+◌, ◌-◌, ◌<◌, ◌≤◌}
+use mathlib.Core.Path.{◌≡◌}
 use mathlib.Core.Bool.{Bool, true, false}
 use mathlib.Core.List.{List}
 use lib.Dec.{eqb}
 use lib.ListN.{length}
 use borrow.Author.Tests.{eq-eqb, ne_eqb, le-leb, lt-leb}
 use Rattle.node_table.specs.Layout.{name_start}
-use Rattle.scanning.specs.declared.Number.{Number}
-use Rattle.scanning.specs.declared.Number.TheVariants.{Value, Missing}
-use Rattle.scanning.specs.declared.Reach.{Reach}
-use Rattle.scanning.specs.declared.Reach.TheVariants.{To, Differs}
+use Rattle.scanning.specs.Ranges.{Number}
+use Rattle.std.specs.Prelude.{Some, None}
+use Rattle.scanning.specs.Instances.{Reach}
 use Rattle.scanning.specs.Ranges.{same_folded, scan_number}
 use Rattle.scanning.specs.Scanning.{name_size}
 use Rattle.scanning.specs.Frames.{slot_start, slot_end}
@@ -31,16 +29,16 @@ slots_other x s e i j n m d p q h = rw (ne_eqb s i d, ← p, ← q, ne_eqb n m h
 -- ranges
 
 pub range_there : (n : ℕ) (a : List ℕ) (s : ℕ) (x : List ℕ) (i l : ℕ) (z : Bool) → l ≡ length x - i → n ≤ l → z ≡ same_folded n a s x i
-    → z ≡ true → To (i + n) ≡ match_range n a s x i
+    → z ≡ true → Some (i + n) ≡ match_range n a s x i
 unfolding match_range
 range_there n a s x i l z e h p q = rw (← e, le-leb n l h, ← p, q)
 
 pub range_differs : (n : ℕ) (a : List ℕ) (s : ℕ) (x : List ℕ) (i l : ℕ) (z : Bool) → l ≡ length x - i → n ≤ l → z ≡ same_folded n a s x i
-    → z ≡ false → Differs ≡ match_range n a s x i
+    → z ≡ false → None ≡ match_range n a s x i
 unfolding match_range
 range_differs n a s x i l z e h p q = rw (← e, le-leb n l h, ← p, q)
 
-pub range_long : (n : ℕ) (a : List ℕ) (s : ℕ) (x : List ℕ) (i l : ℕ) → l ≡ length x - i → l < n → Differs ≡ match_range n a s x i
+pub range_long : (n : ℕ) (a : List ℕ) (s : ℕ) (x : List ℕ) (i l : ℕ) → l ≡ length x - i → l < n → None ≡ match_range n a s x i
 unfolding match_range
 range_long n a s x i l e h = rw (← e, lt-leb n l h)
 
@@ -54,15 +52,15 @@ name_matches b t k x i n p s r en ep es h = rw (← en, ← ep, ← es) h
 -- numbers
 
 module _ (n : ℕ) (x : List ℕ) (i : ℕ) (o : Number) (p : o ≡ scan_number x i) where
-  pub number_equal : (m e : ℕ) → o ≡ Value m e → m ≡ n → To e ≡ match_number n x i
+  pub number_equal : (m e : ℕ) → o ≡ Some (m, e) → m ≡ n → Some e ≡ match_number n x i
   unfolding match_number
   number_equal m e q h = rw (match_number, ← p, q) (rw (eq-eqb m n h))
 
-  pub number_other : (m e : ℕ) → o ≡ Value m e → (m ≡ n → ⊥) → Differs ≡ match_number n x i
+  pub number_other : (m e : ℕ) → o ≡ Some (m, e) → (m ≡ n → ⊥) → None ≡ match_number n x i
   unfolding match_number
   number_other m e q h = rw (match_number, ← p, q) (rw (ne_eqb m n h))
 
-  pub number_none : o ≡ Missing → Differs ≡ match_number n x i
+  pub number_none : o ≡ None → None ≡ match_number n x i
   unfolding match_number
   number_none q = rw (match_number, ← p, q)
 
@@ -75,12 +73,12 @@ slot_matches x w g v i a s c e n r ea es ec ee en h = rw (← ea, ← es, ← ec
 
 -- instances of terms of the text
 
-pub instance_ends : (b t x w : List ℕ) (s e g m i : ℕ) (r : Reach) → r ≡ match_instance 1024 b t x w g m s → r ≡ To i
+pub instance_ends : (b t x w : List ℕ) (s e g m i : ℕ) (r : Reach) → r ≡ match_instance 1024 b t x w g m s → r ≡ Some i
     → eqb i e ≡ is_instance b t x w s e g m
 unfolding is_instance ends_at
 instance_ends b t x w s e g m i r p q = rw (← p, q)
 
-pub instance_differs : (b t x w : List ℕ) (s e g m : ℕ) (r : Reach) → r ≡ match_instance 1024 b t x w g m s → r ≡ Differs
+pub instance_differs : (b t x w : List ℕ) (s e g m : ℕ) (r : Reach) → r ≡ match_instance 1024 b t x w g m s → r ≡ None
     → false ≡ is_instance b t x w s e g m
 unfolding is_instance ends_at
 instance_differs b t x w s e g m r p q = rw (← p, q)

@@ -4,74 +4,72 @@
 use Prim.Native.Nat.{ℕ, zero, suc, ◌+◌, ◌-◌, ◌*◌, ◌/◌, ◌%◌, ◌<◌, ◌≤◌}
 use native.Mathlib.Omega.{arith}
 use native.Mathlib.Numerals.{add-one, sub-one}
-use mathlib.Core.Path.{◌≡◌, refl, sym, ap, ap₂, ◌∙◌}
+use mathlib.Core.Path.{◌≡◌, refl, sym, ap, ◌∙◌}
 use mathlib.Core.Bool.{Bool, true, false, cond, true≢false}
 use mathlib.Core.List.{List}
 use lib.Dec.{eqb, leb, ltb}
 use lib.ListN.{length, get_or, set, length-set}
 use lib.Seq.{get_or-set_same, get_or-set_other}
-use borrow.Author.Tests.{eq-eqb, ne_eqb, eqb-true, eqb-false, ltb-true, ltb-false, lt-ltb, le-ltb}
+use borrow.Author.Tests.{eq-eqb, ne_eqb, ltb-true, ltb-false, lt-ltb, le-ltb}
 use Rattle.sheet_format.specs.Limits.{max_symbols}
-use Rattle.node_table.specs.Layout.{kind_of, label_of, variable_kind}
-use Rattle.scanning.specs.declared.Number.{Number}
-use Rattle.scanning.specs.declared.Number.TheVariants.{Value, Missing}
-use Rattle.scanning.specs.declared.Reach.{Reach}
-use Rattle.scanning.specs.declared.Reach.TheVariants.{To, Differs}
+use Rattle.node_table.specs.Layout.{kind_of, label_of}
+use Rattle.scanning.specs.Ranges.{Number}
+use Rattle.std.specs.Prelude.{Some, None}
+use Rattle.scanning.specs.Instances.{Reach}
 use Rattle.scanning.specs.Ranges.{same_folded, scan_number}
 use Rattle.scanning.specs.Instances.{match_range, match_name, match_number, match_functor, match_slot, argument_count, argument_of, match_more}
 use Rattle.scanning.specs.Instances.{match_arguments, match_application, match_instance}
 use Rattle.term_scanner.proofs.Ends.{NumberFrom, number_ends}
-use Rattle.instances.specs.declared.instance_ranges.LentMatch.{LentMatch}
-use Rattle.instances.specs.OpenNodes.{opens_of, match_head, mark_before, match_children, Matches}
+use Rattle.instances.specs.OpenNodes.{opens_of, match_head, mark_before, match_children}
 
 -- Going on from a position that was reached.
 abbrev onward : (ℕ → Reach) → Reach → Reach
-onward k (To e) = k e
-onward k Differs = Differs
+onward k (Some e) = k e
+onward k None = None
 
 onward_same : (h k : ℕ → Reach) → ((e : ℕ) → h e ≡ k e) → (r : Reach) → onward h r ≡ onward k r
-onward_same h k p (To e) = p e
-onward_same h k p Differs = refl
+onward_same h k p (Some e) = p e
+onward_same h k p None = refl
 
 onward_then : (h k : ℕ → Reach) (r : Reach) → onward h (onward k r) ≡ onward (λ e. onward h (k e)) r
-onward_then h k (To e) = refl
-onward_then h k Differs = refl
+onward_then h k (Some e) = refl
+onward_then h k None = refl
 
-onward_end : (r : Reach) → onward To r ≡ r
-onward_end (To e) = refl
-onward_end Differs = refl
+onward_end : (r : Reach) → onward Some r ≡ r
+onward_end (Some e) = refl
+onward_end None = refl
 
 -- A match ends no sooner than it begins.
 
-range_forward : (n : ℕ) (a : List ℕ) (s : ℕ) (x : List ℕ) (i e : ℕ) → match_range n a s x i ≡ To e → i ≤ e
+range_forward : (n : ℕ) (a : List ℕ) (s : ℕ) (x : List ℕ) (i e : ℕ) → match_range n a s x i ≡ Some e → i ≤ e
 unfolding match_range
 range_forward n a s x i e h = go (leb n (length x - i)) (same_folded n a s x i) h
   where
-    go : (y z : Bool) → cond y (cond z (To (i + n)) Differs) Differs ≡ To e → i ≤ e
+    go : (y z : Bool) → cond y (cond z (Some (i + n)) None) None ≡ Some e → i ≤ e
     go true true k = let q : i + n ≡ e = cc in omega arith
     go true false k = absurd (let q : ◌≡◌ {A = ℕ} 0 1 = cc in omega arith)
     go false z k = absurd (let q : ◌≡◌ {A = ℕ} 0 1 = cc in omega arith)
 
-number_forward : (n : ℕ) (x : List ℕ) (i e : ℕ) → match_number n x i ≡ To e → i ≤ e
+number_forward : (n : ℕ) (x : List ℕ) (i e : ℕ) → match_number n x i ≡ Some e → i ≤ e
 unfolding match_number
 number_forward n x i e h = go (scan_number x i) (number_ends x i) h
   where
-    equal : (m j : ℕ) → i ≤ j → (z : Bool) → cond z (To j) Differs ≡ To e → i ≤ e
+    equal : (m j : ℕ) → i ≤ j → (z : Bool) → cond z (Some j) None ≡ Some e → i ≤ e
     equal m j l true k = let q : j ≡ e = cc in omega arith
     equal m j l false k = absurd (let q : ◌≡◌ {A = ℕ} 0 1 = cc in omega arith)
 
     go : (o : Number) → NumberFrom i o
-        → elim o as (λ z. Reach) [ Value m j ↦ cond (eqb m n) (To j) Differs | Missing ↦ Differs ] ≡ To e → i ≤ e
-    go (Value m j) l k = equal m j l (eqb m n) k
-    go Missing l k = absurd (let q : ◌≡◌ {A = ℕ} 0 1 = cc in omega arith)
+        → elim o as (λ z. Reach) [ Some (m, j) ↦ cond (eqb m n) (Some j) None | None ↦ None ] ≡ Some e → i ≤ e
+    go (Some (m, j)) l k = equal m j l (eqb m n) k
+    go None l k = absurd (let q : ◌≡◌ {A = ℕ} 0 1 = cc in omega arith)
 
-pub head_forward : (b t x w : List ℕ) (g m i e : ℕ) (r : Reach) → r ≡ match_head b t x w g m i → r ≡ To e → i ≤ e
+pub head_forward : (b t x w : List ℕ) (g m i e : ℕ) (r : Reach) → r ≡ match_head b t x w g m i → r ≡ Some e → i ≤ e
 unfolding match_head match_slot match_functor match_name
 head_forward b t x w g m i e r p q = go (eqb (kind_of t m) 0) (ltb (label_of t m) max_symbols) (sym p ∙ q)
   where
     go : (y z : Bool)
         → cond y (match_slot x w g (label_of t m) i)
-        (cond z (match_name b t (label_of t m) x i) (match_number (label_of t m - max_symbols) x i)) ≡ To e → i ≤ e
+        (cond z (match_name b t (label_of t m) x i) (match_number (label_of t m - max_symbols) x i)) ≡ Some e → i ≤ e
     go true z h = range_forward _ _ _ _ i e h
     go false true h = range_forward _ _ _ _ i e h
     go false false h = number_forward (label_of t m - max_symbols) x i e h
@@ -79,15 +77,15 @@ head_forward b t x w g m i e r p q = go (eqb (kind_of t m) 0) (ltb (label_of t m
 -- The children of a node
 
 module _ (r : ℕ → ℕ → Reach) (t : List ℕ) (m : ℕ) (x : List ℕ) (n j c i d : ℕ) (byte : d ≡ get_or x i 0) where
-  more_closed : n ≤ 0 → d ≡ 41 → match_more r n t m j x c i ≡ To (i + 1)
+  more_closed : n ≤ 0 → d ≡ 41 → match_more r n t m j x c i ≡ Some (i + 1)
   unfolding match_more
   more_closed h e = let z : n ≡ 0 = omega arith in rw (z, ← byte, eq-eqb d 41 e)
 
-  more_unclosed : n ≤ 0 → (d ≡ 41 → ⊥) → match_more r n t m j x c i ≡ Differs
+  more_unclosed : n ≤ 0 → (d ≡ 41 → ⊥) → match_more r n t m j x c i ≡ None
   unfolding match_more
   more_unclosed h e = let z : n ≡ 0 = omega arith in rw (z, ← byte, ne_eqb d 41 e)
 
-  more_other : 0 < n → (d ≡ c → ⊥) → match_more r n t m j x c i ≡ Differs
+  more_other : 0 < n → (d ≡ c → ⊥) → match_more r n t m j x c i ≡ None
   unfolding match_more
   more_other h e = let z : n ≡ suc (n - 1) = omega arith in rw (z, ← byte, ne_eqb d c e)
 
@@ -98,19 +96,10 @@ module _ (r : ℕ → ℕ → Reach) (t : List ℕ) (m : ℕ) (x : List ℕ) whe
   more_child zero j c i d byte h e = absurd (omega arith)
   more_child (suc n) j c i d byte h e = rw (sub-one (suc n), ← byte, eq-eqb d c e) (go (r (argument_of t m j) (i + 1)))
     where
-      go : (o : Reach) → elim o as (λ y. Reach) [ To p ↦ match_more r n t m (j + 1) x 44 p | Differs ↦ Differs ]
+      go : (o : Reach) → elim o as (λ y. Reach) [ Some p ↦ match_more r n t m (j + 1) x 44 p | None ↦ None ]
           ≡ onward (match_more r n t m (j + 1) x 44) o
-      go (To p) = refl
-      go Differs = refl
-
-opens_few : (t : List ℕ) (m : ℕ) → opens_of t m < 2
-unfolding opens_of
-opens_few t m = go (eqb (kind_of t m) 0) (eqb (argument_count t m) 0)
-  where
-    go : (y z : Bool) → cond y 0 (cond z 0 1) < 2
-    go true z = omega arith
-    go false true = omega arith
-    go false false = omega arith
+      go (Some p) = refl
+      go None = refl
 
 module _ (b t x w : List ℕ) (g : ℕ) where
   -- Matching the rest of an open node.
@@ -120,7 +109,7 @@ module _ (b t x w : List ℕ) (g : ℕ) where
 
   -- Matching the rest of all open nodes.
   unfoldable pub match_open : ℕ → List ℕ → ℕ → ℕ → Reach
-  match_open f s zero e = To e
+  match_open f s zero e = Some e
   match_open f s (suc n) e = onward (match_open (suc f) s n) (match_node f (get_or s n 0) e)
 
   -- What stands above the open nodes does not matter.
@@ -148,12 +137,12 @@ module _ (b t x w : List ℕ) (g : ℕ) where
     unfolding argument_count
     few = omega arith
 
-    node_other : (d ≡ mark_before (v % 8) c → ⊥) → match_node f v e ≡ Differs
+    node_other : (d ≡ mark_before (v % 8) c → ⊥) → match_node f v e ≡ None
     unfolding mark_before
     node_other h = rw (← count) (go (ltb (v % 8) c) refl)
       where
         go : (z : Bool) → ltb (v % 8) c ≡ z
-            → match_more (match_instance f b t x w g) (c - v % 8) t (v / 8) (v % 8) x (cond (eqb (v % 8) 0) 40 44) e ≡ Differs
+            → match_more (match_instance f b t x w g) (c - v % 8) t (v / 8) (v % 8) x (cond (eqb (v % 8) 0) 40 44) e ≡ None
         go true q =
             let l = ltb-true (v % 8) c q in
             more_other (match_instance f b t x w g) t (v / 8) x (c - v % 8) (v % 8) (cond (eqb (v % 8) 0) 40 44) e d byte (omega arith)
@@ -163,7 +152,7 @@ module _ (b t x w : List ℕ) (g : ℕ) where
             more_unclosed (match_instance f b t x w g) t (v / 8) x (c - v % 8) (v % 8) (cond (eqb (v % 8) 0) 40 44) e d byte (omega arith)
             (λ o. h (rw q o))
 
-    node_end : c ≤ v % 8 → d ≡ mark_before (v % 8) c → match_node f v e ≡ To (e + 1)
+    node_end : c ≤ v % 8 → d ≡ mark_before (v % 8) c → match_node f v e ≡ Some (e + 1)
     unfolding mark_before
     node_end l h =
         let q : d ≡ 41 = h ∙ rw (le-ltb (v % 8) c l) in
@@ -187,38 +176,38 @@ module _ (b t x w : List ℕ) (g : ℕ) where
   -- The symbol or number of a node, and its children if there are any.
 
   module _ (f m i : ℕ) (r : Reach) (head : r ≡ match_head b t x w g m i) where
-    pub head_differs : r ≡ Differs → match_instance (suc f) b t x w g m i ≡ Differs
+    pub head_differs : r ≡ None → match_instance (suc f) b t x w g m i ≡ None
     unfolding match_instance match_head match_application
     head_differs h = go (eqb (kind_of t m) 0) refl
       where
-        go : (z : Bool) → eqb (kind_of t m) 0 ≡ z → match_instance (suc f) b t x w g m i ≡ Differs
+        go : (z : Bool) → eqb (kind_of t m) 0 ≡ z → match_instance (suc f) b t x w g m i ≡ None
         go true q = rw (match_instance, q) (sym (head ∙ rw q refl) ∙ h)
         go false q =
-            let y : match_functor b t (label_of t m) x i ≡ Differs = sym (head ∙ rw q refl) ∙ h in
+            let y : match_functor b t (label_of t m) x i ≡ None = sym (head ∙ rw q refl) ∙ h in
             rw (match_instance, q, match_application, y)
 
-    module _ (e o : ℕ) (there : r ≡ To e) (opens : o ≡ opens_of t m) where
-      pub head_leaf : o ≡ 0 → match_instance (suc f) b t x w g m i ≡ To e
+    module _ (e : ℕ) (o : Bool) (there : r ≡ Some e) (opens : o ≡ opens_of t m) where
+      pub head_leaf : o ≡ false → match_instance (suc f) b t x w g m i ≡ Some e
       unfolding match_instance match_head match_application match_arguments opens_of
       head_leaf h = go (eqb (kind_of t m) 0) refl (eqb (argument_count t m) 0) refl
         where
-          go : (y : Bool) → eqb (kind_of t m) 0 ≡ y → (z : Bool) → eqb (argument_count t m) 0 ≡ z → match_instance (suc f) b t x w g m i ≡ To e
+          go : (y : Bool) → eqb (kind_of t m) 0 ≡ y → (z : Bool) → eqb (argument_count t m) 0 ≡ z → match_instance (suc f) b t x w g m i ≡ Some e
           go true q z k = rw (match_instance, q) (sym (head ∙ rw q refl) ∙ there)
           go false q true k =
-              let y : match_functor b t (label_of t m) x i ≡ To e = sym (head ∙ rw q refl) ∙ there in
+              let y : match_functor b t (label_of t m) x i ≡ Some e = sym (head ∙ rw q refl) ∙ there in
               rw (match_instance, q, match_application, y, k)
-          go false q false k = absurd (let y : 0 ≡ 1 = sym h ∙ opens ∙ rw (q, k) refl in omega arith)
+          go false q false k = absurd (true≢false (sym (sym h ∙ opens ∙ rw (q, k) refl)))
 
-      pub head_open : (o ≡ 0 → ⊥) → match_instance (suc f) b t x w g m i ≡ match_children f b t x w g m e
+      pub head_open : o ≡ true → match_instance (suc f) b t x w g m i ≡ match_children f b t x w g m e
       unfolding match_instance match_head match_application match_arguments opens_of match_children
       head_open h = go (eqb (kind_of t m) 0) refl (eqb (argument_count t m) 0) refl
         where
           go : (y : Bool) → eqb (kind_of t m) 0 ≡ y → (z : Bool) → eqb (argument_count t m) 0 ≡ z
               → match_instance (suc f) b t x w g m i ≡ match_more (match_instance f b t x w g) (argument_count t m) t m 0 x 40 e
-          go true q z k = absurd (h (opens ∙ rw q refl))
-          go false q true k = absurd (h (opens ∙ rw (q, k) refl))
+          go true q z k = absurd (true≢false (sym h ∙ opens ∙ rw q refl))
+          go false q true k = absurd (true≢false (sym h ∙ opens ∙ rw (q, k) refl))
           go false q false k =
-              let y : match_functor b t (label_of t m) x i ≡ To e = sym (head ∙ rw q refl) ∙ there in
+              let y : match_functor b t (label_of t m) x i ≡ Some e = sym (head ∙ rw q refl) ∙ there in
               rw (match_instance, q, match_application, y, k)
 
   -- The children of a node that has just been opened.
@@ -239,7 +228,7 @@ module _ (b t x w : List ℕ) (g : ℕ) where
   open_first f m e s z l h = rw h (sym (open_push 0 f z (8 * m) e l ∙ onward_end (match_node f (8 * m) e) ∙ node_fresh f m e))
 
   -- It ends when no node is open.
-  pub open_none : (f n e : ℕ) (s : List ℕ) → n ≤ 0 → match_open f s n e ≡ To e
+  pub open_none : (f n e : ℕ) (s : List ℕ) → n ≤ 0 → match_open f s n e ≡ Some e
   unfolding match_open
   open_none f zero e s h = refl
   open_none f (suc n) e s h = absurd (omega arith)
@@ -255,7 +244,7 @@ module _ (b t x w : List ℕ) (g : ℕ) where
 
   module _ (n e v c d k : ℕ) (s : List ℕ) (some : 0 < n) (few : n ≤ 1024) (top : v ≡ get_or s (n - 1) 0)
       (count : c ≡ argument_count t (v / 8)) (byte : d ≡ get_or x e 0) (mark : k ≡ mark_before (v % 8) c) where
-    pub open_other : (d ≡ k → ⊥) → match_open (1024 - n) s n e ≡ Differs
+    pub open_other : (d ≡ k → ⊥) → match_open (1024 - n) s n e ≡ None
     open_other h =
         open_top (1024 - n) n e v s some top
         ∙ ap (onward (match_open (suc (1024 - n)) s (n - 1))) (node_other (1024 - n) v e d c count byte (λ q. h (q ∙ sym mark)))
@@ -276,7 +265,7 @@ module _ (b t x w : List ℕ) (g : ℕ) where
             open_top (1024 - n) n e v s some top
             ∙ ap (onward (match_open (suc (1024 - n)) s (n - 1))) (node_child (1024 - n) v e d c count byte child (marked ∙ mark))
 
-        pub open_deep : n ≡ 1024 → match_open (1024 - n) s n e ≡ Differs
+        pub open_deep : n ≡ 1024 → match_open (1024 - n) s n e ≡ None
         unfolding match_instance
         open_deep h =
             let z : 1024 - n ≡ 0 = omega arith in
@@ -293,13 +282,13 @@ module _ (b t x w : List ℕ) (g : ℕ) where
               ≡ match_instance (suc (1024 - (n + 1))) b t x w g a q
           child_is = rw (← node, ← next, rank)
 
-          pub open_differs : r ≡ Differs → match_open (1024 - n) s n e ≡ Differs
+          pub open_differs : r ≡ None → match_open (1024 - n) s n e ≡ None
           open_differs h =
               below ∙ ap (λ (o : Reach). onward (match_open (suc (1024 - n)) s (n - 1)) (onward (match_node (1024 - n) (v + 1)) o))
               (child_is ∙ head_differs (1024 - (n + 1)) a q r head h)
 
           -- The stack with the node's next child, and with the child's node above it.
-          module _ (long : n < length s) (p o : ℕ) (there : r ≡ To p) (opens : o ≡ opens_of t a) (s₁ s₂ : List ℕ)
+          module _ (long : n < length s) (p : ℕ) (o : Bool) (there : r ≡ Some p) (opens : o ≡ opens_of t a) (s₁ s₂ : List ℕ)
               (first : s₁ ≡ set s (n - 1) (v + 1)) (second : s₂ ≡ set s₁ n (8 * a)) where
             rest : (i : ℕ) → onward (match_open (suc (1024 - n)) s (n - 1)) (match_node (1024 - n) (v + 1) i) ≡ match_open (1024 - n) s₁ n i
             rest i =
@@ -308,16 +297,16 @@ module _ (b t x w : List ℕ) (g : ℕ) where
                 ∙ ap (λ (y : ℕ). match_open (1024 - n) (set s (n - 1) (v + 1)) y i) (sym z)
                 ∙ open_push (n - 1) (1024 - n) s (v + 1) i (omega arith))
 
-            leaf : o ≡ 0 → match_open (1024 - n) s n e ≡ match_open (1024 - n) s₂ n p
-            leaf h =
+            pub open_leaf : o ≡ false → match_open (1024 - n) s n e ≡ match_open (1024 - n) s₂ n p
+            open_leaf h =
                 below
                 ∙ ap (λ (y : Reach). onward (match_open (suc (1024 - n)) s (n - 1)) (onward (match_node (1024 - n) (v + 1)) y))
                 (child_is ∙ head_leaf (1024 - (n + 1)) a q r head p o there opens h)
                 ∙ rest p
                 ∙ sym (ap (λ (y : List ℕ). match_open (1024 - n) y n p) second ∙ open_kept n (1024 - n) s₁ n (8 * a) p (omega arith))
 
-            opened : (o ≡ 0 → ⊥) → match_open (1024 - n) s n e ≡ match_open (1024 - (n + 1)) s₂ (suc n) p
-            opened h =
+            pub open_inner : o ≡ true → match_open (1024 - n) s n e ≡ match_open (1024 - (n + 1)) s₂ (n + 1) p
+            open_inner h =
                 let f = 1024 - (n + 1) in
                 let l : n < length s₁ = (let y = ap length first ∙ length-set s (n - 1) (v + 1) in omega arith) in
                 below
@@ -327,24 +316,4 @@ module _ (b t x w : List ℕ) (g : ℕ) where
                 ∙ onward_same (λ i. onward (match_open (suc (1024 - n)) s (n - 1)) (match_node (1024 - n) (v + 1) i)) (match_open (suc f) s₁ n)
                 (λ i. rest i ∙ ap (λ (y : ℕ). match_open y s₁ n i) rank) (match_node f (8 * a) p)
                 ∙ sym (ap (λ (y : List ℕ). match_open f y (suc n) p) second ∙ open_push n f s₁ (8 * a) p l)
-
-            pub open_child : match_open (1024 - n) s n e ≡ match_open (1024 - (n + o)) s₂ (n + o) p
-            open_child = go (eqb o 0) refl
-              where
-                go : (y : Bool) → eqb o 0 ≡ y → match_open (1024 - n) s n e ≡ match_open (1024 - (n + o)) s₂ (n + o) p
-                go true h =
-                    let z : n ≡ n + o = (let y = eqb-true o 0 h in omega arith) in
-                    leaf (eqb-true o 0 h) ∙ ap (λ (i : ℕ). match_open (1024 - i) s₂ i p) z
-                go false h =
-                    let z : n + 1 ≡ n + o = (let y = eqb-false o 0 h in let l = opens_few t a in omega arith) in
-                    opened (eqb-false o 0 h) ∙ ap (λ (i : ℕ). match_open (1024 - (n + 1)) s₂ i p) (sym (add-one n))
-                    ∙ ap (λ (i : ℕ). match_open (1024 - i) s₂ i p) z
-
--- What is found with a lent stack.
-
-module _ (n : ℕ) (r : LentMatch) (o w : Reach) where
-  pub match_ended : (r.full ≡ false) × (r.reach ≡ o) → o ≡ w → Matches n r w
-  match_ended h e = record { roomy = λ q. h.1 ∙ e; longest = λ q. h.1 ∙ e }
-
-  pub match_stopped : (r.full ≡ true) × (r.reach ≡ o) → (n ≡ 1024 → o ≡ w) → Matches n r w
-  match_stopped h e = record { roomy = λ q. absurd (true≢false (sym h.0 ∙ q)); longest = λ q. h.1 ∙ e q }
+                ∙ ap (λ (i : ℕ). match_open f s₂ i p) (sym (add-one n))

@@ -1,7 +1,6 @@
 -- One law for each way through a turn of a loop or through a call; the hypotheses are the facts on the code's path.
-use Prim.Native.Nat.{ℕ, zero, suc, ◌+◌, ◌-◌, ◌*◌, ◌/◌, ◌%◌, ◌<◌, ◌≤◌}
+use Prim.Native.Nat.{ℕ, suc, ◌+◌, ◌-◌, ◌*◌, ◌/◌, ◌%◌, ◌<◌, ◌≤◌}
 use native.Mathlib.Omega.{arith}
-use native.Mathlib.Numerals.{sub-one}
 use mathlib.Core.Path.{◌≡◌, refl}
 use mathlib.Core.Bool.{Bool, true, false}
 use mathlib.Core.List.{List}
@@ -37,27 +36,29 @@ name_end_lem w f g i h s r p q e = rw (← p, ← q) e
 
 -- representatives
 
-pub root_end : (n : ℕ) (c : List ℕ) (i : ℕ) → n ≤ 0 → root_from n c i ≡ rooted c i
-unfolding root_from
-root_end zero c i h = refl
-root_end (suc n) c i h = absurd (omega arith)
-
-module _ (c : List ℕ) (i j p : ℕ) (at : j ≡ i) (parent : p ≡ get_or c j 0) where
-  pub root_here : (n : ℕ) → 0 < n → p ≡ 0 → root_from n c i ≡ rooted c i
+-- On the way so many of n steps have been made.
+module _ (n turn : ℕ) (c : List ℕ) (i : ℕ) where
+  pub root_end : n ≤ turn → root_from (n - turn) c i ≡ rooted c i
   unfolding root_from
-  root_here zero m h = absurd (omega arith)
-  root_here (suc n) m h = rw (root_from, ← at, ← parent, h)
+  root_end h = let z : n - turn ≡ 0 = omega arith in rw z refl
 
-  module _ (k q : ℕ) (some : p ≡ 0 → ⊥) (up : k ≡ p) (next : q ≡ get_or c k 0) where
-    pub root_next : (n : ℕ) → 0 < n → q ≡ 0 → root_from n c i ≡ rooted c p
-    unfolding root_from
-    root_next zero m h = absurd (omega arith)
-    root_next (suc n) m h = rw (root_from, ← at, ← parent, ne_eqb p 0 some, ← up, ← next, h)
+  module _ (j p : ℕ) (left : turn < n) (at : j ≡ i) (parent : p ≡ get_or c j 0) where
+    -- A step is left.
+    step : n - turn ≡ suc (n - (turn + 1))
+    step = omega arith
 
-    pub root_on : (n l : ℕ) (d : List ℕ) → 0 < n → (q ≡ 0 → ⊥) → l ≡ i → d ≡ set c l q → root_from n c i ≡ root_from (n - 1) d q
+    pub root_here : p ≡ 0 → root_from (n - turn) c i ≡ rooted c i
     unfolding root_from
-    root_on zero l d m h e u = absurd (omega arith)
-    root_on (suc n) l d m h e u = rw (root_from, sub-one (suc n), u, e, ← at, ← parent, ne_eqb p 0 some, ← up, ← next, ne_eqb q 0 h)
+    root_here h = rw step (rw (root_from, ← at, ← parent, h))
+
+    module _ (k q : ℕ) (some : p ≡ 0 → ⊥) (up : k ≡ p) (next : q ≡ get_or c k 0) where
+      pub root_next : q ≡ 0 → root_from (n - turn) c i ≡ rooted c p
+      unfolding root_from
+      root_next h = rw step (rw (root_from, ← at, ← parent, ne_eqb p 0 some, ← up, ← next, h))
+
+      pub root_on : (l : ℕ) (d : List ℕ) → (q ≡ 0 → ⊥) → l ≡ i → d ≡ set c l q → root_from (n - turn) c i ≡ root_from (n - (turn + 1)) d q
+      unfolding root_from
+      root_on l d h e u = rw step (rw (root_from, u, e, ← at, ← parent, ne_eqb p 0 some, ← up, ← next, ne_eqb q 0 h))
 
 -- names
 

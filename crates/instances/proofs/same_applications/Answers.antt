@@ -1,6 +1,5 @@
-use Prim.Native.Nat.{◌-◌}
 use Rattle.instances.proofs.OpenPairs.{limit_is, elements_set, child_known, open_first, open_none}
-use Rattle.instances.proofs.OpenPairs.{turn_join, turn_deep, turn_differs, turn_child, join_less, child_less}
+use Rattle.instances.proofs.OpenPairs.{turn_join, turn_deep, turn_differs, turn_same, turn_open, join_less, same_less, open_less}
 use Rattle.instances.specs.OpenPairs.{Elements}
 use borrow.Author.Rules.{rules}
 use lib.ListN.{length, replicate}
@@ -24,50 +23,57 @@ overflow_add-top c =
     let k = c.argument_count.ensures.1 in
     omega (arith, c.if-k-argument_count.true)
 
-pub overflow_add-n : goal.overflow_add-n
-overflow_add-n c =
-    let known = child_known _ _ _ _ _ _ _ _ _ _ _ _ c.loop-n.c _ _ c.loop-n.invariant.3 c.child_of.ensures
-    c.child_of-then-k-argument_count.ensures c.compare-found.ensures in
-    let l = c.loop-n.invariant.1 in
-    let o = known.1 in
-    omega arith
+pub loop-n-smaller-else-not-same : goal.loop-n-smaller-else-not-same
+loop-n-smaller-else-not-same c =
+    same_less _ _ _ _ limit_is c.loop-n-test.true c.loop-n.invariant.1 c.get-top.ensures _ _ c.if-k-argument_count.true
+    c.argument_count.ensures.1 c.if-n-eq-COMPARISON_DEPTH.false c.loop-n.invariant.0 c.put-then-k-argument_count.ensures
 
-pub loop-n-smaller-then-found : goal.loop-n-smaller-then-found
-loop-n-smaller-then-found c =
+pub loop-n-preserved-else-not-same : goal.loop-n-preserved-else-not-same
+loop-n-preserved-else-not-same c =
+    let kept = c.put-then-k-argument_count.auto.w in
     let known = child_known _ _ _ _ _ _ _ _ _ _ _ _ c.loop-n.c _ _ c.loop-n.invariant.3 c.child_of.ensures
-    c.child_of-then-k-argument_count.ensures c.compare-found.ensures in
-    child_less _ _ _ _ limit_is c.loop-n-test.true c.loop-n.invariant.1 c.get-top.ensures _ _ _ _ _
-    c.if-k-argument_count.true c.argument_count.ensures.1 c.if-n-eq-COMPARISON_DEPTH.false c.loop-n.invariant.0 known.1
-    c.put-then-found.ensures c.put-then-found-2.ensures
-
-pub loop-n-preserved-then-found : goal.loop-n-preserved-then-found
-loop-n-preserved-then-found c =
-    let known = child_known _ _ _ _ _ _ _ _ _ _ _ _ c.loop-n.c _ _ c.loop-n.invariant.3 c.child_of.ensures
-    c.child_of-then-k-argument_count.ensures c.compare-found.ensures in
-    let k = c.if-n-eq-COMPARISON_DEPTH.false in
-    let l = c.loop-n.invariant.1 in
-    let m = c.loop-n.invariant.2 in
-    let o = known.1 in
-    let y = c.c-1.given in (
-      search rules,
-      omega arith,
-      search rules,
-      known.0,
+    c.child_of-then-k-argument_count.ensures c.compare.ensures in (
+      kept ∙ c.loop-n.invariant.0,
+      c.loop-n.invariant.1,
+      c.compare.auto.c ∙ c.loop-n.invariant.2,
+      known,
       c.loop-n.invariant.4
-          ∙ turn_child _ _ _ _ _ _ _ _ _ _ _ _ limit_is c.loop-n-test.true c.loop-n.invariant.1
+          ∙ turn_same _ _ _ _ _ _ _ _ _ _ _ _ limit_is c.loop-n-test.true c.loop-n.invariant.1
           c.get-top.ensures c.argument_count.ensures.0 c.if-k-argument_count.true c.if-n-eq-COMPARISON_DEPTH.false _ _
-          c.child_of.ensures c.child_of-then-k-argument_count.ensures _ _ c.compare-found.ensures
-          c.loop-n.invariant.3 c.if-found.true
-          c.loop-n.invariant.0 _ _ c.put-then-found.ensures c.put-then-found-2.ensures,
+          c.child_of.ensures c.child_of-then-k-argument_count.ensures _ _ c.compare.ensures
+          c.loop-n.invariant.3 c.loop-n.invariant.0 _ c.put-then-k-argument_count.ensures _ c.in-Settled.is c.if-not-same.false,
     )
 
-pub returns-else-found : goal.returns-else-found
-returns-else-found c =
+pub loop-n-smaller-in-Opens : goal.loop-n-smaller-in-Opens
+loop-n-smaller-in-Opens c =
+    open_less _ _ _ _ limit_is c.loop-n-test.true c.loop-n.invariant.1 c.get-top.ensures _ _ c.if-k-argument_count.true
+    c.argument_count.ensures.1 c.if-n-eq-COMPARISON_DEPTH.false c.loop-n.invariant.0 c.put-then-k-argument_count.ensures
+    _ _ c.put-in-Opens.ensures
+
+pub loop-n-preserved-in-Opens : goal.loop-n-preserved-in-Opens
+loop-n-preserved-in-Opens c =
+    let room = c.if-n-eq-COMPARISON_DEPTH.false in
+    let few = c.loop-n.invariant.1 in
+    let known = child_known _ _ _ _ _ _ _ _ _ _ _ _ c.loop-n.c _ _ c.loop-n.invariant.3 c.child_of.ensures
+    c.child_of-then-k-argument_count.ensures c.compare.ensures in (
+      c.put-in-Opens.auto.w ∙ c.put-then-k-argument_count.auto.w ∙ c.loop-n.invariant.0,
+      omega arith,
+      c.compare.auto.c ∙ c.loop-n.invariant.2,
+      known,
+      c.loop-n.invariant.4
+          ∙ turn_open _ _ _ _ _ _ _ _ _ _ _ _ limit_is c.loop-n-test.true c.loop-n.invariant.1
+          c.get-top.ensures c.argument_count.ensures.0 c.if-k-argument_count.true c.if-n-eq-COMPARISON_DEPTH.false _ _
+          c.child_of.ensures c.child_of-then-k-argument_count.ensures _ _ c.compare.ensures
+          c.loop-n.invariant.3 c.loop-n.invariant.0 _ c.put-then-k-argument_count.ensures _ _ c.in-Opens.is c.put-in-Opens.ensures,
+    )
+
+pub returns-then-not-same : goal.returns-then-not-same
+returns-then-not-same c =
     sym (c.loop-n.invariant.4
     ∙ turn_differs _ _ _ _ _ _ _ _ _ _ _ _ limit_is c.loop-n-test.true c.loop-n.invariant.1
     c.get-top.ensures c.argument_count.ensures.0 c.if-k-argument_count.true c.if-n-eq-COMPARISON_DEPTH.false _ _
-    c.child_of.ensures c.child_of-then-k-argument_count.ensures _ _ c.compare-found.ensures
-    c.loop-n.invariant.3 c.if-found.false)
+    c.child_of.ensures c.child_of-then-k-argument_count.ensures _ _ c.compare.ensures
+    c.loop-n.invariant.3 _ c.in-Settled.is c.if-not-same.true)
 
 pub loop-n-smaller : goal.loop-n-smaller
 loop-n-smaller c =

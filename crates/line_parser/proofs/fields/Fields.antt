@@ -14,7 +14,7 @@ use Rattle.sheet_format.specs.Limits.{max_number}
 use Rattle.sheet_format.specs.Bytes.{tab, extend_field, fields, is_name, number}
 use Rattle.sheet_format.specs.SheetLines.{cons_number, numbers}
 use Rattle.sheet_format.proofs.Numbers.{decimal_number}
-use Rattle.line_parser.specs.declared.fields.Number.TheVariants.{Value, Bad}
+use Rattle.std.specs.Prelude.{Some, None}
 use Rattle.line_parser.specs.Fields.{field_len, first_field, number_answer, first_number, first_name}
 use Rattle.line_parser.proofs.fields.Laws.{len_le}
 
@@ -44,51 +44,53 @@ fields_more s h = fields_first s ∙ rw (lt-ltb (field_len s) (length s) h)
 -- numbers
 
 -- An answer with a value says the number and the length of the field.
-value_is : (n : ℕ) (o : Option ℕ) (v e : ℕ) → number_answer n o ≡ Value v e → (o ≡ some v) × (n ≡ e)
+value_is : (n : ℕ) (o : Option ℕ) (v e : ℕ) → number_answer n o ≡ Some (v, e) → (o ≡ some v) × (n ≡ e)
 unfolding number_answer
 value_is n none v e h = let z : ◌≡◌ {A = ℕ} 0 1 = cc in absurd (omega arith)
-value_is n (some w) v e h = (cc, cc)
+value_is n (some w) v e h =
+    let p : ◌≡◌ {A = ℕ × ℕ} (w, n) (v, e) = cc in
+    (ap (λ (q : ℕ × ℕ). some q.0) p, ap (λ (q : ℕ × ℕ). q.1) p)
 
 -- An answer without a value says that there is no number.
-bad_is : (n : ℕ) (o : Option ℕ) → number_answer n o ≡ Bad → o ≡ none
+bad_is : (n : ℕ) (o : Option ℕ) → number_answer n o ≡ None → o ≡ none
 unfolding number_answer
 bad_is n none h = refl
 bad_is n (some w) h = let z : ◌≡◌ {A = ℕ} 0 1 = cc in absurd (omega arith)
 
 module _ (s : List ℕ) where
   -- An answer with a value says the number of the first field and its length.
-  first_is : (v e : ℕ) → first_number s ≡ Value v e → (number (first_field s) ≡ some v) × (field_len s ≡ e)
+  first_is : (v e : ℕ) → first_number s ≡ Some (v, e) → (number (first_field s) ≡ some v) × (field_len s ≡ e)
   unfolding first_number
   first_is v e h = value_is (field_len s) (number (first_field s)) v e h
 
   -- A number that was read lies within the line.
-  pub first_le : (v e : ℕ) → first_number s ≡ Value v e → e ≤ length s
+  pub first_le : (v e : ℕ) → first_number s ≡ Some (v, e) → e ≤ length s
   first_le v e h = omega (arith, (first_is v e h).1, len_le s)
 
   -- A number that was read is at most 65,535.
-  pub first_bound : (v e : ℕ) → first_number s ≡ Value v e → v ≤ max_number
+  pub first_bound : (v e : ℕ) → first_number s ≡ Some (v, e) → v ≤ max_number
   first_bound v e h = (decimal_number (first_field s) v (first_is v e h).0).1
 
   -- Where no number comes first, the fields are not all numbers.
-  pub first_bad : first_number s ≡ Bad → numbers (fields s) ≡ none
+  pub first_bad : first_number s ≡ None → numbers (fields s) ≡ none
   unfolding first_number numbers cons_number
   first_bad h = ap numbers (fields_first s) ∙ rw (bad_is (field_len s) (number (first_field s)) h)
 
   -- Where a number comes first, it is the first of the numbers.
-  pub first_value : (v e : ℕ) → first_number s ≡ Value v e
+  pub first_value : (v e : ℕ) → first_number s ≡ Some (v, e)
       → numbers (fields s) ≡ cons_number (some v) (numbers (cond (ltb (field_len s) (length s)) (fields (drop (field_len s + 1) s)) []))
   unfolding numbers
   first_value v e h = ap numbers (fields_first s) ∙ rw (first_is v e h).0
 
   -- A number that is the only field is the only one of the numbers.
-  pub first_last : (v e : ℕ) → first_number s ≡ Value v e → length s ≤ e → numbers (fields s) ≡ some (v ∷ [])
+  pub first_last : (v e : ℕ) → first_number s ≡ Some (v, e) → length s ≤ e → numbers (fields s) ≡ some (v ∷ [])
   unfolding numbers cons_number
   first_last v e h l =
       let r = first_is v e h in
       ap numbers (fields_last s (omega arith)) ∙ rw r.0
 
   -- A number with other fields after it comes before the numbers of those fields.
-  pub first_more : (v e : ℕ) → first_number s ≡ Value v e → e < length s
+  pub first_more : (v e : ℕ) → first_number s ≡ Some (v, e) → e < length s
       → numbers (fields s) ≡ cons_number (some v) (numbers (fields (drop (e + 1) s)))
   unfolding numbers
   first_more v e h l =

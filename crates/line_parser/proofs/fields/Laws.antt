@@ -7,15 +7,18 @@ use mathlib.Core.Bool.{Bool, true, false, cond}
 use mathlib.Core.Path.{◌≡◌, refl, sym, ap, ◌∙◌}
 use mathlib.Core.List.{List, [], ◌∷◌}
 use mathlib.Core.Option.{Option, none, some}
-use lib.Dec.{eqb}
+use lib.Dec.{eqb, ltb}
 use lib.ListN.{length, drop, take, get_or, length-drop, drop_of_length-le}
 use lib.Seq.{drop-cons, take_all, length-take-le}
 use borrow.Author.Tests.{le-leb, lt-leb, eq-eqb, ne_eqb}
 use Rattle.sheet_format.specs.Limits.{max_number}
 use Rattle.sheet_format.specs.Bytes.{tab, is_digit, digits_from, at_most, number}
 use Rattle.sheet_format.proofs.Bytes.{digit_bounds}
-use Rattle.line_parser.specs.declared.fields.Number.{Number}
-use Rattle.line_parser.specs.declared.fields.Number.TheVariants.{Value, Bad}
+use Rattle.std.specs.Prelude.{Option as RustOption, Some, None, unwrap_or}
+use Rattle.std.specs.List.{position_or_len}
+use Rattle.std.specs.Char.{is_ascii_digit}
+use Rattle.std.proofs.lemmas.List.Recursion.{is_position_or_len}
+use Rattle.std.proofs.lemmas.Bool.{ltb-false}
 use Rattle.line_parser.specs.Fields.{field_len, first_field, number_answer, first_number}
 
 -- The part of a list from a to its end is the list without its first a elements.
@@ -24,27 +27,19 @@ rest_part a l = take_all (length l - a) (drop a l) (omega (arith, length-drop a 
 
 -- the end of the first field
 
-module _ (s : List ℕ) (i : ℕ) where
-  -- A field ends at a tab.
-  pub len_here : i < length s → get_or s i 0 ≡ tab → i + field_len (drop i s) ≡ i
-  unfolding field_len
-  len_here h e =
-      let z : field_len (drop i s) ≡ 0 = rw (drop-cons s i 0 h) (rw (eq-eqb _ _ e)) in
-      omega arith
+-- A field ends at its first byte if that is a tab, and goes on otherwise.
+len_step : (c : ℕ) (cs : List ℕ) → field_len (c ∷ cs) ≡ cond (eqb c tab) 0 (1 + field_len cs)
+unfolding field_len
+len_step c cs = go (eqb c tab)
+  where
+    go : (t : Bool) → cond t 0 (suc (field_len cs)) ≡ cond t 0 (1 + field_len cs)
+    go true = refl
+    go false = omega arith
 
-  -- A field goes on at a byte that is no tab.
-  pub len_on : i < length s → (get_or s i 0 ≡ tab → ⊥) → i + field_len (drop i s) ≡ i + 1 + field_len (drop (i + 1) s)
-  unfolding field_len
-  len_on h e =
-      let z : field_len (drop i s) ≡ suc (field_len (drop (i + 1) s)) = rw (drop-cons s i 0 h) (rw (ne_eqb _ _ e, add-one i)) in
-      omega arith
-
-  -- A field ends at the end of the line.
-  pub len_end : length s ≤ i → i + field_len (drop i s) ≡ i
-  unfolding field_len
-  len_end h =
-      let z : field_len (drop i s) ≡ 0 = rw (drop_of_length-le s h) in
-      omega arith
+-- An empty line has an empty field.
+len_zero : field_len [] ≡ 0
+unfolding field_len
+len_zero = refl
 
 -- The first field lies within the line.
 pub len_le : (s : List ℕ) → field_len s ≤ length s
@@ -55,6 +50,15 @@ len_le (c ∷ cs) = go (eqb c tab) (len_le cs)
     go : (t : Bool) → field_len cs ≤ length cs → cond t 0 (suc (field_len cs)) ≤ suc (length cs)
     go true h = omega arith
     go false h = omega arith
+
+-- The answer of `position` and `unwrap_or` for the first tab.
+pub field_position : (s : List ℕ)
+    → unwrap_or (cond (ltb (position_or_len (λ b. eqb b tab) s) (length s)) (Some (position_or_len (λ b. eqb b tab) s)) None) (length s) ≡ field_len s
+field_position s = rw (← is_position_or_len field_len (λ b. eqb b tab) len_zero len_step s) (go (ltb (field_len s) (length s)) refl)
+  where
+    go : (t : Bool) → ltb (field_len s) (length s) ≡ t → unwrap_or (cond t (Some (field_len s)) None) (length s) ≡ field_len s
+    go true e = refl
+    go false e = omega (arith, ltb-false (field_len s) (length s) e, len_le s)
 
 -- As a part of the line the first field has the length `field_len`.
 pub first_part : (s : List ℕ) (n : ℕ) → n ≡ field_len s → n ≡ length (take n s)
@@ -81,26 +85,20 @@ module _ (s : List ℕ) (i v : ℕ) (h : i < length s) where
   digit_step true e = rw (drop-cons s i 0 h, digits_from, e, add-one i)
   digit_step false e = rw (drop-cons s i 0 h, digits_from, e)
 
-  -- With a byte below `0` there is no number.
-  pub digits_low : get_or s i 0 < 48 → at_most max_number (digits_from v (drop i s)) ≡ none
+  -- With a byte that is no digit there is no number.
+  pub digits_off : is_ascii_digit (get_or s i 0) ≡ false → at_most max_number (digits_from v (drop i s)) ≡ none
   unfolding is_digit at_most
-  digits_low l = ap (at_most max_number) (digit_step false (rw (lt-leb 48 (get_or s i 0) l)))
+  digits_off e = ap (at_most max_number) (digit_step false e)
 
-  -- With a byte above `9` there is no number.
-  pub digits_high : 48 ≤ get_or s i 0 → 57 < get_or s i 0 → at_most max_number (digits_from v (drop i s)) ≡ none
-  unfolding is_digit at_most
-  digits_high k l = ap (at_most max_number) (digit_step false (rw (le-leb 48 (get_or s i 0) k, lt-leb (get_or s i 0) 57 l)))
+  module _ (w : ℕ) (e : is_ascii_digit (get_or s i 0) ≡ true) (m : w ≡ 10 * v + (get_or s i 0 - 48)) where
+    -- With a digit the reading goes on with the value w it makes.
+    pub digits_on : at_most max_number (digits_from v (drop i s)) ≡ at_most max_number (digits_from w (drop (i + 1) s))
+    unfolding is_digit
+    digits_on = ap (at_most max_number) (digit_step true e) ∙ rw m
 
-  -- With a digit the reading goes on with the value it makes.
-  pub digits_on : 48 ≤ get_or s i 0 → get_or s i 0 ≤ 57
-      → at_most max_number (digits_from v (drop i s)) ≡ at_most max_number (digits_from (10 * v + (get_or s i 0 - 48)) (drop (i + 1) s))
-  unfolding is_digit
-  digits_on k l = ap (at_most max_number) (digit_step true (rw (le-leb 48 (get_or s i 0) k, le-leb (get_or s i 0) 57 l)))
-
-  -- With a digit that makes the value too large there is no number.
-  pub digits_large : 48 ≤ get_or s i 0 → get_or s i 0 ≤ 57 → max_number < 10 * v + (get_or s i 0 - 48)
-      → at_most max_number (digits_from v (drop i s)) ≡ none
-  digits_large k l m = digits_on k l ∙ large (drop (i + 1) s) (10 * v + (get_or s i 0 - 48)) m
+    -- With a digit that makes the value too large there is no number.
+    pub digits_large : max_number < w → at_most max_number (digits_from v (drop i s)) ≡ none
+    digits_large l = digits_on ∙ large (drop (i + 1) s) w l
 
 -- At the end of the field the value is the number.
 pub digits_end : (s : List ℕ) (i v : ℕ) → length s ≤ i → v ≤ max_number → at_most max_number (digits_from v (drop i s)) ≡ some v
@@ -140,18 +138,18 @@ number_digits (c ∷ d ∷ cs) h e = rw (ne_eqb c 48 e, number)
 
 -- answers
 
--- The answer for no number is `Bad`.
-pub answer_bad : (n : ℕ) (o : Option ℕ) → o ≡ none → Bad ≡ number_answer n o
+-- The answer for no number is `None`.
+pub answer_bad : (n : ℕ) (o : Option ℕ) → o ≡ none → None ≡ number_answer n o
 unfolding number_answer
 answer_bad n o e = rw e
 
 -- The answer for a number is its value with the length of the field.
-pub answer_value : (n v e : ℕ) (o : Option ℕ) → o ≡ some v → n ≡ e → Value v e ≡ number_answer n o
+pub answer_value : (n v e : ℕ) (o : Option ℕ) → o ≡ some v → n ≡ e → Some (v, e) ≡ number_answer n o
 unfolding number_answer
 answer_value n v e o p q = rw (p, q)
 
 -- The answer for the number in the first field is `first_number`.
-pub number_first : (s : List ℕ) (n : ℕ) (r : Number) → n ≡ field_len s → r ≡ number_answer (length (take n s)) (number (take n s))
+pub number_first : (s : List ℕ) (n : ℕ) (r : RustOption (ℕ × ℕ)) → n ≡ field_len s → r ≡ number_answer (length (take n s)) (number (take n s))
     → r ≡ first_number s
 unfolding first_number first_field
 number_first s n r e f = f ∙ rw (length-take-le n s (omega (arith, len_le s))) (rw e)

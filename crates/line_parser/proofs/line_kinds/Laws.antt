@@ -14,44 +14,41 @@ use Rattle.sheet_format.specs.Bytes.{fields, is_name, number}
 use Rattle.sheet_format.specs.SheetLines.{variable_line, number_line, and_line, or_line, implies_line, some_line, every_line, SheetLine}
 use Rattle.sheet_format.specs.SheetLines.{declare_line, node_line, clause_line, goal_line, cons_number, numbers, declared, declaration}
 use Rattle.sheet_format.specs.SheetLines.{one_number, two_numbers, with_variable, application}
-use Rattle.line_parser.specs.declared.fields.Number.TheVariants.{Value, Bad}
+use Rattle.std.specs.Prelude.{Result, Some, None, Ok, Err}
 use Rattle.line_parser.specs.Fields.{field_len, first_field, first_number, first_name, name_answer}
-use Rattle.line_parser.specs.declared.names.Name.TheVariants.{Of, NotAName}
 use Rattle.line_parser.proofs.fields.Laws.{rest_part}
 use Rattle.line_parser.proofs.fields.Fields.{fields_first, fields_last, fields_more, first_bad, first_last, first_more, first_length}
 use Rattle.line_parser.proofs.fields.Fields.{name_absent, name_present}
 use Rattle.line_parser.specs.declared.lines.Nodes.{Nodes}
 use Rattle.line_parser.specs.declared.lines.NodeLine.TheVariants.{Variable, Numeral, Apply, And, Or, Implies, Exists, Forall}
+use Rattle.line_parser.specs.declared.lines.Line.{Line}
 use Rattle.line_parser.specs.declared.lines.Line.TheVariants.{Declare, Node, Clause, Goal}
-use Rattle.line_parser.specs.declared.lines.One.{One}
-use Rattle.line_parser.specs.declared.lines.One.TheVariants.{Only, Refused as RefusedOne}
-use Rattle.line_parser.specs.declared.lines.Two.TheVariants.{Both, Refused as RefusedTwo}
+use Rattle.outcomes.specs.declared.refusals.Reason.{Reason}
 use Rattle.line_parser.specs.Lines.{malformed, nodes_of, node_answer, line_answer, one_answer, two_answer, arity_answer, push_node, apply_on}
 use Rattle.line_parser.specs.Lines.{apply_answer, connective_of, quantifier_of}
-use Rattle.line_parser.proofs.lines.Laws.{alone, cond_same, one_is}
+use Rattle.line_parser.proofs.lines.Laws.{cond_same, one_is}
 
 -- Where the answer is a refusal, there is no line with one number.
-one_none : (l : ℕ → SheetLine) (x : Option (List ℕ)) (r : ℕ) → one_answer x ≡ RefusedOne r → one_number l x ≡ none
+one_none : (l : ℕ → SheetLine) (x : Option (List ℕ)) (r : Reason) → one_answer x ≡ Err r → one_number l x ≡ none
 unfolding one_answer one_number
 one_none l none r h = refl
 one_none l (some []) r h = refl
 one_none l (some (m ∷ [])) r h = let z : ◌≡◌ {A = ℕ} 0 1 = cc in absurd (omega arith)
 one_none l (some (m ∷ o ∷ ns)) r h = refl
 
--- Where the answer is `Both n m`, the numbers are n and m.
-two_is : (x : Option (List ℕ)) (n m : ℕ) → two_answer x ≡ Both n m → x ≡ some (n ∷ m ∷ [])
+-- Where the answer is `Ok (n, m)`, the numbers are n and m.
+two_is : (x : Option (List ℕ)) (n m : ℕ) → two_answer x ≡ Ok (n, m) → x ≡ some (n ∷ m ∷ [])
 unfolding two_answer
 two_is none n m h = let z : ◌≡◌ {A = ℕ} 0 1 = cc in absurd (omega arith)
 two_is (some []) n m h = let z : ◌≡◌ {A = ℕ} 0 1 = cc in absurd (omega arith)
 two_is (some (p ∷ [])) n m h = let z : ◌≡◌ {A = ℕ} 0 1 = cc in absurd (omega arith)
 two_is (some (p ∷ q ∷ [])) n m h =
-    let y : p ≡ n = cc in
-    let z : q ≡ m = cc in
-    rw (y, z)
+    let z : ◌≡◌ {A = ℕ × ℕ} (p, q) (n, m) = cc in
+    ap (λ (o : ℕ × ℕ). some (o.0 ∷ o.1 ∷ [])) z
 two_is (some (p ∷ q ∷ o ∷ ns)) n m h = let z : ◌≡◌ {A = ℕ} 0 1 = cc in absurd (omega arith)
 
 -- Where the answer is a refusal, there is no line with two numbers.
-two_none : (l : ℕ → ℕ → SheetLine) (x : Option (List ℕ)) (r : ℕ) → two_answer x ≡ RefusedTwo r → two_numbers l x ≡ none
+two_none : (l : ℕ → ℕ → SheetLine) (x : Option (List ℕ)) (r : Reason) → two_answer x ≡ Err r → two_numbers l x ≡ none
 unfolding two_answer two_numbers
 two_none l none r h = refl
 two_none l (some []) r h = refl
@@ -63,39 +60,43 @@ two_none l (some (p ∷ q ∷ o ∷ ns)) r h = refl
 
 module _ (x : Option (List ℕ)) where
   -- A line that takes one number is malformed where there is not one number.
-  pub single_none : (l : ℕ → SheetLine) (r : ℕ) → one_answer x ≡ RefusedOne r → malformed ≡ line_answer (one_number l x)
+  pub single_none : (l : ℕ → SheetLine) (r : Reason) → one_answer x ≡ Err r → malformed ≡ line_answer (one_number l x)
   unfolding line_answer
   single_none l r h = rw (one_none l x r h)
 
-  -- One number makes a clause line.
-  pub clause_is : (n : ℕ) → one_answer x ≡ Only n → Clause n ≡ line_answer (one_number clause_line x)
-  unfolding line_answer one_number
-  clause_is n h = rw (one_is x n h)
-
-  -- One number makes a goal line.
-  pub goal_is : (n : ℕ) → one_answer x ≡ Only n → Goal n ≡ line_answer (one_number goal_line x)
-  unfolding line_answer one_number
-  goal_is n h = rw (one_is x n h)
-
-  -- One number makes the line of a number as a term.
-  pub numeral_is : (n : ℕ) → one_answer x ≡ Only n → Node (Numeral n) ≡ line_answer (one_number (λ m. node_line (number_line m)) x)
-  unfolding line_answer node_answer one_number
-  numeral_is n h = rw (one_is x n h)
+  -- One number makes the line of that number.
+  pub single_is : (l : ℕ → SheetLine) (n : ℕ) (r : Result Line Reason) → one_answer x ≡ Ok n → r ≡ line_answer (some (l n))
+      → r ≡ line_answer (one_number l x)
+  unfolding one_number
+  single_is l n r h k = rw (one_is x n h) k
 
   -- A variable line with a variable from 8 on is malformed.
-  pub variable_large : (v : ℕ) → one_answer x ≡ Only v → variable_names ≤ v
+  pub variable_large : (v : ℕ) → one_answer x ≡ Ok v → variable_names ≤ v
       → malformed ≡ line_answer (one_number (λ w. node_line (variable_line w)) (with_variable x))
   unfolding line_answer one_number with_variable
   variable_large v h l = rw (one_is x v h) (rw (le-ltb v variable_names l))
 
   -- One number below 8 makes a variable line.
-  pub variable_is : (v : ℕ) → one_answer x ≡ Only v → v < variable_names
-      → Node (Variable v) ≡ line_answer (one_number (λ w. node_line (variable_line w)) (with_variable x))
+  pub variable_is : (v : ℕ) → one_answer x ≡ Ok v → v < variable_names
+      → Ok (Node (Variable v)) ≡ line_answer (one_number (λ w. node_line (variable_line w)) (with_variable x))
   unfolding line_answer node_answer one_number with_variable
   variable_is v h l = rw (one_is x v h) (rw (lt-ltb v variable_names l))
 
+-- What the readers of one number make of it is the answer for the line of that number.
+pub made_numeral : (n : ℕ) (l : Line) → l ≡ Node (Numeral n) → Ok l ≡ line_answer (some (node_line (number_line n)))
+unfolding line_answer node_answer
+made_numeral n l e = ap Ok e
+
+pub made_clause : (n : ℕ) (l : Line) → l ≡ Clause n → Ok l ≡ line_answer (some (clause_line n))
+unfolding line_answer
+made_clause n l e = ap Ok e
+
+pub made_goal : (n : ℕ) (l : Line) → l ≡ Goal n → Ok l ≡ line_answer (some (goal_line n))
+unfolding line_answer
+made_goal n l e = ap Ok e
+
 -- A variable line is malformed where there is not one number.
-pub variable_none : (x : Option (List ℕ)) (r : ℕ) → one_answer x ≡ RefusedOne r
+pub variable_none : (x : Option (List ℕ)) (r : Reason) → one_answer x ≡ Err r
     → malformed ≡ line_answer (one_number (λ w. node_line (variable_line w)) (with_variable x))
 unfolding one_answer line_answer one_number with_variable
 variable_none none r h = refl
@@ -111,7 +112,7 @@ variable_none (some (v ∷ w ∷ ns)) r h = go (ltb v variable_names)
 
 module _ (c : ℕ) (x : Option (List ℕ)) where
   -- A connective line is malformed where there are not two numbers.
-  pub connective_none : (r : ℕ) → two_answer x ≡ RefusedTwo r → malformed ≡ line_answer (connective_of c x)
+  pub connective_none : (r : Reason) → two_answer x ≡ Err r → malformed ≡ line_answer (connective_of c x)
   unfolding connective_of line_answer
   connective_none r h =
       simp (
@@ -121,19 +122,19 @@ module _ (c : ℕ) (x : Option (List ℕ)) where
         cond_same,
       )
 
-  module _ (n m : ℕ) (h : two_answer x ≡ Both n m) where
+  module _ (n m : ℕ) (h : two_answer x ≡ Ok (n, m)) where
     -- The letter `&` with two numbers makes a line of and.
-    pub connective_and : c ≡ code "&" → Node (And n m) ≡ line_answer (connective_of c x)
+    pub connective_and : c ≡ code "&" → Ok (Node (And n m)) ≡ line_answer (connective_of c x)
     unfolding connective_of line_answer node_answer two_numbers
     connective_and e = rw (two_is x n m h, e)
 
     -- The letter `|` with two numbers makes a line of or.
-    pub connective_or : c ≡ code "|" → Node (Or n m) ≡ line_answer (connective_of c x)
+    pub connective_or : c ≡ code "|" → Ok (Node (Or n m)) ≡ line_answer (connective_of c x)
     unfolding connective_of line_answer node_answer two_numbers
     connective_or e = rw (two_is x n m h, e)
 
     -- The letter `>` with two numbers makes a line of implies.
-    pub connective_implies : c ≡ code ">" → Node (Implies n m) ≡ line_answer (connective_of c x)
+    pub connective_implies : c ≡ code ">" → Ok (Node (Implies n m)) ≡ line_answer (connective_of c x)
     unfolding connective_of line_answer node_answer two_numbers
     connective_implies e = rw (two_is x n m h, e)
 
@@ -145,7 +146,7 @@ module _ (c : ℕ) (x : Option (List ℕ)) where
 -- E and U
 
 -- There is no quantifier line where there are not two numbers.
-quantified_none : (l : ℕ → ℕ → SheetLine) (x : Option (List ℕ)) (r : ℕ) → two_answer x ≡ RefusedTwo r → two_numbers l (with_variable x) ≡ none
+quantified_none : (l : ℕ → ℕ → SheetLine) (x : Option (List ℕ)) (r : Reason) → two_answer x ≡ Err r → two_numbers l (with_variable x) ≡ none
 unfolding two_answer two_numbers with_variable
 quantified_none l none r h = refl
 quantified_none l (some []) r h = refl
@@ -163,24 +164,24 @@ quantified_none l (some (p ∷ q ∷ o ∷ ns)) r h = go (ltb p variable_names)
 
 module _ (c : ℕ) (x : Option (List ℕ)) where
   -- A quantifier line is malformed where there are not two numbers.
-  pub quantifier_none : (r : ℕ) → two_answer x ≡ RefusedTwo r → malformed ≡ line_answer (quantifier_of c x)
+  pub quantifier_none : (r : Reason) → two_answer x ≡ Err r → malformed ≡ line_answer (quantifier_of c x)
   unfolding quantifier_of line_answer
   quantifier_none r h =
       simp (quantified_none (λ v n. node_line (some_line v n)) x r h, quantified_none (λ v n. node_line (every_line v n)) x r h, cond_same)
 
-  module _ (v n : ℕ) (h : two_answer x ≡ Both v n) where
+  module _ (v n : ℕ) (h : two_answer x ≡ Ok (v, n)) where
     -- A quantifier line with a variable from 8 on is malformed.
     pub quantifier_large : variable_names ≤ v → malformed ≡ line_answer (quantifier_of c x)
     unfolding quantifier_of line_answer two_numbers with_variable
     quantifier_large l = rw (two_is x v n h) (simp (le-ltb v variable_names l, cond_same))
 
     -- The letter E with a variable and a node makes a line of some.
-    pub quantifier_some : v < variable_names → c ≡ code "E" → Node (Exists v n) ≡ line_answer (quantifier_of c x)
+    pub quantifier_some : v < variable_names → c ≡ code "E" → Ok (Node (Exists v n)) ≡ line_answer (quantifier_of c x)
     unfolding quantifier_of line_answer node_answer two_numbers with_variable
     quantifier_some l e = rw (two_is x v n h, e) (rw (lt-ltb v variable_names l))
 
     -- The letter U with a variable and a node makes a line of every.
-    pub quantifier_every : v < variable_names → c ≡ code "U" → Node (Forall v n) ≡ line_answer (quantifier_of c x)
+    pub quantifier_every : v < variable_names → c ≡ code "U" → Ok (Node (Forall v n)) ≡ line_answer (quantifier_of c x)
     unfolding quantifier_of line_answer node_answer two_numbers with_variable
     quantifier_every l e = rw (two_is x v n h, e) (rw (lt-ltb v variable_names l))
 
@@ -205,18 +206,18 @@ applied f (p ∷ q ∷ r ∷ t ∷ u ∷ ms) = rw (lt-leb (length (p ∷ q ∷ r
 
 module _ (s : List ℕ) where
   -- An application without a symbol is malformed.
-  pub apply_bad : first_number s ≡ Bad → malformed ≡ line_answer (application (numbers (fields s)))
+  pub apply_bad : first_number s ≡ None → malformed ≡ line_answer (application (numbers (fields s)))
   unfolding application line_answer
   apply_bad h = rw (first_bad s h)
 
   -- A symbol alone is an application to no nodes.
-  pub apply_last : (f e : ℕ) → first_number s ≡ Value f e → length s ≤ e
-      → Node (Apply f no_nodes) ≡ line_answer (application (numbers (fields s)))
+  pub apply_last : (f e : ℕ) → first_number s ≡ Some (f, e) → length s ≤ e
+      → Ok (Node (Apply f no_nodes)) ≡ line_answer (application (numbers (fields s)))
   unfolding application line_answer node_answer nodes_of
   apply_last f e h l = rw (first_last s f e h l)
 
   -- A symbol with fields after it is an application to the nodes read from them.
-  pub apply_more : (f e : ℕ) → first_number s ≡ Value f e → e < length s
+  pub apply_more : (f e : ℕ) → first_number s ≡ Some (f, e) → e < length s
       → apply_answer f no_nodes (numbers (fields (take (length s - (e + 1)) (drop (e + 1) s)))) ≡ line_answer
       (application (numbers (fields s)))
   unfolding apply_answer cons_number application line_answer
@@ -246,7 +247,7 @@ unfolding declaration declared arity_answer one_answer numbers cons_number line_
 declare_fields k f [] h = refl
 declare_fields k f (a ∷ []) h = go (number a)
   where
-    bound : (n : ℕ) (t : Bool) → line_answer (cond t (some (declare_line k f n)) none) ≡ cond t (Declare k (length f) n) malformed
+    bound : (n : ℕ) (t : Bool) → line_answer (cond t (some (declare_line k f n)) none) ≡ cond t (Ok (Declare k (length f) n)) malformed
     bound n true = refl
     bound n false = refl
 
@@ -262,31 +263,31 @@ declare_fields k f (a ∷ b ∷ fs) h = go (number a) (number b) (numbers fs)
     go (some n) (some m) (some ns) = refl
 
 -- The length of a part, from what it says.
-name_none : (l : ℕ) → name_answer l ≡ NotAName → l ≡ 0
+name_none : (l : ℕ) → name_answer l ≡ None → l ≡ 0
 unfolding name_answer
 name_none l h = go (eqb l 0) refl h
   where
-    go : (b : Bool) → eqb l 0 ≡ b → cond b NotAName (Of l) ≡ NotAName → l ≡ 0
+    go : (b : Bool) → eqb l 0 ≡ b → cond b None (Some l) ≡ None → l ≡ 0
     go true e h = eqb-true l 0 e
     go false e h = let z : ◌≡◌ {A = ℕ} 0 1 = cc in absurd (omega arith)
 
-name_some : (l n : ℕ) → name_answer l ≡ Of n → (n ≡ l) × (l ≡ 0 → ⊥)
+name_some : (l n : ℕ) → name_answer l ≡ Some n → (n ≡ l) × (l ≡ 0 → ⊥)
 unfolding name_answer
 name_some l n h = go (eqb l 0) refl h
   where
-    go : (b : Bool) → eqb l 0 ≡ b → cond b NotAName (Of l) ≡ Of n → (n ≡ l) × (l ≡ 0 → ⊥)
+    go : (b : Bool) → eqb l 0 ≡ b → cond b None (Some l) ≡ Some n → (n ≡ l) × (l ≡ 0 → ⊥)
     go true e h = let z : ◌≡◌ {A = ℕ} 0 1 = cc in absurd (omega arith)
     go false e h = (cc, eqb-false l 0 e)
 
 module _ (s m : List ℕ) (e : m ≡ first_name s) (k : Bool) where
   -- A declaration is malformed where no name comes first.
-  pub declare_absent : name_answer (length m) ≡ NotAName → malformed ≡ line_answer (declaration k (fields s))
+  pub declare_absent : name_answer (length m) ≡ None → malformed ≡ line_answer (declaration k (fields s))
   unfolding line_answer
   declare_absent h =
       let n = name_absent s (ap length (sym e) ∙ name_none (length m) h) in
       sym (ap (λ fs. line_answer (declaration k fs)) (fields_first s) ∙ ap line_answer (declare_other k (first_field s) _ n))
 
-  module _ (l : ℕ) (h : name_answer (length m) ≡ Of l) where
+  module _ (l : ℕ) (h : name_answer (length m) ≡ Some l) where
     named : (is_name (first_field s) ≡ true) × (l ≡ field_len s)
     named =
         let p = name_some (length m) l h in
@@ -309,16 +310,16 @@ module _ (s m : List ℕ) (e : m ≡ first_name s) (k : Bool) where
         ∙ rw (first_length s)))
 
 -- A declaration is malformed where the rest is not one number.
-pub arity_none : (k : Bool) (n : ℕ) (o : One) (r : ℕ) → o ≡ RefusedOne r → malformed ≡ arity_answer k n o
+pub arity_none : (k : Bool) (n : ℕ) (o : Result ℕ Reason) (r : Reason) → o ≡ Err r → malformed ≡ arity_answer k n o
 unfolding arity_answer
 arity_none k n o r h = rw h
 
 -- A declaration with an arity above 4 is malformed.
-pub arity_large : (k : Bool) (n a : ℕ) (o : One) → o ≡ Only a → max_arity < a → malformed ≡ arity_answer k n o
+pub arity_large : (k : Bool) (n a : ℕ) (o : Result ℕ Reason) → o ≡ Ok a → max_arity < a → malformed ≡ arity_answer k n o
 unfolding arity_answer
 arity_large k n a o h l = rw h (rw (lt-leb a max_arity l))
 
 -- A declaration with an arity of at most 4 is answered with that arity.
-pub arity_is : (k : Bool) (n a : ℕ) (o : One) → o ≡ Only a → a ≤ max_arity → Declare k n a ≡ arity_answer k n o
+pub arity_is : (k : Bool) (n a : ℕ) (o : Result ℕ Reason) → o ≡ Ok a → a ≤ max_arity → Ok (Declare k n a) ≡ arity_answer k n o
 unfolding arity_answer
 arity_is k n a o h l = rw h (rw (le-leb a max_arity l))

@@ -9,6 +9,7 @@ use mathlib.Core.Option.{Option, none, some}
 use lib.Dec.{ltb, leb, eqb}
 use lib.ListN.{length, drop, take, length-take, length-drop}
 use borrow.Author.Tests.{leb-true, eqb-true}
+use Rattle.std.specs.Prelude.{Result, Ok}
 use Rattle.sheet_format.specs.Limits.{max_arity, max_name}
 use Rattle.sheet_format.specs.Bytes.{tab, fields, is_name, number}
 use Rattle.sheet_format.specs.SheetLines.{variable_line, number_line, apply_line, true_line, and_line, or_line, implies_line, some_line, every_line}
@@ -19,6 +20,7 @@ use Rattle.sheet_format.proofs.Bytes.{name_short, name_length_lem}
 use Rattle.sheet_format.proofs.SheetLines.{FormedLine, parse_line_some}
 use Rattle.line_parser.specs.Fields.{field_len, first_field, first_name}
 use Rattle.line_parser.proofs.fields.Fields.{fields_first, first_length}
+use Rattle.outcomes.specs.declared.refusals.Reason.{Reason}
 use Rattle.line_parser.specs.declared.lines.Nodes.{Nodes}
 use Rattle.line_parser.specs.declared.lines.NodeLine.TheVariants.{Apply}
 use Rattle.line_parser.specs.declared.lines.Line.{Line}
@@ -242,18 +244,18 @@ first_name_lem s n h e = rw (← h) (rw e)
 -- what an answer says
 
 -- The line that was read.
-pub line_is : (s : List ℕ) (r : Line) → r ≡ line_answer (parse_line s) → parse_line s ≡ line_back s r
+pub line_is : (s : List ℕ) (r : Result Line Reason) → r ≡ line_answer (parse_line s) → parse_line s ≡ line_back s r
 line_is s r e = sym (line_back_lem s) ∙ ap (line_back s) (sym e)
 
 -- It is formed: its name is a name, its arity at most 4, its variable below 8.
-pub line_formed : (s : List ℕ) (r : Line) (l : SheetLine) → r ≡ line_answer (parse_line s) → line_back s r ≡ some l → FormedLine l
+pub line_formed : (s : List ℕ) (r : Result Line Reason) (l : SheetLine) → r ≡ line_answer (parse_line s) → line_back s r ≡ some l → FormedLine l
 line_formed s r l e h = some_is FormedLine (parse_line s) l (parse_line_some s) (line_is s r e ∙ h)
 
 -- A declared name stands at offset 2.
-pub declare_is : (s : List ℕ) (k : Bool) (n a : ℕ) → Declare k n a ≡ line_answer (parse_line s)
+pub declare_is : (s : List ℕ) (k : Bool) (n a : ℕ) → Ok (Declare k n a) ≡ line_answer (parse_line s)
     → parse_line s ≡ some (declare_line k (take n (drop 2 s)) a)
 unfolding line_back
-declare_is s k n a e = line_is s (Declare k n a) e
+declare_is s k n a e = line_is s (Ok (Declare k n a)) e
 
 -- It lies within the line, is a name, and is what the name reader returns for the rest after the letter; its arity is at most 4.
 pub record DeclareBounds (s : List ℕ) (n a : ℕ) : Type 0 where
@@ -265,12 +267,12 @@ pub record DeclareBounds (s : List ℕ) (n a : ℕ) : Type 0 where
   pub arity : a ≤ max_arity
 
 -- The bounds hold of every declaration that is read.
-pub declare_bounds : (s : List ℕ) (k : Bool) (n a : ℕ) → Declare k n a ≡ line_answer (parse_line s) → DeclareBounds s n a
+pub declare_bounds : (s : List ℕ) (k : Bool) (n a : ℕ) → Ok (Declare k n a) ≡ line_answer (parse_line s) → DeclareBounds s n a
 unfolding line_answer Named
 declare_bounds s k n a e =
     let p = declare_is s k n a e in
     let f = some_is FormedLine (parse_line s) (declare_line k (take n (drop 2 s)) a) (parse_line_some s) p in
-    let q : Declare k n a ≡ Declare k (length (take n (drop 2 s))) a = e ∙ ap line_answer p in
+    let q : ◌≡◌ {A = Result Line Reason} (Ok (Declare k n a)) (Ok (Declare k (length (take n (drop 2 s))) a)) = e ∙ ap line_answer p in
     let z : n ≡ length (take n (drop 2 s)) = cc in
     let l = name_length_lem (take n (drop 2 s)) f.0 in
     let m = name_short (take n (drop 2 s)) f.0 in
@@ -286,10 +288,10 @@ declare_bounds s k n a e =
     }
 
 -- An application has at most four nodes.
-pub apply_count : (s : List ℕ) (f : ℕ) (ns : Nodes) → Node (Apply f ns) ≡ line_answer (parse_line s) → ns.count ≤ max_arity
+pub apply_count : (s : List ℕ) (f : ℕ) (ns : Nodes) → Ok (Node (Apply f ns)) ≡ line_answer (parse_line s) → ns.count ≤ max_arity
 unfolding line_answer node_answer nodes_of line_back node_back node_list
 apply_count s f ns e =
-    let q : Node (Apply f ns) ≡ Node (Apply f (nodes_of (node_list ns))) = e ∙ ap line_answer (line_is s (Node (Apply f ns)) e) in
+    let q : ◌≡◌ {A = Result Line Reason} (Ok (Node (Apply f ns))) (Ok (Node (Apply f (nodes_of (node_list ns))))) = e ∙ ap line_answer (line_is s (Ok (Node (Apply f ns))) e) in
     let z : ns ≡ nodes_of (node_list ns) = cc in
     let y : ns.count ≡ length (node_list ns) = ap (λ (m : Nodes). m.count) z in
     omega (arith, length-take ns.count (ns.a ∷ ns.b ∷ ns.c ∷ ns.d ∷ []))

@@ -1,19 +1,18 @@
-use mathlib.Core.Path.{◌∙◌}
-use Rattle.line_parser.proofs.Laws.{line_empty, line_true, line_alone, line_fields_lem, line_long}
+use Rattle.std.proofs.Common.{rules, arith, ◌∙◌}
+use Rattle.line_parser.proofs.Laws.{line_true, line_fields_lem, line_other}
 use Rattle.line_parser.proofs.read_line.Goals as goal
 
-pub returns-then-s-eq0 : goal.returns-then-s-eq0
-returns-then-s-eq0 c = line_empty _ c.if-s-eq0.true
+pub returns-in-89 : goal.returns-in-89
+returns-in-89 c = line_true _ (omega arith) (search rules)
 
-pub returns-then-s-eq89 : goal.returns-then-s-eq89
-returns-then-s-eq89 c = line_true _ c.if-s-eq1.true c.if-s-eq89.true
+pub returns-in-9 : goal.returns-in-9
+returns-in-9 c = c.read_fields.ensures ∙ line_fields_lem _ (omega arith) (search rules)
 
-pub returns-then-s-eq1 : goal.returns-then-s-eq1
-returns-then-s-eq1 c = line_alone _ c.if-s-eq1.true c.if-s-eq89.false
+pub returns-in_default : goal.returns-in_default
+returns-in_default c = line_other _ (λ e f. omega arith) (λ e f. omega arith)
 
-pub returns-then-s-eq9 : goal.returns-then-s-eq9
-returns-then-s-eq9 c =
-    c.read_fields.ensures ∙ line_fields_lem _ c.if-s-eq0.false c.if-s-eq1.false c.if-s-eq9.true
+pub returns-in_default-2 : goal.returns-in_default-2
+returns-in_default-2 c = line_other _ (λ e f. omega arith) (λ e f. omega arith)
 
-pub returns : goal.returns
-returns c = line_long _ c.if-s-eq0.false c.if-s-eq1.false c.if-s-eq9.false
+pub returns-in_default-3 : goal.returns-in_default-3
+returns-in_default-3 c = line_other _ (λ e f. omega arith) (λ e f. omega arith)

@@ -6,25 +6,22 @@ use mathlib.Core.List.{List}
 use borrow.Author.Tests.{eq-eqb, ne_eqb}
 use Rattle.sheet_format.specs.Bytes.{ascii}
 use Rattle.node_table.specs.Layout.{kind_of, child_of}
-use Rattle.scanning.specs.declared.Number.{Number}
-use Rattle.scanning.specs.declared.Number.TheVariants.{Value, Missing}
-use Rattle.scanning.specs.declared.Scan.{Scan}
-use Rattle.scanning.specs.declared.Scan.TheVariants.{Term, Malformed}
-use Rattle.scanning.specs.Fields as fields
+use Rattle.scanning.specs.Ranges.{Number}
+use Rattle.std.specs.Prelude.{Option, Some, None}
+use Rattle.scanning.specs.Scanning.{Scan}
 use Rattle.scanning.specs.Ranges.{scan_number}
 use Rattle.scanning.specs.Frames.{copy_ranges}
 use Rattle.scanning.specs.BriefComparisons.{same_atoms}
 use Rattle.line_checking.specs.declared.Registers.{Registers}
-use Rattle.line_checking.specs.declared.Place.{Place}
-use Rattle.line_checking.specs.declared.Place.TheVariants.{At, Nowhere}
 use Rattle.line_checking.specs.Sequents.{Made, made, broken, with_sequent, next_sequent}
-use Rattle.line_checking.specs.Members.{place_from}
+use Rattle.line_checking.specs.Members.{Place, place_from}
 use Rattle.line_checking.specs.Bindings.{begins_with}
 use Rattle.line_checking.specs.Clauses.{read, prefix_from, with_body, use_member, use_terms, use_found, use_place, use_place_at, clause_fields}
 use Rattle.line_checking.specs.Clauses.{clause_line}
 use Rattle.clause_members.specs.declared.Found.{Found}
 use Rattle.clause_members.specs.Members.{member, head_of}
 use lib.Dec.{eqb}
+use Rattle.line_rules.proofs.result_lines.Laws.{after_done}
 
 -- the member
 
@@ -53,12 +50,12 @@ module _ (b t x w : List ℕ) (r : Registers) (q n : ℕ) where
 module _ (b t : List ℕ) (symbols : ℕ) (x w : List ℕ) (r : Registers) (q i e : ℕ) (m : Made) where
   module _ (clauses : ℕ) where
     module _ (o : Number) (eo : o ≡ scan_number x i) where
-      pub place_missing : o ≡ Missing → m ≡ broken w r → m ≡ clause_fields b t symbols clauses x w r q i e
+      pub place_missing : o ≡ None → m ≡ broken w r → m ≡ clause_fields b t symbols clauses x w r q i e
       unfolding clause_fields
       place_missing h em = rw (clause_fields, ← eo, h) em
 
-      module _ (k j : ℕ) (h : o ≡ Value k j) (p : Place)
-          (ep : p ≡ cond (eqb k 0) Nowhere (place_from t clauses w r.hypotheses (k - 1))) where
+      module _ (k j : ℕ) (h : o ≡ Some (k, j)) (p : Place)
+          (ep : p ≡ cond (eqb k 0) None (place_from t clauses w r.hypotheses (k - 1))) where
         place_read : m ≡ use_place b t symbols x w r q p j e → m ≡ clause_fields b t symbols clauses x w r q i e
         unfolding clause_fields use_place_at use_place
         place_read em =
@@ -66,41 +63,44 @@ module _ (b t : List ℕ) (symbols : ℕ) (x w : List ℕ) (r : Registers) (q i 
             (em ∙ rw ep (go (eqb k 0) (place_from t clauses w r.hypotheses (k - 1))))
           where
             go : (z : Bool) (u : Place)
-                → use_place b t symbols x w r q (cond z Nowhere u) j e ≡ cond z (broken w r) (use_place b t symbols x w r q u j e)
+                → use_place b t symbols x w r q (cond z None u) j e ≡ cond z (broken w r) (use_place b t symbols x w r q u j e)
             go true u = refl
             go false u = refl
 
-        pub place_nowhere : p ≡ Nowhere → m ≡ broken w r → m ≡ clause_fields b t symbols clauses x w r q i e
+        pub place_nowhere : p ≡ None → m ≡ broken w r → m ≡ clause_fields b t symbols clauses x w r q i e
         unfolding use_place
         place_nowhere f em = place_read (rw (use_place, f) em)
 
-        module _ (n f c : ℕ) (ef : p ≡ At n f c) (a : Found) (w₁ w₂ : List ℕ) (s : Scan) (ea : a ≡ member t n c)
+        module _ (n f c : ℕ) (ef : p ≡ Some (n, f, c)) (a : Found) (w₁ w₂ : List ℕ) (s : Scan) (ea : a ≡ member t n c)
             (e₁ : w₁ ≡ copy_ranges 16 w q f 0)
             (e₂ : read w₂ s ≡ prefix_from a.count b t symbols x w₁ q a.names j r.level e) where
           terms_read : m ≡ use_terms b t x r q a.leaf (read w₂ s) e → m ≡ clause_fields b t symbols clauses x w r q i e
           unfolding use_place use_found
           terms_read em = place_read (rw (use_place, ef, ← ea, use_found, ← e₁, ← e₂) em)
 
-          pub terms_wrong : s ≡ Malformed → m ≡ broken w₂ r → m ≡ clause_fields b t symbols clauses x w r q i e
+          pub terms_wrong : s ≡ None → m ≡ broken w₂ r → m ≡ clause_fields b t symbols clauses x w r q i e
           unfolding use_terms
           terms_wrong g em = terms_read (rw (use_terms, g) em)
 
-          pub terms_used : (z l : ℕ) → s ≡ Term z l → z ≡ e → m ≡ use_member b t x w₂ r q a.leaf
+          pub terms_used : (z l : ℕ) → s ≡ Some (z, l) → z ≡ e → m ≡ use_member b t x w₂ r q a.leaf
               → m ≡ clause_fields b t symbols clauses x w r q i e
           unfolding use_terms
           terms_used z l g d em = terms_read (rw (use_terms, g, eq-eqb _ _ d) em)
 
-          pub terms_more : (z l : ℕ) → s ≡ Term z l → (z ≡ e → ⊥) → m ≡ broken w₂ r
+          pub terms_more : (z l : ℕ) → s ≡ Some (z, l) → (z ≡ e → ⊥) → m ≡ broken w₂ r
               → m ≡ clause_fields b t symbols clauses x w r q i e
           unfolding use_terms
           terms_more z l g d em = terms_read (rw (use_terms, g, ne_eqb _ _ d) em)
 
-    module _ (z : Bool) (ez : z ≡ begins_with (ascii "D\tclause\t") x i) where
-      pub clause_begun : z ≡ true → m ≡ clause_fields b t symbols clauses x w r q (i + 9) e
+    module _ (p : Option ℕ) (ep : p ≡ cond (begins_with (ascii "D\tclause\t") x i) (Some (i + 9)) None) where
+      made_after : m ≡ elim p as (λ _. Made) [ Some u ↦ clause_fields b t symbols clauses x w r q u e | None ↦ broken w r ]
           → m ≡ clause_line b t symbols clauses x w r q i e
       unfolding clause_line
-      clause_begun h em = rw (← ez, h) em
+      made_after em = em ∙ after_done _ _ p (λ u. clause_fields b t symbols clauses x w r q u e) _ ep
 
-      pub clause_wrong : z ≡ false → m ≡ broken w r → m ≡ clause_line b t symbols clauses x w r q i e
-      unfolding clause_line
-      clause_wrong h em = rw (← ez, h) em
+      pub clause_begun : (a : ℕ) → p ≡ Some a → m ≡ clause_fields b t symbols clauses x w r q a e
+          → m ≡ clause_line b t symbols clauses x w r q i e
+      clause_begun a h em = made_after (rw h em)
+
+      pub clause_wrong : p ≡ None → m ≡ broken w r → m ≡ clause_line b t symbols clauses x w r q i e
+      clause_wrong h em = made_after (rw h em)

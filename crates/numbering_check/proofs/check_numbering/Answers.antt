@@ -1,4 +1,3 @@
-use Prim.Native.Nat.{◌-◌}
 use native.Mathlib.Omega.{arith}
 use mathlib.Core.Path.{◌∙◌, sym}
 use Rattle.numbering_check.proofs.LevelCache.{earlier_valid}
@@ -14,12 +13,13 @@ loop-at-init c =
 pub check_symbol-requires : goal.check_symbol-requires
 check_symbol-requires c = c.loop-at.invariant.2
 
-pub returns-in-Misnumbered : goal.returns-in-Misnumbered
-returns-in-Misnumbered c = (
-  sym (c.loop-at.invariant.1 ∙ numbering_wrong _ _ _ _ _ _ c.loop-at-test.true
-      c.check_symbol.ensures.0 c.in-Misnumbered.is),
-  tt,
-)
+pub returns-in_err-p : goal.returns-in_err-p
+returns-in_err-p c =
+    rw c.from_residual.ensures (
+      sym (c.loop-at.invariant.1 ∙ numbering_wrong _ _ _ _ _ _ c.loop-at-test.true
+          c.check_symbol.ensures.0 c.in_err-p.was),
+      tt,
+    )
 
 pub loop-at-smaller : goal.loop-at-smaller
 loop-at-smaller c =
@@ -27,11 +27,11 @@ loop-at-smaller c =
 
 pub loop-at-preserved : goal.loop-at-preserved
 loop-at-preserved c =
-    let valid = valid_counts _ _ _ _ _ _ c.check_symbol.ensures.1 c.in-Counts.is in
+    let valid = valid_counts _ _ _ _ _ _ c.check_symbol.ensures.1 c.in_ok-p.was in
     let h = sigil_passed c.args.text.now _ _ _ _ _ _ c.find_sigil-at-in-loop-at.ensures valid in (
       search rules,
       c.loop-at.invariant.1 ∙ numbering_on _ _ _ _ _ _ _ _ c.loop-at-test.true
-          c.check_symbol.ensures.0 c.in-Counts.is ∙ h.0,
+          c.check_symbol.ensures.0 c.in_ok-p.was ∙ h.0,
       h.1,
     )
 

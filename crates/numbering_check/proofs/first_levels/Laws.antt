@@ -13,8 +13,9 @@ use Rattle.sheet_format.specs.Bytes.{is_digit, is_name_byte, number, decimal}
 use Rattle.sheet_format.proofs.Options.{OnSome}
 use Rattle.sheet_format.proofs.Numbers.{number_some}
 use Rattle.text_judging.specs.Reading.{span}
-use Rattle.scanning.specs.declared.Number.{Number}
-use Rattle.scanning.specs.declared.Number.TheVariants.{Value, Missing}
+use Rattle.std.proofs.lemmas.Option.{some_pair_parts}
+use Rattle.scanning.specs.Ranges.{Number}
+use Rattle.std.specs.Prelude.{Some, None}
 use Rattle.scanning.specs.Ranges.{find_byte, scan_number}
 use Rattle.scanning.specs.Numbering.{outside_name, is_symbol, number_at, level_at, is_showing, level_from, first_level}
 use Rattle.scanning.proofs.Ranges.{byte_least, number_to, read_number}
@@ -50,43 +51,43 @@ symbol_none x i b p n m = rw (← p, ne_eqb b 33 n, ne_eqb b 95 m)
 -- numbers
 
 -- A number that is read is at most 65,535.
-value_small : (x : List ℕ) (i n e : ℕ) (r : Number) → r ≡ scan_number x i → r ≡ Value n e → n ≤ 65535
+value_small : (x : List ℕ) (i n e : ℕ) (r : Number) → r ≡ scan_number x i → r ≡ Some (n, e) → n ≤ 65535
 value_small x i n e r p q = go (number a) (number_some a) (sym (read_number x i) ∙ sym p ∙ q)
   where
     a : List ℕ
     a = (span is_digit (drop i x)).taken
 
-    go : (o : Option ℕ) → OnSome (λ k. (a ≡ decimal k) × (k ≤ max_number)) o → number_to (i + length a) o ≡ Value n e → n ≤ 65535
+    go : (o : Option ℕ) → OnSome (λ k. (a ≡ decimal k) × (k ≤ max_number)) o → number_to (i + length a) o ≡ Some (n, e) → n ≤ 65535
     go none h k = absurd (let z : ◌≡◌ {A = ℕ} 0 1 = cc in omega arith)
-    go (some m) h k = let z : m ≡ n = cc in let l = h.1 in omega arith
+    go (some m) h k = let z = (some_pair_parts m n (i + length a) e k).0 in let l = h.1 in omega arith
 
-pub number_some_at : (x : List ℕ) (i n e : ℕ) (r : Number) → r ≡ scan_number x i → r ≡ Value n e → (n ≡ number_at x i) × (n ≤ 65536)
+pub number_some_at : (x : List ℕ) (i n e : ℕ) (r : Number) → r ≡ scan_number x i → r ≡ Some (n, e) → (n ≡ number_at x i) × (n ≤ 65536)
 unfolding number_at
 number_some_at x i n e r p q = (rw (number_at, ← p, q), let l = value_small x i n e r p q in omega arith)
 
-pub number_none_at : (x : List ℕ) (i : ℕ) (r : Number) → r ≡ scan_number x i → r ≡ Missing → (65536 ≡ number_at x i) × (65536 ≤ 65536)
+pub number_none_at : (x : List ℕ) (i : ℕ) (r : Number) → r ≡ scan_number x i → r ≡ None → (65536 ≡ number_at x i) × (65536 ≤ 65536)
 unfolding number_at
 number_none_at x i r p q = (rw (number_at, ← p, q), omega arith)
 
 -- past the end there is no number
 
-read_past : (x : List ℕ) (i : ℕ) → length x ≤ i → scan_number x (i + 1) ≡ Missing
+read_past : (x : List ℕ) (i : ℕ) → length x ≤ i → scan_number x (i + 1) ≡ None
 unfolding scan_number is_digit
 read_past x i h = let l : length x ≤ i + 1 = omega arith in rw (get_or-eq_default x 0 l)
 
 pub number_past : (x : List ℕ) (i : ℕ) → length x ≤ i → (65536 ≡ number_at x (i + 1)) × (65536 ≤ 65536)
-number_past x i h = number_none_at x (i + 1) Missing (sym (read_past x i h)) refl
+number_past x i h = number_none_at x (i + 1) None (sym (read_past x i h)) refl
 
 pub level_past : (x : List ℕ) (i : ℕ) → length x ≤ i → 65536 ≡ level_at x i
 unfolding level_at
 level_past x i h = rw (level_at, read_past x i h)
 
-pub level_some_at : (x : List ℕ) (i n e k : ℕ) (r : Number) → r ≡ scan_number x (i + 1) → r ≡ Value n e → k ≡ number_at x (e + 1)
+pub level_some_at : (x : List ℕ) (i n e k : ℕ) (r : Number) → r ≡ scan_number x (i + 1) → r ≡ Some (n, e) → k ≡ number_at x (e + 1)
     → k ≡ level_at x i
 unfolding level_at
 level_some_at x i n e k r p q h = rw (level_at, ← p, q) h
 
-pub level_none_at : (x : List ℕ) (i : ℕ) (r : Number) → r ≡ scan_number x (i + 1) → r ≡ Missing → 65536 ≡ level_at x i
+pub level_none_at : (x : List ℕ) (i : ℕ) (r : Number) → r ≡ scan_number x (i + 1) → r ≡ None → 65536 ≡ level_at x i
 unfolding level_at
 level_none_at x i r p q = rw (level_at, ← p, q)
 

@@ -1,9 +1,8 @@
 -- One law for each way through a call; the hypotheses are the facts on the code's path.
 use Prim.Native.Nat.{ℕ, ◌+◌, ◌-◌, ◌<◌, ◌≤◌}
-use mathlib.Core.Path.{◌≡◌, sym}
+use mathlib.Core.Path.{◌≡◌}
 use mathlib.Core.List.{List}
-use lib.ListN.{length, set}
-use lib.Seq.{set_out}
+use lib.ListN.{set}
 use borrow.Author.Tests.{lt-ltb, le-ltb}
 use Rattle.numbering_check.specs.LevelCache.{made_entry, leftover_entry, cache_level}
 
@@ -26,10 +25,6 @@ leftover_past size n m a b p q h = rw (← p, ← q, le-ltb (a + b) size h)
 pub level_fits : (v : List ℕ) (a k : ℕ) → k < 65535 → set v a (k + 1) ≡ cache_level v a k
 unfolding cache_level
 level_fits v a k h = rw (lt-ltb k 65535 h)
-
-pub level_nowhere : (v : List ℕ) (a k : ℕ) → k < 65535 → length v ≤ a → v ≡ cache_level v a k
-unfolding cache_level
-level_nowhere v a k h l = rw (lt-ltb k 65535 h) (sym (set_out v a (k + 1) l))
 
 pub level_large : (v : List ℕ) (a k : ℕ) → 65535 ≤ k → v ≡ cache_level v a k
 unfolding cache_level

@@ -1,9 +1,7 @@
-use mathlib.Core.Path.{sym, ◌∙◌}
-use Rattle.runner_output.proofs.Arguments.{asked_number, asked_none}
+use Rattle.std.proofs.Common.{ap, ◌∙◌}
+use Rattle.std.specs.Result.{result_unwrap_or}
+use Rattle.runner_output.proofs.Arguments.{asked_number}
 use Rattle.runner_output.proofs.proofs_asked.Goals as goal
 
-pub returns-in_default : goal.returns-in_default
-returns-in_default c = asked_none _ _ (sym c.one_number.ensures ∙ c.in_default.is)
-
 pub returns : goal.returns
-returns c = asked_number _ _ (sym c.one_number.ensures ∙ c.in-Only.is)
+returns c = c.unwrap_or.ensures ∙ ap (λ r. result_unwrap_or r 0) c.one_number.ensures ∙ asked_number _

@@ -4,7 +4,7 @@ use Rattle.sheet_reader.proofs.finish.Goals as goal
 
 pub returns-then-at-sheet : goal.returns-then-at-sheet
 unfolding finished
-returns-then-at-sheet c = simp (lt-ltb _ _ c.if-at-sheet.true, c.refused_read.ensures)
+returns-then-at-sheet c = simp (lt-ltb _ _ c.if-at-sheet.true, c.new.ensures)
 
 pub returns : goal.returns
 unfolding finished

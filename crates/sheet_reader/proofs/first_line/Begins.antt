@@ -19,8 +19,7 @@ use Rattle.node_table.specs.Layout.{order_number, default_order, former_order}
 use Rattle.node_table.specs.Decoding.{order_of}
 use Rattle.table_builder.specs.Orders.{put_order}
 use Rattle.sheet_reader.specs.declared.first_line.Start.{Start}
-use Rattle.sheet_reader.specs.declared.sheet_lines.Read.{Read}
-use Rattle.sheet_reader.specs.Reader.{nodes_in, node_count, goal_or, goal_named, ReadContract}
+use Rattle.sheet_reader.specs.Reader.{Read, nodes_in, node_count, goal_or, goal_named, ReadContract}
 use Rattle.sheet_reader.specs.FirstLine.{begins_with, begins_with_order, Started, started, order_line_bytes, read_order}
 use Rattle.sheet_reader.proofs.sheet_lines.Reading.{read_on, Begun}
 
@@ -43,6 +42,16 @@ front_begins : (a s : List ℕ) → begins_with a (a ++ s) ≡ true
 unfolding begins_with
 front_begins [] s = refl
 front_begins (b ∷ a) s = rw (eq-eqb b b refl) (front_begins a s)
+
+-- So a test that is true of just these bytes is `begins_with`.
+pub begins_is : (a s : List ℕ) (r : Bool) → (r ≡ true → s ≡ a ++ drop (length a) s) × ((rest : List ℕ) → s ≡ a ++ rest → r ≡ true)
+    → r ≡ begins_with a s
+begins_is a s true h = sym (ap (begins_with a) (h.0 refl) ∙ front_begins a (drop (length a) s))
+begins_is a s false h = go (begins_with a s) refl
+  where
+    go : (b : Bool) → begins_with a s ≡ b → false ≡ b
+    go true e = h.1 (drop (length a) s) (begins_front a s e)
+    go false e = refl
 
 -- The test of the code is that of the definitions.
 order_front : (s : List ℕ) → begins_with_order s ≡ true → s ≡ with_order_line (drop order_line_bytes s)

@@ -1,14 +1,14 @@
 -- The lines of a sheet: where one ends, and what is left after it. Assumes nothing.
-use Prim.Native.Nat.{ℕ, zero, suc, ◌+◌, ◌-◌, ◌≤◌, ◌<◌}
+use Prim.Native.Nat.{ℕ, zero, suc, max, ◌+◌, ◌-◌, ◌≤◌, ◌<◌}
 use native.Mathlib.Numerals.{add-one}
 use native.Mathlib.Omega.{arith}
 use mathlib.Core.Bool.{Bool, true, false, cond}
-use mathlib.Core.Path.{◌≡◌, refl, ap, ◌∙◌}
+use mathlib.Core.Path.{◌≡◌, refl, sym, ap, ◌∙◌}
 use mathlib.Core.List.{List, [], ◌∷◌}
-use lib.Dec.{eqb}
+use lib.Dec.{leb, eqb}
 use lib.ListN.{length, take, drop, get_or, length-drop, drop_of_length-le}
 use lib.Seq.{drop-cons, drop-drop}
-use borrow.Author.Tests.{eq-eqb, ne_eqb}
+use borrow.Author.Tests.{eq-eqb, ne_eqb, leb-true, leb-false}
 use Rattle.sheet_format.specs.Bytes.{lf, SplitLines, extend_line, lines_of}
 use Rattle.sheet_format.proofs.Bytes.{lines, lines_of_other}
 use Rattle.sheet_reader.specs.Reader.{line_length, line_end}
@@ -33,6 +33,22 @@ end_here s i h e =
 pub end_none : (s : List ℕ) (i : ℕ) → length s ≤ i → line_end s i ≡ i
 unfolding line_end line_length
 end_none s i h = rw (drop_of_length-le s h) (omega arith)
+
+-- So is the end past the last byte, where a loop over positions from `at` on has come to i.
+pub end_past : (s : List ℕ) (at i end : ℕ) → line_end s at ≡ line_end s i → length s ≤ i → (length s ≤ at → i ≡ at)
+    → (at ≤ length s → i ≤ length s) → end ≡ max at (length s) → end ≡ line_end s at
+end_past s at i end q h past within m = go (leb (length s) at) refl
+  where
+    go : (b : Bool) → leb (length s) at ≡ b → end ≡ line_end s at
+    go true b =
+        let l = past (leb-true (length s) at b) in
+        let w : end ≡ i = omega arith in
+        w ∙ sym (end_none s i h) ∙ sym q
+    go false b =
+        let f = leb-false (length s) at b in
+        let l = within (omega arith) in
+        let w : end ≡ i = omega arith in
+        w ∙ sym (end_none s i h) ∙ sym q
 
 -- No line is longer than the bytes.
 length_most : (s : List ℕ) → line_length s ≤ length s

@@ -9,6 +9,10 @@ use mathlib.Core.List.{List, [], ◌∷◌}
 use lib.Dec.{ltb, eqb}
 use lib.ListN.{length, drop, length-drop, drop_of_length-le}
 use borrow.Author.Tests.{ltb-true, ltb-false}
+use Rattle.std.specs.Prelude.{Result, Ok, Err}
+use Rattle.outcomes.specs.declared.refusals.Reason.{Reason}
+use Rattle.outcomes.specs.declared.refusals.Reason.TheVariants.{Malformed, NoGoal}
+use Rattle.outcomes.specs.Refusals.{number_of, refused_for}
 use Rattle.formulas.specs.Rules.{Order}
 use Rattle.sheet_format.proofs.Bytes.{lines_of_other}
 use Rattle.sheet_format.specs.Limits.{table_numbers}
@@ -21,17 +25,15 @@ use Rattle.node_table.specs.Layout.{order_number}
 use Rattle.node_table.specs.Decoding.{goal_at, declarations_from, clauses_from, order_of, decode_sheet}
 use Rattle.node_table.specs.WellMade.{IsGoal}
 use Rattle.table_builder.specs.declared.node_info.Counts.{Counts}
-use Rattle.table_builder.specs.declared.node_info.Taken.{Taken}
-use Rattle.table_builder.specs.declared.node_info.Taken.TheVariants.{Next, Stop, Last}
 use Rattle.table_builder.specs.Nodes.{made, counts}
 use Rattle.table_decoding.specs.Decoding.{nodes_from, table_of, Decodes, Agrees, Follows}
 use Rattle.table_decoding.proofs.Lines.{stands_empty, well_made_lem, all_named, names_stand}
-use Rattle.sheet_reader.specs.declared.sheet_lines.Read.{Read}
-use Rattle.sheet_reader.specs.declared.sheet_lines.Read.TheVariants.{Done}
-use Rattle.sheet_reader.specs.Reader.{read_of, WellRead, NamedRead, NamesRead, nodes_in, node_count, goal_or, goal_named, Counted}
-use Rattle.sheet_reader.specs.Reader.{ReadContract, line_end, line_taken, refused_read, finished}
+use Rattle.sheet_reader.specs.declared.sheet_lines.Taken.{Taken}
+use Rattle.sheet_reader.specs.declared.sheet_lines.Taken.TheVariants.{Next, Last}
+use Rattle.sheet_reader.specs.Reader.{Read, read_of, WellRead, NamedRead, NamesRead, nodes_in, node_count, goal_or, goal_named, Counted}
+use Rattle.sheet_reader.specs.Reader.{ReadContract, line_end, line_taken, finished}
 use Rattle.sheet_reader.proofs.sheet_lines.Lines.{lines_of_lf, line_at, open_at, end_within_lem}
-use Rattle.sheet_reader.proofs.sheet_lines.Steps.{between, next_adds, line_follows, EndsAt, line_last}
+use Rattle.sheet_reader.proofs.sheet_lines.Steps.{between, next_adds, TakenIs, line_follows, EndsAt, line_last}
 
 -- the lines ahead
 
@@ -179,7 +181,7 @@ reading_line {bytes} {t₀} {t} {k} {at} {line} {end} h e n =
     let w = end_within_lem bytes at end h.within e in
     record { from = w.0; within = omega arith; few = h.few }
 
-module _ (bytes t₀ t t' : List ℕ) (k : Counts) (at line end : ℕ) (x : Taken) (h : Reading bytes t₀ t k at line) (i : at < length bytes)
+module _ (bytes t₀ t t' : List ℕ) (k : Counts) (at line end : ℕ) (x : Result Taken Reason) (h : Reading bytes t₀ t k at line) (i : at < length bytes)
     (e : end ≡ line_end bytes at)
     (n : end ≡ length bytes → ⊥) (m : made t' x ≡ line_taken bytes t k at end) where
   -- The end of the line lies between its start and the end of the bytes.
@@ -187,7 +189,7 @@ module _ (bytes t₀ t t' : List ℕ) (k : Counts) (at line end : ℕ) (x : Take
   ends = end_within_lem bytes at end h.within e
 
   -- The code makes of the line what document 01's definition makes of it.
-  follows : Follows bytes t k (made t' x) (sheetLine same_name (table_of bytes t k) (parse_line (between bytes at end)))
+  follows : Follows (TakenIs bytes k) t (made t' x) (sheetLine same_name (table_of bytes t k) (parse_line (between bytes at end)))
   follows = rw m (line_follows bytes t k h.stands at end ends.0 ends.1)
 
   -- The sheet is what the definition makes of the line and of the bytes after it.
@@ -207,10 +209,10 @@ module _ (bytes t₀ t t' : List ℕ) (k : Counts) (at line end : ℕ) (x : Take
   goal_line_lem = ap (λ (l : SplitLines). goal_named l.whole) (line_at bytes at end h.within e n)
 
   -- If the line is taken, `Reading` holds before the next line.
-  pub reading_on : (j : Counts) → x ≡ Next j → Reading bytes t₀ t' j (end + 1) (line + 1)
-  unfolding Agrees after_line
+  pub reading_on : (j : Counts) → x ≡ Ok (Next j) → Reading bytes t₀ t' j (end + 1) (line + 1)
+  unfolding Agrees TakenIs after_line
   reading_on j q =
-      let a = subst (λ (y : Taken). Agrees bytes t' k y (sheetLine same_name (table_of bytes t k) (parse_line (between bytes at end)))) q
+      let a = subst (λ (y : Result Taken Reason). Agrees (TakenIs bytes k t') y (sheetLine same_name (table_of bytes t k) (parse_line (between bytes at end)))) q
       follows.agrees in
       let w = reading_line h e n in
       let d = next_adds (table_of bytes t k) (parse_line (between bytes at end)) (table_of bytes t' j) a.0 in
@@ -232,10 +234,10 @@ module _ (bytes t₀ t t' : List ℕ) (k : Counts) (at line end : ℕ) (x : Take
       }
 
   -- If the line is refused, the contract holds.
-  pub reading_stops : (number : ℕ) (r : Read) → x ≡ Stop number → r ≡ refused_read number line → ReadContract bytes t₀ t' r
+  pub reading_stops : (reason : Reason) (r : Read) → x ≡ Err reason → r ≡ Err (refused_for reason line) → ReadContract bytes t₀ t' r
   unfolding Agrees after_line read_of WellRead NamedRead NamesRead Counted
-  reading_stops number r q z =
-      let a = subst (λ (y : Taken). Agrees bytes t' k y (sheetLine same_name (table_of bytes t k) (parse_line (between bytes at end)))) q
+  reading_stops reason r q z =
+      let a = subst (λ (y : Result Taken Reason). Agrees (TakenIs bytes k t') y (sheetLine same_name (table_of bytes t k) (parse_line (between bytes at end)))) q
       follows.agrees in
       rw z (record {
         read = ahead_line ∙ ap (λ (y : SheetTaken). after_line (order_of t) y (drop (end + 1) bytes) line (table_of bytes t k)) a;
@@ -248,8 +250,8 @@ module _ (bytes t₀ t t' : List ℕ) (k : Counts) (at line end : ℕ) (x : Take
       })
 
   -- If the line is the Q line, the contract holds.
-  pub reading_ends : (goal : ℕ) (r : Read) → x ≡ Last goal → r ≡ finished bytes k goal (end + 1) (line + 1) → ReadContract bytes t₀ t' r
-  unfolding finished Agrees after_line read_of WellRead NamedRead NamesRead Counted decode_sheet table_of nodes_in node_count goal_or lines_of
+  pub reading_ends : (goal : ℕ) (r : Read) → x ≡ Ok (Last goal) → r ≡ finished bytes k goal (end + 1) (line + 1) → ReadContract bytes t₀ t' r
+  unfolding finished Agrees TakenIs after_line read_of WellRead NamedRead NamesRead Counted decode_sheet table_of nodes_in node_count goal_or lines_of
   reading_ends goal r q z = rw (z, here.same) (ended (ltb (end + 1) (length bytes)) refl)
     where
       here : EndsAt bytes t k h.stands at end ends.0 ends.1 t' goal (parse_line (between bytes at end))
@@ -259,7 +261,7 @@ module _ (bytes t₀ t t' : List ℕ) (k : Counts) (at line end : ℕ) (x : Take
       agreed =
           subst (λ (u : List ℕ). (sheetLine same_name (table_of bytes t k) (parse_line (between bytes at end)) ≡ last (goal_at u goal))
           × (goal < k.nodes) × IsGoal u goal) here.same
-          (subst (λ (y : Taken). Agrees bytes t' k y (sheetLine same_name (table_of bytes t k) (parse_line (between bytes at end)))) q
+          (subst (λ (y : Result Taken Reason). Agrees (TakenIs bytes k t') y (sheetLine same_name (table_of bytes t k) (parse_line (between bytes at end)))) q
           follows.agrees)
 
       ahead_goal : read_sheet bytes ≡ after_goal (lines_of (drop (end + 1) bytes)).whole (lines_of (drop (end + 1) bytes)).rest (suc line)
@@ -277,7 +279,7 @@ module _ (bytes t₀ t t' : List ℕ) (k : Counts) (at line end : ℕ) (x : Take
       goal_end : goal ≡ goal_named (lines_of bytes).whole
       goal_end = sym (h.goal ∙ goal_line_lem ∙ rw here.named)
 
-      ended : (b : Bool) → ltb (end + 1) (length bytes) ≡ b → ReadContract bytes t₀ t (cond b (refused_read 11 (line + 1)) (Done k goal))
+      ended : (b : Bool) → ltb (end + 1) (length bytes) ≡ b → ReadContract bytes t₀ t (cond b (Err (refused_for NoGoal (line + 1))) (Ok (k, goal)))
       ended true e = record {
         read = rw (add-one line) (ahead_goal ∙ after_more bytes (end + 1) (suc line) _ (ltb-true (end + 1) (length bytes) e));
         well_made = tt;
@@ -299,16 +301,16 @@ module _ (bytes t₀ t t' : List ℕ) (k : Counts) (at line end : ℕ) (x : Take
 
 module _ (bytes t₀ t : List ℕ) (k : Counts) (at line : ℕ) (r : Read) (h : Reading bytes t₀ t k at line) where
   -- A refusal that leaves the table as it is satisfies the contract.
-  refuses : (number : ℕ) → read_on (order_of t) (drop at bytes) line (table_of bytes t k) ≡ refused (refusal number line)
-      → r ≡ refused_read number line → ReadContract bytes t₀ t r
+  refuses : (reason : Reason) → read_on (order_of t) (drop at bytes) line (table_of bytes t k) ≡ refused (refusal (number_of reason) line)
+      → r ≡ Err (refused_for reason line) → ReadContract bytes t₀ t r
   unfolding read_of WellRead NamedRead NamesRead Counted
-  refuses number e z = rw z (record { read = h.ahead ∙ e; well_made = tt; counted = tt; long = h.long; rest = h.rest; named = tt; names = tt })
+  refuses reason e z = rw z (record { read = h.ahead ∙ e; well_made = tt; counted = tt; long = h.long; rest = h.rest; named = tt; names = tt })
 
   -- The contract holds for a line without LF.
-  pub reading_open : (end : ℕ) → at < length bytes → end ≡ line_end bytes at → end ≡ length bytes → r ≡ refused_read 6 line
+  pub reading_open : (end : ℕ) → at < length bytes → end ≡ line_end bytes at → end ≡ length bytes → r ≡ Err (refused_for Malformed line)
       → ReadContract bytes t₀ t r
-  reading_open end i e n = refuses 6 (on_open (order_of t) bytes at line (table_of bytes t k) end i e n)
+  reading_open end i e n = refuses Malformed (on_open (order_of t) bytes at line (table_of bytes t k) end i e n)
 
   -- The contract holds where no line is left.
-  pub reading_none : length bytes ≤ at → r ≡ refused_read 11 line → ReadContract bytes t₀ t r
-  reading_none i = refuses 11 (on_none (order_of t) bytes at line (table_of bytes t k) i)
+  pub reading_none : length bytes ≤ at → r ≡ Err (refused_for NoGoal line) → ReadContract bytes t₀ t r
+  reading_none i = refuses NoGoal (on_none (order_of t) bytes at line (table_of bytes t k) i)

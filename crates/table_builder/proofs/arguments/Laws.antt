@@ -1,44 +1,39 @@
 -- Laws of specs/Symbols.antt for the code's proofs: writes in a row, and one law for each way through a turn of a loop.
-use Prim.Native.Nat.{ℕ, ◌+◌, ◌-◌, ◌≤◌, ◌<◌}
+use Prim.Native.Nat.{ℕ, ◌+◌, ◌≤◌, ◌<◌}
 use native.Mathlib.Numerals.{add-one}
-use mathlib.Core.Bool.{true, false}
-use mathlib.Core.Path.{◌≡◌, sym, ◌∙◌}
-use mathlib.Core.List.{List}
+use mathlib.Core.Bool.{Bool, true, false, not, ◌&&◌, cond}
+use Rattle.std.specs.List.{list_all}
+use lib.Dec.{ltb, eqb}
+use mathlib.Core.Path.{◌≡◌, refl}
+use mathlib.Core.List.{List, [], ◌∷◌}
 use lib.Bits.{bit_or}
 use lib.ListN.{length, drop, get_or, drop_of_length-le}
 use lib.Seq.{drop-cons}
-use borrow.Author.Tests.{lt-ltb, le-ltb, eq-eqb, ne_eqb}
 use Rattle.node_table.specs.Layout.{mask_of, size_of}
 use Rattle.table_builder.specs.Symbols.{all_there, all_terms, sizes_from, masks_from}
 
 -- loops over arguments
 
-module _ (n i : ℕ) (l : List ℕ) where
-  pub there_on : i < length l → get_or l i 0 < n → all_there n (drop i l) ≡ all_there n (drop (i + 1) l)
-  unfolding all_there
-  there_on h k = rw (drop-cons l i 0 h, add-one i) (simp (lt-ltb _ _ k))
+pub there_all : (n : ℕ) (l : List ℕ) → all_there n l ≡ list_all (λ a. ltb a n) l
+unfolding all_there
+there_all n [] = refl
+there_all n (a ∷ l) = go (ltb a n) (there_all n l)
+  where
+    go : (b : Bool) → all_there n l ≡ list_all (λ a. ltb a n) l → cond b (all_there n l) false ≡ (b && list_all (λ a. ltb a n) l)
+    go true e = e
+    go false e = refl
 
-  pub there_off : i < length l → n ≤ get_or l i 0 → all_there n (drop i l) ≡ false
-  unfolding all_there
-  there_off h k = rw (drop-cons l i 0 h) (simp (le-ltb _ _ k))
-
-  pub there_end : length l ≤ i → all_there n (drop i l) ≡ true
-  unfolding all_there
-  there_end h = rw (drop_of_length-le l h)
+pub terms_all : (t l : List ℕ) → all_terms t l ≡ list_all (λ a. not (eqb (size_of t a) 0)) l
+unfolding all_terms
+terms_all t [] = refl
+terms_all t (a ∷ l) = go (eqb (size_of t a) 0) (terms_all t l)
+  where
+    go : (b : Bool) → all_terms t l ≡ list_all (λ a. not (eqb (size_of t a) 0)) l
+        → cond b false (all_terms t l) ≡ (not b && list_all (λ a. not (eqb (size_of t a) 0)) l)
+    go true e = refl
+    go false e = e
 
 module _ (t : List ℕ) (i : ℕ) (l : List ℕ) where
-  pub terms_on : (s : ℕ) → i < length l → s ≡ size_of t (get_or l i 0) → (s ≡ 0 → ⊥) → all_terms t (drop i l) ≡ all_terms t (drop (i + 1) l)
-  unfolding all_terms
-  terms_on s h e k = rw (drop-cons l i 0 h, add-one i) (simp (ne_eqb _ _ (λ z. k (e ∙ z))))
-
-  pub terms_off : (s : ℕ) → i < length l → s ≡ size_of t (get_or l i 0) → s ≡ 0 → all_terms t (drop i l) ≡ false
-  unfolding all_terms
-  terms_off s h e k = rw (drop-cons l i 0 h) (simp (eq-eqb _ _ (sym e ∙ k)))
-
-  pub terms_end : length l ≤ i → all_terms t (drop i l) ≡ true
-  unfolding all_terms
-  terms_end h = rw (drop_of_length-le l h)
-
   pub sizes_on : (sum s : ℕ) → i < length l → s ≡ size_of t (get_or l i 0)
       → sizes_from t sum (drop i l) ≡ sizes_from t (sum + s) (drop (i + 1) l)
   unfolding sizes_from

@@ -1,5 +1,5 @@
 -- Laws of specs/Symbols.antt for the code's proofs: writes in a row, and one law for each way through a turn of a loop.
-use Prim.Native.Nat.{ℕ, suc, ◌+◌, ◌-◌, ◌≤◌, ◌<◌}
+use Prim.Native.Nat.{ℕ, suc, ◌+◌, ◌-◌, ◌*◌, ◌≤◌, ◌<◌}
 use native.Mathlib.Numerals.{add-one}
 use native.Mathlib.Nat.{add_assoc}
 use native.Mathlib.Omega.{arith}
@@ -9,21 +9,31 @@ use mathlib.Core.List.{List, [], ◌∷◌}
 use lib.Dec.{eqb}
 use lib.ListN.{length, take, drop, get_or, set, drop_of_length-le}
 use lib.Seq.{drop-cons, length-take-le}
+use mir.Val.{bool_byte}
 use borrow.Author.Tests.{lt-leb}
+use Rattle.std.specs.Prelude.{Ok, Err}
+use Rattle.outcomes.specs.declared.refusals.Reason.TheVariants.{Unknown}
 use Rattle.sheet_format.specs.Bytes.{folded}
 use Rattle.node_table.specs.Layout.{symbol_at}
 use Rattle.node_table.specs.Fingerprints.{word_at}
 use Rattle.table_builder.specs.declared.node_info.Counts.{Counts}
-use Rattle.table_builder.specs.declared.node_info.Taken.TheVariants.{Next, Stop}
 use Rattle.table_builder.specs.Nodes.{made, counts}
 use Rattle.table_builder.specs.Symbols.{symbol_written, first_of, same_at, name_is, find_from, find_name, symbol_word, insert_declaration}
 
+-- symbols
+
+pub word_is : (function : Bool) (arity n : ℕ) → n ≡ bool_byte function → 2 * arity + n ≡ symbol_word function arity
+unfolding symbol_word
+word_is true arity n e = ap (λ (x : ℕ). 2 * arity + x) e
+word_is false arity n e = let z : n ≡ 0 = e in omega arith
+
 -- writes
 
-pub symbol_puts : (t t₀ t₁ t₂ : List ℕ) (i start name word : ℕ) → t₀ ≡ set t (symbol_at i 0) start → t₁ ≡ set t₀ (symbol_at i 1) name
-    → t₂ ≡ set t₁ (symbol_at i 2) word → t₂ ≡ symbol_written t i start name word
+pub symbol_puts : (t t₀ t₁ t₂ : List ℕ) (i w start name word : ℕ) → w ≡ i → t₀ ≡ set t (symbol_at w 0) start
+    → t₁ ≡ set t₀ (symbol_at w 1) name
+    → t₂ ≡ set t₁ (symbol_at w 2) word → t₂ ≡ symbol_written t i start name word
 unfolding symbol_written
-symbol_puts t t₀ t₁ t₂ i start name word e₀ e₁ e₂ = rw (e₂, e₁, e₀)
+symbol_puts t t₀ t₁ t₂ i w start name word e e₀ e₁ e₂ = rw (e₂, e₁, e₀, e)
 
 -- names
 
@@ -92,12 +102,12 @@ module _ (s t : List ℕ) (k : Counts) (function : Bool) (start : ℕ) (name : L
   named : word ≡ word_at s start (length name)
   named = let l : start + length name - start ≡ length name = omega arith in w ∙ ap (word_at s start) l
 
-  pub declaration_found : found ≡ true → made t (Stop 8) ≡ insert_declaration s t k function start (length name) arity
+  pub declaration_found : found ≡ true → made {A = Counts} t (Err Unknown) ≡ insert_declaration s t k function start (length name) arity
   unfolding insert_declaration
   declaration_found f = rw (lt-leb 256 k.symbols h, ← part, ← named, ← e, f)
 
   pub declaration_taken : (t' : List ℕ) (a b : ℕ) → found ≡ false → b ≡ symbol_word function arity → a ≡ start
       → t' ≡ symbol_written t k.symbols a word b
-      → made t' (Next (counts (k.symbols + 1) k.nodes k.clauses)) ≡ insert_declaration s t k function start (length name) arity
+      → made t' (Ok (counts (k.symbols + 1) k.nodes k.clauses)) ≡ insert_declaration s t k function start (length name) arity
   unfolding insert_declaration
   declaration_taken t' a b f x y z = rw (lt-leb 256 k.symbols h, ← part, ← named, ← e, f, z, x, y)

@@ -1,20 +1,14 @@
-use Prim.Native.Nat.{◌+◌, ◌-◌, ◌≤◌}
-use Rattle.term_printer.specs.State.{bounds_in, cursor_in}
+use Rattle.std.proofs.Common.{◌≡◌, ◌+◌, ◌-◌, ◌≤◌}
 use Rattle.printing.specs.Numbering.{printer}
 use Rattle.printing.specs.WriteTerms.{arguments_by, write_term}
-use lib.ListN.{length}
-use mathlib.Core.Path.{◌≡◌}
 use Rattle.term_printer.proofs.+write_term.Given as goal
 
 abbrev pub invariant-loop-j : goal.invariant-loop-j
-invariant-loop-j l = (length l.w ≡ length l.initial.w) × (length l.out ≡ length l.initial.out) × ((cursor_in l.initial.s).at ≤ (cursor_in l.s).at) × (bounds_in l.s ≡ bounds_in l.initial.s)
-    × (arguments_by (write_term (l.rank - 1) l.sheet.now l.t.now (bounds_in l.initial.s).turns (bounds_in l.initial.s).limit) l.t.now
-    (bounds_in l.initial.s).limit l.c l.n l.f 0 (printer l.initial.w l.initial.out (cursor_in l.initial.s))
-    ≡ arguments_by (write_term (l.rank - 1) l.sheet.now l.t.now (bounds_in l.initial.s).turns (bounds_in l.initial.s).limit) l.t.now (bounds_in l.initial.s).limit
-    (l.c - l.j) l.n l.f l.j (printer l.w l.out (cursor_in l.s)))
-
-abbrev pub decreases-loop-j : goal.decreases-loop-j
-decreases-loop-j l = l.c - l.j
+invariant-loop-j l = (l.initial.s.cursor.at ≤ l.s.cursor.at) × (l.s.bounds ≡ l.initial.s.bounds)
+    × (arguments_by (write_term (l.rank - 1) l.source.sheet.now l.source.table.now l.initial.s.bounds.turns l.initial.s.bounds.limit) l.source.table.now
+    l.initial.s.bounds.limit l.c l.n l.f 0 (printer l.initial.w l.initial.out l.initial.s.cursor)
+    ≡ arguments_by (write_term (l.rank - 1) l.source.sheet.now l.source.table.now l.initial.s.bounds.turns l.initial.s.bounds.limit) l.source.table.now
+    l.initial.s.bounds.limit (l.c - l.j) l.n l.f l.j (printer l.w l.out l.s.cursor))
 
 abbrev pub decreases-write_term : goal.decreases-write_term
-decreases-write_term l = (bounds_in l.s.now).limit - (cursor_in l.s.now).at + l.rank
+decreases-write_term l = l.s.now.bounds.limit - l.s.now.cursor.at + l.rank

@@ -2,59 +2,18 @@
 use Prim.Native.Nat.{ℕ, ◌-◌, ◌+◌, ◌≤◌, ◌<◌}
 use native.Mathlib.Omega.{arith}
 use mathlib.Core.Path.{◌≡◌, ◌∙◌, sym, ap, subst}
-use mathlib.Core.List.{List, [], ◌∷◌}
-use lib.ListN.{get_or}
+use mathlib.Core.List.{List}
 use Rattle.machine.specs.Words.{increment}
-use Rattle.printing.specs.Bindings.{deref}
 use Rattle.machine.proofs.Words.{increment_small}
 use Rattle.printing.specs.declared.Cursor.{Cursor}
 use Rattle.printing.specs.Numbering.{Printer, printer}
 use Rattle.printing.specs.WriteTerms.{emit_to, arguments_by, write_term}
-use Rattle.term_printer.specs.State.{state_of, cursor_in, bounds_in, with_limit}
+use Rattle.term_printer.specs.State.{with_limit}
 use Rattle.term_printer.specs.declared.Bounds.{Bounds}
-
--- A call took the cursor, and its cursor was put back.
-module _ (s s' : List ℕ) (q : Cursor) (e : s' ≡ state_of q (bounds_in s)) where
-  pub cursor_put : (f : ℕ → ℕ → Printer → Printer) (w w' out out' : List ℕ) (p : Cursor) → p ≡ cursor_in s
-      → printer w' out' q ≡ f (get_or s 3 0) (get_or s 4 0) (printer w out p)
-      → printer w' out' (cursor_in s') ≡ f (bounds_in s).turns (bounds_in s).limit (printer w out (cursor_in s))
-  unfolding cursor_in bounds_in state_of
-  cursor_put f w w' out out' p ep ef =
-      ap (λ (l : List ℕ). printer w' out' (cursor_in l)) e ∙ ef ∙ ap (λ (x : Cursor). f (get_or s 3 0) (get_or s 4 0) (printer w out x)) ep
-
-  pub bounds_kept : bounds_in s' ≡ bounds_in s
-  unfolding bounds_in state_of
-  bounds_kept = ap bounds_in e
-
--- The cursor is taken out of the state.
-pub cursor_taken : (w out s : List ℕ) (q : Cursor) (u : Printer) → q ≡ cursor_in s → printer w out (cursor_in s) ≡ u → printer w out q ≡ u
-cursor_taken w out s q u e h = ap (λ (x : Cursor). printer w out x) e ∙ h
-
--- The state is made of a cursor and bounds.
-pub state_made : (p : Cursor) (turns limit rank : ℕ) (sheet t w out : List ℕ) (a : ℕ) (u : Printer)
-    → (let s : List ℕ = p.at ∷ p.variables ∷ p.constants ∷ turns ∷ limit ∷ [] in
-    u ≡ write_term rank sheet t (bounds_in s).turns (bounds_in s).limit (printer w out (cursor_in s)) a)
-    → u ≡ write_term rank sheet t turns limit (printer w out p) a
-unfolding bounds_in cursor_in
-state_made p turns limit rank sheet t w out a u h = h
 
 -- The rank of a whole term is one above the limit.
 pub increment_back : (limit rank : ℕ) → limit ≤ 65535 → rank ≡ increment limit → limit ≡ rank - 1
 increment_back limit rank h e = let i = increment_small limit (omega arith) in omega arith
-
--- What the code reads of the state.
-module _ (s : List ℕ) where
-  pub past : get_or s 4 0 < get_or s 0 0 → (bounds_in s).limit < (cursor_in s).at
-  unfolding cursor_in bounds_in
-  past h = h
-
-  pub within : get_or s 0 0 ≤ get_or s 4 0 → (cursor_in s).at ≤ (bounds_in s).limit
-  unfolding cursor_in bounds_in
-  within h = h
-
-  pub sought : (w : List ℕ) (a b : ℕ) → b ≡ deref (get_or s 3 0) w a → b ≡ deref (bounds_in s).turns w a
-  unfolding bounds_in
-  sought w a b h = h
 
 -- The same at equal bounds.
 module _ (k k' : Bounds) (e : k ≡ k') where
@@ -101,7 +60,3 @@ module _ (k k' : Bounds) (e : k' ≡ with_limit k (k.limit - 1)) where
       (ap (λ (r : Cursor). printer w' out' r) eq' ∙ sym (ex ∙ ex')
       ∙ ap (λ (j : Bounds). arguments_by (write_term rank sheet t j.turns j.limit) t j.limit c n f 0 (printer w out q)) e
       ∙ ap (λ (r : Cursor). arguments_by (write_term rank sheet t k.turns (k.limit - 1)) t (k.limit - 1) c n f 0 (printer w out r)) eq)
-
--- A position that is not above one is not above the same.
-pub kept_at : (p q : Cursor) (n : ℕ) → q ≡ p → n ≤ p.at → n ≤ q.at
-kept_at p q n e h = subst (λ (r : Cursor). n ≤ r.at) (sym e) h

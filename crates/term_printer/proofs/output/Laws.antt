@@ -1,13 +1,15 @@
 -- One law for each way through a turn of a loop or through a call; the hypotheses are the facts on the code's path.
-use Prim.Native.Nat.{ℕ, zero, suc, ◌+◌, ◌-◌, ◌/◌, ◌%◌, ◌≤◌, ◌<◌}
+use Prim.Native.Nat.{ℕ, zero, suc, ◌+◌, ◌-◌, ◌/◌, ◌%◌, ◌≤◌, ◌<◌, min}
 use native.Mathlib.Numerals.{add-one, sub-one}
 use native.Mathlib.Omega.{arith}
-use mathlib.Core.Path.{◌≡◌, refl}
+use mathlib.Core.Path.{◌≡◌, ◌∙◌, refl, sym, ap}
 use mathlib.Core.List.{List}
 use borrow.Author.Tests.{lt-ltb, le-ltb}
-use lib.ListN.{length, get_or, set, drop, drop_of_length-le}
-use lib.Seq.{drop-cons}
+use lib.ListN.{length, get_or, set, take, drop, drop_of_length-le, length-drop}
+use lib.Seq.{drop-cons, take-length}
+use Rattle.std.proofs.lemmas.List.{drop_min, take_min}
 use Rattle.machine.specs.Words.{increment}
+use Rattle.printing.proofs.Bytes.{copied_bytes}
 use Rattle.printing.specs.Output.{Written, written, emit, write_bytes, copy_bytes, write_digits, write_number, write_symbol}
 
 -- Bytes.
@@ -30,22 +32,22 @@ module _ (bs out : List ℕ) (limit to i : ℕ) where
   unfolding write_bytes
   bytes_on out' to' h e = rw (drop-cons bs i 0 h, add-one i) (simp (write_bytes, ← e))
 
-module _ (sheet out : List ℕ) (limit to i : ℕ) where
-  pub copy_end : (n : ℕ) → n ≤ 0 → copy_bytes n sheet i out limit to ≡ written out to
-  unfolding copy_bytes
-  copy_end zero p = refl
-  copy_end (suc n) p = absurd (omega arith)
+-- The bytes from i on, of which there may be none.
+rest_from : (sheet : List ℕ) (i m : ℕ) → m ≡ min i (length sheet) → take (length sheet - m) (drop m sheet) ≡ drop i sheet
+rest_from sheet i m em =
+    let e : drop m sheet ≡ drop i sheet = ap (λ (k : ℕ). drop k sheet) em ∙ drop_min i sheet in
+    ap (λ (k : ℕ). take k (drop m sheet)) (sym (length-drop m sheet)) ∙ take-length (drop m sheet) ∙ e
 
-  pub copy_past : (n : ℕ) → length sheet ≤ i → copy_bytes n sheet i out limit to ≡ written out to
-  unfolding copy_bytes
-  copy_past zero h = refl
-  copy_past (suc n) h = simp (copy_bytes, le-ltb _ _ h)
-
-  pub copy_on : (n : ℕ) (out' : List ℕ) (to' : ℕ) → 0 < n → i < length sheet → written out' to' ≡ emit out limit to (get_or sheet i 0)
-      → copy_bytes n sheet i out limit to ≡ copy_bytes (n - 1) sheet (i + 1) out' limit to'
-  unfolding copy_bytes
-  copy_on zero out' to' p h e = absurd (omega arith)
-  copy_on (suc n) out' to' p h e = rw (sub-one (suc n), add-one i) (simp (copy_bytes, lt-ltb _ _ h, ← e))
+-- Copying n bytes from i on is writing the part of the sheet that they are.
+pub copied : (sheet : List ℕ) (i n m v k : ℕ) (out : List ℕ) (limit at : ℕ) (s : Written) → m ≡ min i (length sheet) → v ≡ n
+    → k ≡ min v (length (take (length sheet - m) (drop m sheet)))
+    → s ≡ write_bytes (take k (take (length sheet - m) (drop m sheet))) out limit at → s ≡ copy_bytes n sheet i out limit at
+copied sheet i n m v k out limit at s em ev ek es =
+    let r = rest_from sheet i m em in
+    let f : k ≡ min n (length (drop i sheet)) = rw (r, ev) at ek in
+    let g : take k (drop i sheet) ≡ take n (drop i sheet) = ap (λ (j : ℕ). take j (drop i sheet)) f ∙ take_min n (drop i sheet) in
+    es ∙ ap (λ (l : List ℕ). write_bytes (take k l) out limit at) r ∙ ap (λ (l : List ℕ). write_bytes l out limit at) g
+    ∙ sym (copied_bytes n sheet i out limit at)
 
 module _ (out : List ℕ) (limit at n : ℕ) where
   pub digits_none : (f : ℕ) → f ≡ 0 → written out at ≡ write_digits f out limit at n

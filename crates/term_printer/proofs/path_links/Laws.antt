@@ -19,22 +19,24 @@ unfolding link_word
 link_of p k a b r ea eb er = rw (er, ea, eb)
 
 module _ (w : List ℕ) (p k e : ℕ) where
-  pub link_end : (n : ℕ) → n ≤ 0 → link_path n w p k e ≡ linked w e
+  pub link_end : (n i : ℕ) → n ≤ i → link_path (n - i) w p k e ≡ linked w e
   unfolding link_path
-  link_end zero h = refl
-  link_end (suc n) h = absurd (omega arith)
+  link_end n i h =
+      let z : n - i ≡ 0 = omega arith in
+      rw z
 
   pub link_first : (n : ℕ) → p ≡ 0 → link_path n w p k e ≡ linked w e
   unfolding link_path
   link_first zero h = refl
   link_first (suc n) h = simp (link_path, eq-eqb _ _ h)
 
-  pub link_on : (n u b l a : ℕ) (w' : List ℕ) → 0 < n → (p ≡ 0 → ⊥) → u ≡ p - 1 → b ≡ field w u fields.path_before
+  pub link_on : (n i u b l a : ℕ) (w' : List ℕ) → i < n → (p ≡ 0 → ⊥) → u ≡ p - 1 → b ≡ field w u fields.path_before
       → l ≡ field w u fields.path_line → w' ≡ put_field w u next_line_field e → a ≡ link_word p k
-      → link_path n w p k e ≡ link_path (n - 1) w' b l a
+      → link_path (n - i) w p k e ≡ link_path (n - (i + 1)) w' b l a
   unfolding link_path
-  link_on zero u b l a w' h z eu eb el ew ea = absurd (omega arith)
-  link_on (suc n) u b l a w' h z eu eb el ew ea = rw (sub-one (suc n), ea, ew, el, eb, eu) (simp (link_path, ne_eqb _ _ z))
+  link_on n i u b l a w' h z eu eb el ew ea =
+      let s : n - i ≡ suc (n - (i + 1)) = omega arith in
+      rw (s, ea, ew, el, eb, eu) (simp (link_path, ne_eqb _ _ z))
 
 -- No numbers.
 pub cell_kept : (w : List ℕ) (x b a : ℕ) → b ≡ cell_of w x → a ≡ tag_of b → (a ≡ 0 → ⊥)

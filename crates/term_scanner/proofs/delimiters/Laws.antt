@@ -1,9 +1,9 @@
 -- Laws of the stack of delimiters: how many there are, and what is on it after one is pushed.
 use Prim.Native.Nat.{ℕ, zero, suc, ◌+◌, ◌-◌, ◌*◌, ◌/◌, ◌%◌, ◌<◌, ◌≤◌}
 use native.Mathlib.Omega.{arith}
-use native.Mathlib.Numerals.{add-one, sub-one}
-use mathlib.Core.Path.{◌≡◌, refl, sym, ap, ◌∙◌, subst}
-use mathlib.Core.List.{List, [], ◌∷◌}
+use native.Mathlib.Numerals.{add-one}
+use mathlib.Core.Path.{◌≡◌, refl, sym, ap, ◌∙◌}
+use mathlib.Core.List.{List, ◌∷◌}
 use lib.ListN.{length, get_or, set, length-set}
 use lib.Seq.{get_or-set_same, get_or-set_other}
 use Rattle.term_scanner.specs.declared.delimiters.DelimiterStack.{DelimiterStack}
@@ -163,18 +163,20 @@ module _ (w : List ℕ) (s : DelimiterStack) (f : Fits w s) where
 
 -- the delimiters of arguments
 
-pub pushed_none : (n b : ℕ) (l : List ℕ) → n ≤ 0 → pushed n b l ≡ l
-unfolding pushed
-pushed_none zero b l h = refl
-pushed_none (suc n) b l h = absurd (omega arith)
+-- Of n delimiters i are pushed.
+pub pushed_first : (n b : ℕ) (l : List ℕ) → pushed n b l ≡ pushed (n - 0) b l
+pushed_first n b l = let e : n - 0 ≡ n = omega arith in rw e
 
-pub pushed_more : (n b : ℕ) (l k : List ℕ) → 0 < n → k ≡ b ∷ l → pushed n b l ≡ pushed (n - 1) 1 k
+pub pushed_all : (n i b : ℕ) (l : List ℕ) → n ≤ i → pushed (n - i) b l ≡ l
 unfolding pushed
-pushed_more zero b l k h e = absurd (omega arith)
-pushed_more (suc n) b l k h e = rw (sub-one (suc n), e)
+pushed_all n i b l h = let e : n - i ≡ 0 = omega arith in rw e
+
+pub pushed_more : (n i b : ℕ) (l k : List ℕ) → i < n → k ≡ b ∷ l → pushed (n - i) b l ≡ pushed (n - (i + 1)) 1 k
+unfolding pushed
+pushed_more n i b l k h e = let d : n - i ≡ suc (n - (i + 1)) = omega arith in rw (d, e)
 
 -- There is room for the delimiters that are left.
-pub room_more : (w v : List ℕ) (n b : ℕ) (l k : List ℕ) → 0 < n → n + length l ≤ capacity w → length v ≡ length w → k ≡ b ∷ l
-    → n - 1 + length k ≤ capacity v
+pub room_more : (w v : List ℕ) (n i b : ℕ) (l k : List ℕ) → i < n → n - i + length l ≤ capacity w → length v ≡ length w → k ≡ b ∷ l
+    → n - (i + 1) + length k ≤ capacity v
 unfolding capacity
-room_more w v n b l k h g e d = let c = ap length d in omega arith
+room_more w v n i b l k h g e d = let c = ap length d in omega arith

@@ -5,43 +5,19 @@ use native.Mathlib.Numerals.{sub-one}
 use mathlib.Core.Path.{◌≡◌, refl, sym, ap, ap₂, ◌∙◌}
 use mathlib.Core.Bool.{Bool, true, false, ◌&&◌, cond, true≢false}
 use mathlib.Core.List.{List}
-use lib.Dec.{eqb, ltb}
-use lib.ListN.{length, get_or, length-map}
-use borrow.Author.Tests.{eqb-true, eqb-false, eq-eqb}
+use lib.Dec.{eqb}
+use lib.ListN.{get_or}
+use borrow.Author.Tests.{eqb-true, eq-eqb}
 use Rattle.sheet_format.specs.Bytes.{folded, folded_name}
 use Rattle.scanning.specs.Ranges.{same_range, same_folded}
 use Rattle.node_table.proofs.Words.{byte_folded}
 use Rattle.scanning.proofs.Ranges.{range_folded}
-use Rattle.term_scanner.proofs.ranges.Laws.{range_end, range_next, range_off, range_last}
+use Rattle.term_scanner.proofs.ranges.Laws.{range_end, range_last}
 
 -- Two ranges are the same but for case if the ranges of the folded lists are the same, so each law is that of `same_range` there.
 
 pub folded_end : (n : ℕ) (a : List ℕ) (i : ℕ) (b : List ℕ) (j : ℕ) → n ≤ 0 → same_folded n a i b j ≡ true
 folded_end n a i b j h = range_folded n a i b j ∙ range_end n (folded_name a) i (folded_name b) j h
-
--- A byte that was read, folded, is that of the folded list.
-byte_there : (x : List ℕ) (i c : ℕ) → c ≡ get_or x i 0 → folded c ≡ get_or (folded_name x) i 0
-byte_there x i c e = ap folded e ∙ sym (byte_folded x i)
-
--- A folded list has as many positions.
-after_there : (x : List ℕ) (i p : ℕ) → p ≡ cond (ltb i (length x)) (i + 1) i → p ≡ cond (ltb i (length (folded_name x))) (i + 1) i
-after_there x i p e = rw (length-map x folded) e
-
-pub folded_next : (n : ℕ) (a : List ℕ) (i : ℕ) (b : List ℕ) (j c d : ℕ) (z : Bool) (p q : ℕ) → 0 < n → c ≡ get_or a i 0 → d ≡ get_or b j 0
-    → z ≡ eqb (folded c) (folded d) → z ≡ true → p ≡ cond (ltb i (length a)) (i + 1) i → q ≡ cond (ltb j (length b)) (j + 1) j
-    → same_folded n a i b j ≡ same_folded (n - 1) a p b q
-folded_next n a i b j c d z p q h ec ed ez e ep eq =
-    range_folded n a i b j
-    ∙ range_next n (folded_name a) i (folded_name b) j (folded c) (folded d) p q h (byte_there a i c ec) (byte_there b j d ed)
-    (eqb-true (folded c) (folded d) (sym ez ∙ e)) (after_there a i p ep) (after_there b j q eq)
-    ∙ sym (range_folded (n - 1) a p b q)
-
-pub folded_off : (n : ℕ) (a : List ℕ) (i : ℕ) (b : List ℕ) (j c d : ℕ) (z : Bool) → 0 < n → c ≡ get_or a i 0 → d ≡ get_or b j 0
-    → z ≡ eqb (folded c) (folded d) → z ≡ false → same_folded n a i b j ≡ false
-folded_off n a i b j c d z h ec ed ez e =
-    range_folded n a i b j
-    ∙ range_off n (folded_name a) i (folded_name b) j (folded c) (folded d) h (byte_there a i c ec) (byte_there b j d ed)
-    (eqb-false (folded c) (folded d) (sym ez ∙ e))
 
 -- Equal bytes are the same letter.
 equal_folded : (n : ℕ) (a : List ℕ) (i : ℕ) (b : List ℕ) (j : ℕ) → same_range n a i b j ≡ true → same_folded n a i b j ≡ true

@@ -1,8 +1,10 @@
-use borrow.Author.Tests.{eq-eqb, ne_eqb}
+use Rattle.term_scanner.specs.Steps.{found}
+use Rattle.term_scanner.proofs.Advancing.{found_none}
 use Rattle.term_scanner.proofs.found.Goals as goal
 
-pub returns-then-s-eq-ENDED : goal.returns-then-s-eq-ENDED
-returns-then-s-eq-ENDED c = simp (eq-eqb _ _ c.if-s-eq-ENDED.true)
+pub returns-in-Ended : goal.returns-in-Ended
+unfolding found
+returns-in-Ended c = rw c.in-Ended.is
 
-pub returns : goal.returns
-returns c = simp (ne_eqb _ _ c.if-s-eq-ENDED.false)
+pub returns-in_default : goal.returns-in_default
+returns-in_default c = found_none _ c.in_default.not-Ended

@@ -2,12 +2,12 @@
 use Prim.Native.Nat.{ℕ, zero, suc, ◌+◌, ◌-◌, ◌<◌, ◌≤◌}
 use native.Mathlib.Omega.{arith}
 use native.Mathlib.Numerals.{add-one, sub-one}
-use mathlib.Core.Path.{◌≡◌, refl, sym, ◌∙◌}
+use mathlib.Core.Path.{◌≡◌, refl, sym, ap, ◌∙◌}
 use mathlib.Core.Bool.{Bool, true, false, ◌&&◌, cond}
-use mathlib.Core.List.{List}
+use mathlib.Core.List.{List, [], ◌∷◌, map}
 use lib.Dec.{eqb, ltb}
-use lib.ListN.{length, get_or, get_or-eq_default}
-use borrow.Author.Tests.{ltb-true, ltb-false, eq-eqb, ne_eqb}
+use lib.ListN.{length, get_or, get_or-eq_default, get_or-map, length-map}
+use borrow.Author.Tests.{ltb-true, ltb-false, eqb-true, eqb-false, eq-eqb, ne_eqb}
 use Rattle.scanning.specs.Ranges.{same_range, find_byte}
 
 -- ranges
@@ -63,10 +63,50 @@ after_right n a i b j q e = go (ltb j (length b)) refl e
     go true h e = rw e
     go false h e = let l = ltb-false j (length b) h in past_right n a i b (j + 1) q (omega arith) (omega arith)
 
-pub range_next : (n : ℕ) (a : List ℕ) (i : ℕ) (b : List ℕ) (j c d p q : ℕ) → 0 < n → c ≡ get_or a i 0 → d ≡ get_or b j 0 → c ≡ d
+range_next : (n : ℕ) (a : List ℕ) (i : ℕ) (b : List ℕ) (j c d p q : ℕ) → 0 < n → c ≡ get_or a i 0 → d ≡ get_or b j 0 → c ≡ d
     → p ≡ cond (ltb i (length a)) (i + 1) i → q ≡ cond (ltb j (length b)) (j + 1) j → same_range n a i b j ≡ same_range (n - 1) a p b q
 range_next n a i b j c d p q h ec ed e ep eq =
     range_on n a i b j c d h ec ed e ∙ after_left (n - 1) a i b (j + 1) p ep ∙ after_right (n - 1) a p b j q eq
+
+-- Of n bytes k are compared.
+pub range_first : (n : ℕ) (a : List ℕ) (i : ℕ) (b : List ℕ) (j : ℕ) → same_range n a i b j ≡ same_range (n - 0) a i b j
+range_first n a i b j = let e : n - 0 ≡ n = omega arith in rw e
+
+pub range_turn : (n k : ℕ) (a : List ℕ) (i : ℕ) (b : List ℕ) (j c d p q : ℕ) → k < n → c ≡ get_or a i 0 → d ≡ get_or b j 0 → c ≡ d
+    → p ≡ cond (ltb i (length a)) (i + 1) i → q ≡ cond (ltb j (length b)) (j + 1) j
+    → same_range (n - k) a i b j ≡ same_range (n - (k + 1)) a p b q
+range_turn n k a i b j c d p q h ec ed e ep eq =
+    let u : n - (k + 1) ≡ n - k - 1 = omega arith in
+    rw u (range_next (n - k) a i b j c d p q (omega arith) ec ed e ep eq)
+
+-- comparing bytes after a function
+
+map_self : (l : List ℕ) → map (λ (x : ℕ). x) l ≡ l
+map_self [] = refl
+map_self (c ∷ l) = ap (c ∷◌) (map_self l)
+
+pub mapped_self : (n : ℕ) (a : List ℕ) (i : ℕ) (b : List ℕ) (j : ℕ)
+    → same_range n (map (λ (x : ℕ). x) a) i (map (λ (x : ℕ). x) b) j ≡ same_range n a i b j
+mapped_self n a i b j = rw (map_self a, map_self b)
+
+module _ (f : ℕ → ℕ) (z : f 0 ≡ 0) where
+  mapped_byte : (x : List ℕ) (i c : ℕ) → c ≡ get_or x i 0 → f c ≡ get_or (map f x) i 0
+  mapped_byte x i c e = ap f e ∙ sym (get_or-map f x i 0) ∙ ap (get_or (map f x) i) z
+
+  mapped_after : (x : List ℕ) (i p : ℕ) → p ≡ cond (ltb i (length x)) (i + 1) i → p ≡ cond (ltb i (length (map f x))) (i + 1) i
+  mapped_after x i p e = rw (length-map x f) e
+
+  pub mapped_turn : (n k : ℕ) (a : List ℕ) (i : ℕ) (b : List ℕ) (j c d p q : ℕ) → k < n → c ≡ get_or a i 0 → d ≡ get_or b j 0
+      → true ≡ eqb (f c) (f d) → p ≡ cond (ltb i (length a)) (i + 1) i → q ≡ cond (ltb j (length b)) (j + 1) j
+      → same_range (n - k) (map f a) i (map f b) j ≡ same_range (n - (k + 1)) (map f a) p (map f b) q
+  mapped_turn n k a i b j c d p q h ec ed e ep eq =
+      range_turn n k (map f a) i (map f b) j (f c) (f d) p q h (mapped_byte a i c ec) (mapped_byte b j d ed)
+      (eqb-true (f c) (f d) (sym e)) (mapped_after a i p ep) (mapped_after b j q eq)
+
+  pub mapped_off : (n : ℕ) (a : List ℕ) (i : ℕ) (b : List ℕ) (j c d : ℕ) → 0 < n → c ≡ get_or a i 0 → d ≡ get_or b j 0
+      → false ≡ eqb (f c) (f d) → same_range n (map f a) i (map f b) j ≡ false
+  mapped_off n a i b j c d h ec ed e =
+      range_off n (map f a) i (map f b) j (f c) (f d) h (mapped_byte a i c ec) (mapped_byte b j d ed) (eqb-false (f c) (f d) (sym e))
 
 -- a range from its front
 

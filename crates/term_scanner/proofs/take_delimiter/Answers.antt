@@ -27,7 +27,7 @@ pub returns-then-b-eq41 : goal.returns-then-b-eq41
 returns-then-b-eq41 c =
     λ rank b t symbols. take_bracket rank b t symbols c.args.text.now c.args.lent.now c.args.s c.requires.0
     c.requires.1 _ refl _ c.if-stack-eq0.false refl refl refl _ c.byte-b.ensures _ c.if-stack-eq-BRACKET.true
-    c.if-b-eq41.true refl c.monus.ensures refl refl refl
+    c.if-b-eq41.true refl c.saturating_sub.ensures refl refl refl
 
 pub returns-then-stack-eq-BRACKET : goal.returns-then-stack-eq-BRACKET
 returns-then-stack-eq-BRACKET c =

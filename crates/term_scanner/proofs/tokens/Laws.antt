@@ -2,14 +2,13 @@
 use Prim.Native.Nat.{ℕ, ◌+◌, ◌-◌, ◌*◌, ◌<◌, ◌≤◌}
 use native.Mathlib.Omega.{arith}
 use mathlib.Core.Path.{◌≡◌, refl, sym, ◌∙◌}
-use mathlib.Core.Bool.{Bool, true, false, ◌&&◌, cond}
+use mathlib.Core.Bool.{Bool, true, false}
 use mathlib.Core.List.{List}
-use lib.Dec.{eqb, leb}
 use lib.ListN.{length, get_or}
-use borrow.Author.Tests.{le-leb, lt-leb, eq-eqb, ne_eqb}
+use borrow.Author.Tests.{le-leb, lt-leb}
 use Rattle.sheet_format.specs.Bytes.{is_digit, is_name_byte}
 use Rattle.sheet_format.proofs.Bytes.{digit_bounds}
-use Rattle.scanning.specs.declared.Number.TheVariants.{Value, Missing}
+use Rattle.std.specs.Prelude.{Some, None}
 use Rattle.scanning.specs.Ranges.{number_from}
 use Rattle.scanning.specs.Scanning.{name_from, name_end}
 use Rattle.term_scanner.proofs.ranges.Laws.{inside, one_less}
@@ -35,35 +34,24 @@ end_on x i z h e k = rw (one_less x i h, ← e, k)
 
 -- numbers
 
-pub number_stop : (x : List ℕ) (i v : ℕ) → length x ≤ i → number_from (length x - i) x i v ≡ Value v i
+pub number_stop : (x : List ℕ) (i v : ℕ) → length x ≤ i → number_from (length x - i) x i v ≡ Some (v, i)
 unfolding number_from
 number_stop x i v h = let e : length x - i ≡ 0 = omega arith in rw e
 
-pub number_low : (x : List ℕ) (i v : ℕ) → i < length x → get_or x i 0 < 48 → number_from (length x - i) x i v ≡ Value v i
-unfolding number_from is_digit
-number_low x i v h e = rw (one_less x i h, lt-leb 48 (get_or x i 0) e)
+-- The position i is in the text, and z says whether its byte is a digit.
+module _ (x : List ℕ) (i v : ℕ) (z : Bool) (h : i < length x) (d : z ≡ is_digit (get_or x i 0)) where
+  pub number_ended : z ≡ false → number_from (length x - i) x i v ≡ Some (v, i)
+  unfolding number_from
+  number_ended e = rw (one_less x i h, ← d, e)
 
-pub number_high : (x : List ℕ) (i v : ℕ) → i < length x → 57 < get_or x i 0 → number_from (length x - i) x i v ≡ Value v i
-unfolding number_from is_digit
-number_high x i v h e = rw (one_less x i h, lt-leb (get_or x i 0) 57 e) (go (leb 48 (get_or x i 0)))
-  where
-    go : (b : Bool)
-        → cond (b && false) (cond (leb (10 * v + (get_or x i 0 - 48)) 65535)
-        (number_from (length x - (i + 1)) x (i + 1) (10 * v + (get_or x i 0 - 48))) Missing) (Value v i) ≡ Value v i
-    go true = refl
-    go false = refl
+  pub number_much : z ≡ true → 65535 < 10 * v + (get_or x i 0 - 48) → number_from (length x - i) x i v ≡ None
+  unfolding number_from
+  number_much e l = rw (one_less x i h, ← d, e, lt-leb (10 * v + (get_or x i 0 - 48)) 65535 l)
 
-pub number_much : (x : List ℕ) (i v : ℕ) → i < length x → 48 ≤ get_or x i 0 → get_or x i 0 ≤ 57 → 65535 < 10 * v + (get_or x i 0 - 48)
-    → number_from (length x - i) x i v ≡ Missing
-unfolding number_from is_digit
-number_much x i v h a b e =
-    rw (one_less x i h, le-leb 48 (get_or x i 0) a, le-leb (get_or x i 0) 57 b, lt-leb (10 * v + (get_or x i 0 - 48)) 65535 e)
-
-pub number_on : (x : List ℕ) (i v : ℕ) → i < length x → 48 ≤ get_or x i 0 → get_or x i 0 ≤ 57 → 10 * v + (get_or x i 0 - 48) ≤ 65535
-    → number_from (length x - i) x i v ≡ number_from (length x - (i + 1)) x (i + 1) (10 * v + (get_or x i 0 - 48))
-unfolding number_from is_digit
-number_on x i v h a b e =
-    rw (one_less x i h, le-leb 48 (get_or x i 0) a, le-leb (get_or x i 0) 57 b, le-leb (10 * v + (get_or x i 0 - 48)) 65535 e)
+  pub number_on : z ≡ true → 10 * v + (get_or x i 0 - 48) ≤ 65535
+      → number_from (length x - i) x i v ≡ number_from (length x - (i + 1)) x (i + 1) (10 * v + (get_or x i 0 - 48))
+  unfolding number_from
+  number_on e l = rw (one_less x i h, ← d, e, le-leb (10 * v + (get_or x i 0 - 48)) 65535 l)
 
 -- digits
 

@@ -1,5 +1,5 @@
 -- One law for each way through a turn of the loop or through a call; the hypotheses are the facts on the code's path.
-use Prim.Native.Nat.{ℕ, ◌-◌}
+use Prim.Native.Nat.{ℕ}
 use mathlib.Core.Path.{◌≡◌}
 use mathlib.Core.List.{List}
 use borrow.Author.Tests.{eq-eqb, ne_eqb}

@@ -1,6 +1,6 @@
-use Prim.Native.Nat.{ℕ, ◌-◌}
+use Prim.Native.Nat.{ℕ}
 use native.Mathlib.Omega.{arith}
-use mathlib.Core.Path.{sym}
+use mathlib.Core.Path.{sym, ◌∙◌}
 use lib.ListN.{length-replicate}
 use Rattle.text_checker.proofs.Laws.{end_after, line_judged, next_valid, staged_valid, text_start, text_ends, text_breaks, text_on}
 use Rattle.text_checker.proofs.Laws.{text_valid}
@@ -18,10 +18,9 @@ loop-e-init c = (
   text_valid 8472 _ _ c.start-r.ensures,
 )
 
-pub stage_line-s-requires : goal.stage_line-s-requires
-stage_line-s-requires c =
-    let h = end_after c.args.text.now _ _ c.loop-e.invariant.3 in
-    (search rules, omega arith, omega arith, search rules)
+pub invariant_of-line : goal.invariant_of-line
+invariant_of-line c =
+    record { in_text = (c.loop-e.invariant.2, end_after c.args.text.now _ _ c.loop-e.invariant.3, omega (arith, c.loop-e-test.true, c.requires)) }
 
 pub slice_bounds-order_line-end : goal.slice_bounds-order_line-end
 slice_bounds-order_line-end c =
@@ -33,11 +32,11 @@ order_line-r-requires c = (
   staged_valid _ _ _ _ _ _ _ _ _ _ _ _ _ _ c.stage_line-s.ensures c.loop-e.invariant.6,
 )
 
-pub returns-then-stage-eq-BROKEN : goal.returns-then-stage-eq-BROKEN
-returns-then-stage-eq-BROKEN c =
+pub returns-then-is_broken : goal.returns-then-is_broken
+returns-then-is_broken c =
     let judged = line_judged _ _ _ _ _ _ _ _ _ _ _ _ _ _ c.stage_line-s.ensures (c.order_line-r.ensures.0 _) in
     sym (text_breaks _ _ _ _ _ _ _ _ _ _ _ _ c.loop-e.invariant.1 c.loop-e.invariant.3 _ _ judged
-    c.loop-e-test.true c.loop-e.invariant.4 c.if-stage-eq-BROKEN.true)
+    c.loop-e-test.true c.loop-e.invariant.4 (sym c.is_broken.ensures ∙ c.if-is_broken.true))
 
 pub loop-e-smaller : goal.loop-e-smaller
 loop-e-smaller c =
@@ -52,10 +51,10 @@ loop-e-preserved c =
       omega arith,
       c.text_line_end-e-in-loop-e.ensures,
       text_on _ _ _ _ _ _ _ _ _ _ _ _ c.loop-e.invariant.1 c.loop-e.invariant.3 _ _ judged c.loop-e-test.true
-          c.loop-e.invariant.4 c.if-stage-eq-BROKEN.false,
+          c.loop-e.invariant.4 (sym c.is_broken.ensures ∙ c.if-is_broken.false),
       search rules,
       next_valid c.args.text.now _ _ _ _ _ c.loop-e.invariant.3 c.loop-e.invariant.1 c.loop-e-test.true
-          (c.order_line-r.ensures.1 c.if-stage-eq-BROKEN.false),
+          (c.order_line-r.ensures.1 (sym c.is_broken.ensures ∙ c.if-is_broken.false)),
     )
 
 pub returns : goal.returns

@@ -1,30 +1,25 @@
+use Rattle.std.proofs.Common.{arith}
 use Rattle.sheet_format.specs.Bytes.{ascii}
-use Rattle.answer_printer.proofs.path_lines.Laws.{plain_and, plain_assume, plain_left, plain_right, plain_true}
+use Rattle.printing.specs.WriteLines.{plain_bytes}
+use Rattle.answer_printer.proofs.path_lines.Laws.{plain_kind, plain_assume}
 use Rattle.answer_printer.proofs.path_lines.plain_to.Goals as goal
 
-pub returns-then-k-eq-TRUE : goal.returns-then-k-eq-TRUE
-unfolding ascii
-returns-then-k-eq-TRUE c =
-    λ m. plain_true _ _ _ _ c.if-k-eq-TRUE.true (c.bytes_to.ensures m)
+pub returns-in-0 : goal.returns-in-0
+unfolding ascii plain_bytes
+returns-in-0 c = λ m. plain_kind _ _ _ _ _ c.in-0.is (c.bytes_to.ensures m)
 
-pub returns-then-k-eq-AND : goal.returns-then-k-eq-AND
-unfolding ascii
-returns-then-k-eq-AND c =
-    λ m. plain_and _ _ _ _ c.if-k-eq-TRUE.false c.if-k-eq-AND.true (c.bytes_to-then-k-eq-AND.ensures m)
+pub returns-in-1 : goal.returns-in-1
+unfolding ascii plain_bytes
+returns-in-1 c = λ m. plain_kind _ _ _ _ _ c.in-1.is (c.bytes_to-in-1.ensures m)
 
-pub returns-then-k-eq-LEFT : goal.returns-then-k-eq-LEFT
-unfolding ascii
-returns-then-k-eq-LEFT c =
-    λ m. plain_left _ _ _ _ c.if-k-eq-TRUE.false c.if-k-eq-AND.false c.if-k-eq-LEFT.true (c.bytes_to-then-k-eq-LEFT.ensures m)
+pub returns-in-2 : goal.returns-in-2
+unfolding ascii plain_bytes
+returns-in-2 c = λ m. plain_kind _ _ _ _ _ c.in-2.is (c.bytes_to-in-2.ensures m)
 
-pub returns-then-k-eq-RIGHT : goal.returns-then-k-eq-RIGHT
-unfolding ascii
-returns-then-k-eq-RIGHT c =
-    λ m. plain_right _ _ _ _ c.if-k-eq-TRUE.false c.if-k-eq-AND.false c.if-k-eq-LEFT.false c.if-k-eq-RIGHT.true
-    (c.bytes_to-then-k-eq-RIGHT.ensures m)
+pub returns-in-3 : goal.returns-in-3
+unfolding ascii plain_bytes
+returns-in-3 c = λ m. plain_kind _ _ _ _ _ c.in-3.is (c.bytes_to-in-3.ensures m)
 
-pub returns : goal.returns
+pub returns-in_default : goal.returns-in_default
 unfolding ascii
-returns c =
-    λ m. plain_assume _ _ _ _ c.if-k-eq-TRUE.false c.if-k-eq-AND.false c.if-k-eq-LEFT.false c.if-k-eq-RIGHT.false
-    (c.bytes_to-2.ensures m)
+returns-in_default c = λ m. plain_assume _ _ _ _ (omega arith) (c.bytes_to-in_default.ensures m)

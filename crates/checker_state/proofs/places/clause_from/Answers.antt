@@ -1,4 +1,3 @@
-use Prim.Native.Nat.{◌-◌}
 use mathlib.Core.Path.{sym, ◌∙◌}
 use Rattle.checker_state.proofs.places.Laws.{clause_start, clause_none, clause_here, clause_on}
 use Rattle.checker_state.proofs.places.clause_from.Goals as goal

@@ -5,6 +5,3 @@ use Rattle.checker_state.proofs.registers.free_from.Given as goal
 
 abbrev pub invariant-loop-at : goal.invariant-loop-at
 invariant-loop-at l = free_from (8 - l.v) l.mask l.v ≡ free_from (8 - l.at) l.mask l.at
-
-abbrev pub decreases-loop-at : goal.decreases-loop-at
-decreases-loop-at l = 8 - l.at

@@ -1,4 +1,3 @@
-use Prim.Native.Nat.{◌-◌}
 use mathlib.Core.Path.{sym, ◌∙◌}
 use Rattle.checker_state.proofs.starts.Laws.{sheet_start, sheet_end, sheet_on}
 use borrow.Author.Rules.{rules}
@@ -20,7 +19,7 @@ loop-i-preserved c =
       search rules,
       search rules,
       c.loop-i.invariant.2
-          ∙ sheet_on _ _ _ _ _ _ _ c.loop-i-test.true c.clause_node-node.ensures
+          ∙ sheet_on _ _ _ _ _ _ _ c.loop-i-test.true c.clause_node.ensures
           c.members.ensures.0 c.widen-total.ensures.0,
     )
 

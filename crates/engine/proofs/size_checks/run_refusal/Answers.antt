@@ -11,16 +11,15 @@ pub returns-then-table-lt-TABLE_NUMBERS : goal.returns-then-table-lt-TABLE_NUMBE
 unfolding run_refusal
 returns-then-table-lt-TABLE_NUMBERS c = simp (run_refusal, lt-ltb _ _ c.if-table-lt-TABLE_NUMBERS.true, le-ltb _ _ c.if-sheet-gt-MAX_SHEET_BYTES.false)
 
-pub returns-then-number-ne0 : goal.returns-then-number-ne0
-returns-then-number-ne0 c =
-    refused_ask _ _ _ _ _ c.if-sheet-gt-MAX_SHEET_BYTES.false c.if-table-lt-TABLE_NUMBERS.false c.ask_refusal-number.ensures c.if-number-ne0.true
+pub returns-in-Some : goal.returns-in-Some
+returns-in-Some c = refused_ask _ _ _ _ c.if-sheet-gt-MAX_SHEET_BYTES.false c.if-table-lt-TABLE_NUMBERS.false _ c.in-Some.ensures
 
 pub returns-then-work-widen : goal.returns-then-work-widen
 returns-then-work-widen c =
-    refused_work _ _ _ _ _ c.if-sheet-gt-MAX_SHEET_BYTES.false c.if-table-lt-TABLE_NUMBERS.false c.ask_refusal-number.ensures _
-    c.if-number-ne0.false c.widen.ensures.0 c.if-work-widen.true
+    refused_work _ _ _ _ c.if-sheet-gt-MAX_SHEET_BYTES.false c.if-table-lt-TABLE_NUMBERS.false _ c.in_default.ensures
+    c.widen.ensures.0 c.if-work-widen.true
 
 pub returns : goal.returns
 returns c =
-    refused_none _ _ _ _ _ c.if-sheet-gt-MAX_SHEET_BYTES.false c.if-table-lt-TABLE_NUMBERS.false c.ask_refusal-number.ensures _
-    c.if-number-ne0.false c.widen.ensures.0 c.if-work-widen.false
+    refused_none _ _ _ _ c.if-sheet-gt-MAX_SHEET_BYTES.false c.if-table-lt-TABLE_NUMBERS.false _ c.in_default.ensures
+    c.widen.ensures.0 c.if-work-widen.false

@@ -1,15 +1,21 @@
+use Prim.Native.Nat.{◌+◌, ◌-◌}
 use Rattle.instances.proofs.frames.Laws.{copy_end, copy_on}
-use borrow.Author.Rules.{rules}
-use mathlib.Core.Path.{◌∙◌, sym}
+use Rattle.scanning.specs.Frames.{copy_ranges}
+use mathlib.Core.Path.{◌≡◌, refl, ap, ◌∙◌, sym}
+use native.Mathlib.Omega.{arith}
+use Prim.Native.Nat.{ℕ}
 use Rattle.instances.proofs.frames.copy_ranges.Goals as goal
 
-pub loop-left-preserved : goal.loop-left-preserved
-loop-left-preserved c = (
-  search rules,
-  c.put_field.auto.w ∙ c.loop-left.invariant.1,
-  c.loop-left.invariant.2
-      ∙ copy_on _ _ _ _ _ _ _ c.loop-left-test.true c.field-a.ensures c.put_field.ensures,
+pub loop-at-init : goal.loop-at-init
+loop-at-init c =
+    let z : c.args.n ≡ c.args.f + c.args.n - c.args.f = omega arith in
+    (refl, ap (λ (m : ℕ). copy_ranges m c.args.w.now c.args.r c.args.q c.args.f) z)
+
+pub loop-at-preserved : goal.loop-at-preserved
+loop-at-preserved c = (
+  c.put_field.auto.w ∙ c.loop-at.invariant.0,
+  c.loop-at.invariant.1 ∙ copy_on _ _ _ _ _ _ _ c.loop-at-test.true c.field-a.ensures c.put_field.ensures,
 )
 
 pub returns : goal.returns
-returns c = sym (c.loop-left.invariant.2 ∙ copy_end _ _ _ _ _ c.loop-left-test.false)
+returns c = sym (c.loop-at.invariant.1 ∙ copy_end _ _ _ _ _ c.loop-at-test.false)

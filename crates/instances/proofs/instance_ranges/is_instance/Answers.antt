@@ -7,4 +7,4 @@ returns-in_default c = instance_differs _ _ _ _ _ _ _ _ _ c.match_instance.ensur
 pub returns : goal.returns
 returns c =
     instance_ends _ _ _ _ _ _ _ _ _ _ c.match_instance.ensures
-    c.in-To.is
+    c.in-Some.is

@@ -10,15 +10,15 @@ returns-then-a-b c = rw (eq-eqb _ _ c.if-a-b.true)
 
 pub returns-then-same_range : goal.returns-then-same_range
 returns-then-same_range c =
-    slots_same _ _ _ _ _ _ _ _ c.if-a-b.false c.monus-n.ensures
-    c.monus.ensures c.if-n-monus.true (range_equal _ _ _ _ _ _ c.same_range.ensures c.if-same_range.true)
+    slots_same _ _ _ _ _ _ _ _ c.if-a-b.false c.size-n.ensures
+    c.size.ensures c.if-n-size.true (range_equal _ _ _ _ _ _ c.same_range.ensures c.if-same_range.true)
 
-pub returns-then-n-monus : goal.returns-then-n-monus
-returns-then-n-monus c =
-    slots_same _ _ _ _ _ _ _ _ c.if-a-b.false c.monus-n.ensures
-    c.monus.ensures c.if-n-monus.true c.same_folded.ensures
+pub returns-then-n-size : goal.returns-then-n-size
+returns-then-n-size c =
+    slots_same _ _ _ _ _ _ _ _ c.if-a-b.false c.size-n.ensures
+    c.size.ensures c.if-n-size.true c.same_folded.ensures
 
 pub returns : goal.returns
 returns c =
-    slots_other _ _ _ _ _ _ _ c.if-a-b.false c.monus-n.ensures c.monus.ensures
-    c.if-n-monus.false
+    slots_other _ _ _ _ _ _ _ c.if-a-b.false c.size-n.ensures c.size.ensures
+    c.if-n-size.false

@@ -1,35 +1,29 @@
-use Prim.Native.Nat.{◌-◌}
-use native.Mathlib.Omega.{arith}
-use mathlib.Core.Path.{refl, ◌∙◌}
-use Rattle.line_parser.proofs.fields.Laws.{digits_low, digits_high, digits_large, digits_on, digits_end, answer_bad, answer_value}
-use borrow.Author.Rules.{rules}
+use Rattle.std.proofs.Common.{rules, arith, refl, sym, ◌∙◌}
+use Rattle.line_parser.proofs.fields.Laws.{digits_off, digits_large, digits_on, digits_end, answer_bad, answer_value}
 use Rattle.line_parser.proofs.fields.read_digits.Goals as goal
 
-pub loop-i-init : goal.loop-i-init
-loop-i-init c = (search rules, search rules, refl)
+pub loop-b-init : goal.loop-b-init
+loop-b-init c = (omega arith, refl)
 
-pub returns-then-b-lt48 : goal.returns-then-b-lt48
-returns-then-b-lt48 c =
-    answer_bad _ _ (c.loop-i.invariant.2 ∙ digits_low _ _ _ c.loop-i-test.true c.if-b-lt48.true)
+pub returns-then-not-is_ascii_digit : goal.returns-then-not-is_ascii_digit
+returns-then-not-is_ascii_digit c =
+    answer_bad _ _ (c.loop-b.invariant.1
+    ∙ digits_off _ _ _ c.loop-b-test.true (sym c.is_ascii_digit.ensures.value ∙ c.if-not-is_ascii_digit.true))
 
-pub returns-then-b-gt57 : goal.returns-then-b-gt57
-returns-then-b-gt57 c =
-    answer_bad _ _ (c.loop-i.invariant.2 ∙ digits_high _ _ _ c.loop-i-test.true c.if-b-lt48.false c.if-b-gt57.true)
+pub returns-then-v-gt-MAX_NUMBER : goal.returns-then-v-gt-MAX_NUMBER
+returns-then-v-gt-MAX_NUMBER c =
+    answer_bad _ _ (c.loop-b.invariant.1
+    ∙ digits_large _ _ _ c.loop-b-test.true _ (sym c.is_ascii_digit.ensures.value ∙ c.if-not-is_ascii_digit.false) (omega arith)
+    c.if-v-gt-MAX_NUMBER.true)
 
-pub returns-then-w-gt-MAX_NUMBER : goal.returns-then-w-gt-MAX_NUMBER
-returns-then-w-gt-MAX_NUMBER c =
-    answer_bad _ _ (c.loop-i.invariant.2
-    ∙ digits_large _ _ _ c.loop-i-test.true c.if-b-lt48.false c.if-b-gt57.false c.if-w-gt-MAX_NUMBER.true)
-
-pub loop-i-preserved : goal.loop-i-preserved
-loop-i-preserved c = (
+pub loop-b-preserved : goal.loop-b-preserved
+loop-b-preserved c = (
   search rules,
-  search rules,
-  c.loop-i.invariant.2
-      ∙ digits_on _ _ _ c.loop-i-test.true c.if-b-lt48.false c.if-b-gt57.false,
+  c.loop-b.invariant.1
+      ∙ digits_on _ _ _ c.loop-b-test.true _ (sym c.is_ascii_digit.ensures.value ∙ c.if-not-is_ascii_digit.false) (omega arith),
 )
 
 pub returns : goal.returns
 returns c =
-    let l = c.loop-i in
-    answer_value _ _ _ _ (l.invariant.2 ∙ digits_end _ _ _ c.loop-i-test.false l.invariant.1) (omega arith)
+    let l = c.loop-b in
+    answer_value _ _ _ _ (l.invariant.1 ∙ digits_end _ _ _ c.loop-b-test.false l.invariant.0) refl

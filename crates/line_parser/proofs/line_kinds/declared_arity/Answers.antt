@@ -7,8 +7,8 @@ returns-in_default c = arity_none _ _ _ _ (sym c.one_number.ensures ∙ c.in_def
 
 pub returns-then-a-gt-MAX_ARITY : goal.returns-then-a-gt-MAX_ARITY
 returns-then-a-gt-MAX_ARITY c =
-    arity_large _ _ _ _ (sym c.one_number.ensures ∙ c.in-Only.is) c.if-a-gt-MAX_ARITY.true
+    arity_large _ _ _ _ (sym c.one_number.ensures ∙ c.in-Ok.is) c.if-a-gt-MAX_ARITY.true
 
 pub returns : goal.returns
 returns c =
-    arity_is _ _ _ _ (sym c.one_number.ensures ∙ c.in-Only.is) c.if-a-gt-MAX_ARITY.false
+    arity_is _ _ _ _ (sym c.one_number.ensures ∙ c.in-Ok.is) c.if-a-gt-MAX_ARITY.false

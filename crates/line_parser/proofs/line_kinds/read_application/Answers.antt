@@ -7,10 +7,10 @@ returns-in_default c = apply_bad _ (sym c.read_number.ensures ∙ c.in_default.i
 
 pub returns-then-s-e : goal.returns-then-s-e
 returns-then-s-e c =
-    apply_last _ _ _ (sym c.read_number.ensures ∙ c.in-Value.is) c.if-s-e.true
+    apply_last _ _ _ (sym c.read_number.ensures ∙ c.in-Some.is) c.if-s-e.true
 
 pub returns : goal.returns
 returns c =
     c.read_nodes.ensures
-    ∙ apply_more _ _ _ (sym c.read_number.ensures ∙ c.in-Value.is)
+    ∙ apply_more _ _ _ (sym c.read_number.ensures ∙ c.in-Some.is)
     c.if-s-e.false

@@ -8,11 +8,11 @@ returns-in_default c =
 
 pub returns-then-s-n : goal.returns-then-s-n
 returns-then-s-n c =
-    declare_short _ _ c.read_name-name.ensures _ _ (sym c.name_of.ensures ∙ c.in-Of.is)
+    declare_short _ _ c.read_name-name.ensures _ _ (sym c.name_of.ensures ∙ c.in-Some.is)
     c.if-s-n.true
 
 pub returns : goal.returns
 returns c =
     c.declared_arity.ensures
-    ∙ declare_more _ _ c.read_name-name.ensures _ _ (sym c.name_of.ensures ∙ c.in-Of.is)
+    ∙ declare_more _ _ c.read_name-name.ensures _ _ (sym c.name_of.ensures ∙ c.in-Some.is)
     c.if-s-n.false

@@ -7,8 +7,8 @@ returns-in_default c = variable_none _ _ (sym c.one_number.ensures ∙ c.in_defa
 
 pub returns-then-v-ge-VARIABLE_NAMES : goal.returns-then-v-ge-VARIABLE_NAMES
 returns-then-v-ge-VARIABLE_NAMES c =
-    variable_large _ _ (sym c.one_number.ensures ∙ c.in-Only.is) c.if-v-ge-VARIABLE_NAMES.true
+    variable_large _ _ (sym c.one_number.ensures ∙ c.in-Ok.is) c.if-v-ge-VARIABLE_NAMES.true
 
 pub returns : goal.returns
 returns c =
-    variable_is _ _ (sym c.one_number.ensures ∙ c.in-Only.is) c.if-v-ge-VARIABLE_NAMES.false
+    variable_is _ _ (sym c.one_number.ensures ∙ c.in-Ok.is) c.if-v-ge-VARIABLE_NAMES.false

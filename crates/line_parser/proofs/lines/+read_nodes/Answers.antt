@@ -8,12 +8,12 @@ returns-in_default t c = nodes_bad _ _ _ (sym c.read_number.ensures ∙ c.in_def
 
 pub returns-then-ns-ge-MAX_ARITY : goal.returns-then-ns-ge-MAX_ARITY
 returns-then-ns-ge-MAX_ARITY t c =
-    nodes_full _ _ _ _ _ (sym c.read_number.ensures ∙ c.in-Value.is)
+    nodes_full _ _ _ _ _ (sym c.read_number.ensures ∙ c.in-Some.is)
     c.if-ns-ge-MAX_ARITY.true
 
 pub returns-then-s-e : goal.returns-then-s-e
 returns-then-s-e t c =
-    nodes_last _ _ _ _ _ _ (sym c.read_number.ensures ∙ c.in-Value.is) c.if-ns-ge-MAX_ARITY.false
+    nodes_last _ _ _ _ _ _ (sym c.read_number.ensures ∙ c.in-Some.is) c.if-ns-ge-MAX_ARITY.false
     c.push_node-more.ensures c.if-s-e.true
 
 pub read_nodes-requires : goal.read_nodes-requires
@@ -23,6 +23,6 @@ read_nodes-requires t c =
 pub returns : goal.returns
 returns t c =
     c.read_nodes.ensures ∙ nodes_more _ _ _ _ _ _
-    (sym c.read_number.ensures ∙ c.in-Value.is)
+    (sym c.read_number.ensures ∙ c.in-Some.is)
     c.if-ns-ge-MAX_ARITY.false
     c.push_node-more.ensures c.if-s-e.false

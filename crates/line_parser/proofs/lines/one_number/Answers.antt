@@ -7,8 +7,8 @@ returns-in_default c = one_bad _ (sym c.read_number.ensures ∙ c.in_default.is)
 
 pub returns-then-e-s : goal.returns-then-e-s
 returns-then-e-s c =
-    one_more_lem _ _ _ (sym c.read_number.ensures ∙ c.in-Value.is) c.if-e-s.true
+    one_more_lem _ _ _ (sym c.read_number.ensures ∙ c.in-Some.is) c.if-e-s.true
 
 pub returns : goal.returns
 returns c =
-    one_last _ _ _ (sym c.read_number.ensures ∙ c.in-Value.is) c.if-e-s.false
+    one_last _ _ _ (sym c.read_number.ensures ∙ c.in-Some.is) c.if-e-s.false

@@ -6,4 +6,4 @@ pub returns-in_default : goal.returns-in_default
 returns-in_default c = second_none _ _ _ (sym c.one_number.ensures ∙ c.in_default.is)
 
 pub returns : goal.returns
-returns c = second_is _ _ _ (sym c.one_number.ensures ∙ c.in-Only.is)
+returns c = second_is _ _ _ (sym c.one_number.ensures ∙ c.in-Ok.is)

@@ -7,10 +7,10 @@ returns-in_default c = two_bad _ (sym c.read_number.ensures ∙ c.in_default.is)
 
 pub returns-then-s-e : goal.returns-then-s-e
 returns-then-s-e c =
-    two_last _ _ _ (sym c.read_number.ensures ∙ c.in-Value.is) c.if-s-e.true
+    two_last _ _ _ (sym c.read_number.ensures ∙ c.in-Some.is) c.if-s-e.true
 
 pub returns : goal.returns
 returns c =
     c.second_number.ensures
-    ∙ two_more _ _ _ (sym c.read_number.ensures ∙ c.in-Value.is)
+    ∙ two_more _ _ _ (sym c.read_number.ensures ∙ c.in-Some.is)
     c.if-s-e.false

@@ -1,22 +1,15 @@
-use Prim.Native.Nat.{◌-◌}
-use mathlib.Core.Path.{refl, sym, ◌∙◌}
-use Rattle.line_parser.proofs.names.Laws.{bytes_on, bytes_off, bytes_end}
-use borrow.Author.Rules.{rules}
+use Rattle.std.proofs.Common.{rules, refl, sym, ◌∙◌}
+use Rattle.std.proofs.lemmas.Iterator.{YieldsList-from_slice}
+use Rattle.std.proofs.lemmas.Iterator.Search.{all_from_yields_List}
+use Rattle.std.proofs.lemmas.List.Recursion.{same_from_clauses}
+use Rattle.std.specs.List.{list_all}
+use mathlib.Core.Bool.{◌&&◌}
+use Rattle.sheet_format.specs.Bytes.{is_name_byte, name_bytes}
+use Rattle.line_parser.proofs.names.Laws.{bytes_step}
 use Rattle.line_parser.proofs.names.name_bytes.Goals as goal
 
-pub loop-i-init : goal.loop-i-init
-loop-i-init c = (search rules, refl)
-
-pub loop-i-preserved : goal.loop-i-preserved
-loop-i-preserved c = (
-  search rules,
-  c.loop-i.invariant.1
-      ∙ bytes_on _ _ c.loop-i-test.true (sym c.is_name_byte.ensures ∙ c.if-is_name_byte.true),
-)
-
-pub returns-else-is_name_byte : goal.returns-else-is_name_byte
-returns-else-is_name_byte c =
-    sym (c.loop-i.invariant.1 ∙ bytes_off _ _ c.loop-i-test.true (sym c.is_name_byte.ensures ∙ c.if-is_name_byte.false))
-
 pub returns : goal.returns
-returns c = sym (c.loop-i.invariant.1 ∙ bytes_end _ _ c.loop-i-test.false)
+unfolding name_bytes
+returns c =
+    all_from_yields_List is_name_byte _ _ _ c.all.ensures.ran (YieldsList-from_slice c.args.f.now cc) (λ x b q k. search rules)
+    ∙ sym (same_from_clauses name_bytes (list_all is_name_byte) (λ x y. is_name_byte x && y) refl bytes_step (λ x xs. refl) c.args.f.now)

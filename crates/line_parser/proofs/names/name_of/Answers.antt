@@ -1,11 +1,11 @@
-use borrow.Author.Tests.{eq-eqb, ne_eqb}
+use Rattle.std.proofs.Common.{rules}
 use Rattle.line_parser.specs.Fields.{name_answer}
 use Rattle.line_parser.proofs.names.name_of.Goals as goal
 
-pub returns-then-part-eq0 : goal.returns-then-part-eq0
+pub returns-then-is_empty : goal.returns-then-is_empty
 unfolding name_answer
-returns-then-part-eq0 c = simp (name_answer, eq-eqb _ _ c.if-part-eq0.true)
+returns-then-is_empty c = search rules
 
-pub returns : goal.returns
+pub returns-else-is_empty : goal.returns-else-is_empty
 unfolding name_answer
-returns c = simp (name_answer, ne_eqb _ _ c.if-part-eq0.false)
+returns-else-is_empty c = search rules

@@ -4,15 +4,13 @@ use Rattle.machine_memory.proofs.assumption_chains.find_ancestor.Goals as goal
 
 pub returns-then-assumption_field-d : goal.returns-then-assumption_field-d
 returns-then-assumption_field-d c =
-    sym
-    (c.loop-left.invariant
-    ∙ find_ancestor_here _ _ _ _ _ c.loop-left-test.true c.assumption_field.ensures c.if-assumption_field-d.true)
+    sym (c.loop-turn.invariant ∙ find_ancestor_here _ _ _ _ _ c.assumption_field.ensures c.if-assumption_field-d.true)
 
-pub loop-left-preserved : goal.loop-left-preserved
-loop-left-preserved c =
-    c.loop-left.invariant
-    ∙ find_ancestor_on _ _ _ _ _ _ c.loop-left-test.true c.assumption_field.ensures
+pub loop-turn-preserved : goal.loop-turn-preserved
+loop-turn-preserved c =
+    c.loop-turn.invariant
+    ∙ find_ancestor_on _ _ _ _ _ _ _ c.loop-turn-test.true c.assumption_field.ensures
     c.if-assumption_field-d.false c.step_towards-at.ensures
 
 pub returns : goal.returns
-returns c = sym (c.loop-left.invariant ∙ find_ancestor_end _ _ _ _ c.loop-left-test.false)
+returns c = sym (c.loop-turn.invariant ∙ find_ancestor_end _ _ _ _ _ c.loop-turn-test.false)

@@ -5,6 +5,3 @@ use Rattle.node_table.proofs.fingerprints.fingerprint.Given as goal
 
 abbrev pub invariant-loop-i : goal.invariant-loop-i
 invariant-loop-i l = (l.h < 134217728) × (fingerprint_from (l.end - l.start) l.s l.start 0 ≡ fingerprint_from (l.end - l.i) l.s l.i l.h)
-
-abbrev pub decreases-loop-i : goal.decreases-loop-i
-decreases-loop-i l = l.end - l.i

@@ -17,18 +17,18 @@ returns-then-k-f c =
 
 pub slice_bounds-all_there-end : goal.slice_bounds-all_there-end
 slice_bounds-all_there-end c =
-    first_length c.widen-n.result c.args.a.count c.args.a.first c.args.a.second c.args.a.third
-    c.args.a.fourth c.requires c.widen-n.ensures.0
+    first_length c.widen-n.result c.args.ns.count c.args.ns.a c.args.ns.b c.args.ns.c
+    c.args.ns.d c.requires c.widen-n.ensures.0
 
 pub slice_bounds-application_info-end : goal.slice_bounds-application_info-end
 slice_bounds-application_info-end c =
-    first_length c.widen-n.result c.args.a.count c.args.a.first c.args.a.second c.args.a.third
-    c.args.a.fourth c.requires c.widen-n.ensures.0
+    first_length c.widen-n.result c.args.ns.count c.args.ns.a c.args.ns.b c.args.ns.c
+    c.args.ns.d c.requires c.widen-n.ensures.0
 
 pub application_info-info-requires : goal.application_info-info-requires
 application_info-info-requires c =
-    let e = first_length c.widen-n.result c.args.a.count c.args.a.first c.args.a.second c.args.a.third
-    c.args.a.fourth c.requires c.widen-n.ensures.0 in
+    let e = first_length c.widen-n.result c.args.ns.count c.args.ns.a c.args.ns.b c.args.ns.c
+    c.args.ns.d c.requires c.widen-n.ensures.0 in
     omega arith
 
 pub returns-then-all_there : goal.returns-then-all_there

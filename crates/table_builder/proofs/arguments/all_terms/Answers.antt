@@ -1,23 +1,14 @@
-use Rattle.table_builder.proofs.arguments.Laws.{terms_on, terms_off, terms_end}
-use mathlib.Core.Path.{refl, sym, ◌∙◌}
-use Prim.Native.Nat.{◌-◌}
-use borrow.Author.Rules.{rules}
+use Rattle.std.proofs.Common.{eqb, rules, tests, sym, ◌∙◌}
+use mathlib.Core.Bool.{not}
+use Rattle.std.proofs.lemmas.Iterator.{YieldsList-from_slice}
+use Rattle.std.proofs.lemmas.Iterator.Search.{all_from_yields_List}
+use Rattle.node_table.specs.Layout.{size_of}
+use Rattle.table_builder.proofs.arguments.Laws.{terms_all}
 use Rattle.table_builder.proofs.arguments.all_terms.Goals as goal
 
-pub loop-i-init : goal.loop-i-init
-loop-i-init c = (search rules, refl)
-
-pub returns-then-size-eq0 : goal.returns-then-size-eq0
-returns-then-size-eq0 c =
-    sym (c.loop-i.invariant.1 ∙ terms_off _ _ _ _ c.loop-i-test.true c.size.ensures.0
-    c.if-size-eq0.true)
-
-pub loop-i-preserved : goal.loop-i-preserved
-loop-i-preserved c = (
-  search rules,
-  c.loop-i.invariant.1
-      ∙ terms_on _ _ _ _ c.loop-i-test.true c.size.ensures.0 c.if-size-eq0.false,
-)
-
 pub returns : goal.returns
-returns c = sym (c.loop-i.invariant.1 ∙ terms_end _ _ _ c.loop-i-test.false)
+returns c =
+    let l = c.args.args.now in
+    all_from_yields_List (λ a. not (eqb (size_of c.args.t.now a) 0)) _ _ _ c.all.ensures.ran (YieldsList-from_slice l cc)
+    (λ x b q k. search (rules, tests))
+    ∙ sym (terms_all c.args.t.now l)

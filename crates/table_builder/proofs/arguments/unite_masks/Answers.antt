@@ -1,20 +1,18 @@
 use lib.Bits.{or_lt}
 use Rattle.table_builder.proofs.arguments.Laws.{masks_on, masks_end}
 use mathlib.Core.Path.{refl, sym, ◌∙◌}
-use Prim.Native.Nat.{◌-◌}
 use borrow.Author.Rules.{rules}
 use Rattle.table_builder.proofs.arguments.unite_masks.Goals as goal
 
-pub loop-i-init : goal.loop-i-init
-loop-i-init c = (search rules, search rules, refl)
+pub loop-a-init : goal.loop-a-init
+loop-a-init c = (search rules, refl)
 
-pub loop-i-preserved : goal.loop-i-preserved
-loop-i-preserved c = (
-  search rules,
-  or_lt 8 _ _ c.loop-i.invariant.1 c.mask-free.ensures.1,
-  c.loop-i.invariant.2
-      ∙ masks_on _ _ _ _ _ c.loop-i-test.true c.mask-free.ensures.0,
+pub loop-a-preserved : goal.loop-a-preserved
+loop-a-preserved c = (
+  or_lt 8 _ _ c.loop-a.invariant.0 c.mask-free.ensures.1,
+  c.loop-a.invariant.1
+      ∙ masks_on _ _ _ _ _ c.loop-a-test.true c.mask-free.ensures.0,
 )
 
 pub returns : goal.returns
-returns c = (sym (c.loop-i.invariant.2 ∙ masks_end _ _ _ _ c.loop-i-test.false), c.loop-i.invariant.1)
+returns c = (sym (c.loop-a.invariant.1 ∙ masks_end _ _ _ _ c.loop-a-test.false), c.loop-a.invariant.0)

@@ -1,4 +1,5 @@
 use Rattle.table_builder.specs.Nodes.{and_info}
+use Rattle.table_builder.proofs.node_info.Laws.{both_most, bit_is}
 use Rattle.table_builder.proofs.node_info.and_info.Goals as goal
 
 pub returns : goal.returns
@@ -10,6 +11,6 @@ returns c =
       ← c.sum_members-m.ensures.0,
       ← c.members-2.ensures.0,
       ← c.members.ensures.0,
-      ← c.both_goals-goal.ensures.0,
+      ← bit_is _ _ _ (both_most _ _ _) c.both_goals.ensures c.from-goal.ensures,
       ← c.united_mask-free.ensures.0,
     )

@@ -1,8 +1,5 @@
-use Rattle.table_builder.proofs.node_info.Laws.{only_below}
-use mathlib.Core.Path.{refl}
-use Rattle.table_builder.specs.Nodes.{only_bit}
+use Rattle.table_builder.proofs.node_info.Laws.{only_is, only_below}
 use Rattle.table_builder.proofs.node_info.only_bit.Goals as goal
 
 pub returns : goal.returns
-unfolding only_bit
-returns c = rw c.widen-i.ensures.0 (refl, only_below c.args.v)
+returns c = let e = only_is c.args.v c.requires in (e, rw e (only_below c.args.v))

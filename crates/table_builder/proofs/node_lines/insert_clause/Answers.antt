@@ -27,7 +27,7 @@ returns-then-members-eq0 c =
 pub returns-then-mask-eq0 : goal.returns-then-mask-eq0
 returns-then-mask-eq0 c =
     clause_taken _ _ _ _ _ _ _ c.if-k-ge-MAX_CLAUSES.false c.if-k-n.false c.members.ensures.0 c.if-members-eq0.false
-    c.mask.ensures.0 c.if-mask-eq0.true c.widen-w.ensures.0 c.put.ensures
+    c.mask.ensures.0 c.if-mask-eq0.true c.widen.ensures.0 c.put.ensures
 
 pub returns : goal.returns
 unfolding insert_clause

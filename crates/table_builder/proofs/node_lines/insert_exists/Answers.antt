@@ -4,4 +4,5 @@ use Rattle.table_builder.proofs.node_lines.insert_exists.Goals as goal
 pub returns : goal.returns
 unfolding insert_exists
 returns c =
-    simp (insert_exists, ← c.add_one.ensures, ← c.exists_info-info.ensures)
+    simp (insert_exists, ← c.exists_info-info.ensures)
+    (rw c.leaf-leaf.ensures at c.add_one.ensures)

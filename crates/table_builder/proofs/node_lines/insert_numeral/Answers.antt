@@ -12,7 +12,7 @@ unfolding insert_numeral
 returns c =
     simp (
       insert_numeral,
-      ← c.add_node.ensures,
       ← c.pack_info-info.ensures,
       lt-leb _ _ c.if-k-ge-MAX_NODES.false,
     )
+    (rw c.leaf.ensures at c.add_node.ensures)

@@ -10,4 +10,5 @@ returns-then-k-ge-MAX_NODES c =
 pub returns : goal.returns
 unfolding insert_true
 returns c =
-    simp (insert_true, ← c.add_node.ensures, lt-leb _ _ c.if-k-ge-MAX_NODES.false)
+    simp (insert_true, lt-leb _ _ c.if-k-ge-MAX_NODES.false)
+    (rw c.leaf.ensures at c.add_node.ensures)

@@ -12,8 +12,8 @@ unfolding insert_variable
 returns c =
     simp (
       insert_variable,
-      ← c.add_node.ensures,
       ← c.pack_info-info.ensures,
       ← c.only_bit.ensures.0,
       lt-leb _ _ c.if-k-ge-MAX_NODES.false,
     )
+    (rw c.leaf.ensures at c.add_node.ensures)

@@ -22,8 +22,8 @@ unfolding add_two
 returns c =
     simp (
       add_two,
-      ← c.add_node.ensures,
       lt-leb _ _ c.if-k-b.false,
       lt-leb _ _ c.if-k-a.false,
       lt-leb _ _ c.if-k-ge-MAX_NODES.false,
     )
+    (rw c.leaf-leaf.ensures at c.add_node.ensures)

@@ -1,10 +1,7 @@
 use Rattle.table_builder.specs.Symbols.{find_from, find_name}
 use mathlib.Core.Path.{◌≡◌}
-use Prim.Native.Nat.{◌-◌, ◌≤◌}
+use Prim.Native.Nat.{◌-◌}
 use Rattle.table_builder.proofs.symbols.find_name.Given as goal
 
 abbrev pub invariant-loop-i : goal.invariant-loop-i
-invariant-loop-i l = (l.i ≤ l.count) × (find_name l.sheet l.t l.count l.word l.name ≡ find_from (l.count - l.i) l.sheet l.t l.i l.word l.name)
-
-abbrev pub decreases-loop-i : goal.decreases-loop-i
-decreases-loop-i l = l.count - l.i
+invariant-loop-i l = find_name l.sheet l.t l.count l.word l.name ≡ find_from (l.count - l.i) l.sheet l.t l.i l.word l.name

@@ -6,5 +6,5 @@ returns-then-limit-at c = emit_past _ _ _ _ c.if-limit-at.true
 
 pub returns : goal.returns
 returns c =
-    emitted _ _ _ _ _ _ _ c.if-limit-at.false c.widen.ensures.0 c.put_byte.ensures
+    emitted _ _ _ _ _ _ _ c.if-limit-at.false c.widen.ensures.0 c.put_item.ensures
     c.increment.ensures

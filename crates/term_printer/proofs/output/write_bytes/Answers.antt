@@ -1,14 +1,9 @@
-use Prim.Native.Nat.{◌-◌}
+use Rattle.std.proofs.Common.{◌∙◌, sym}
 use Rattle.term_printer.proofs.output.Laws.{bytes_end, bytes_on}
-use mathlib.Core.Path.{◌∙◌, sym}
 use Rattle.term_printer.proofs.output.write_bytes.Goals as goal
 
-pub loop-i-preserved : goal.loop-i-preserved
-loop-i-preserved c = (
-  c.emit-to.auto.out ∙ c.loop-i.invariant.0,
-  c.loop-i.invariant.1
-      ∙ bytes_on _ _ _ _ _ _ _ c.loop-i-test.true c.emit-to.ensures,
-)
+pub loop-b-preserved : goal.loop-b-preserved
+loop-b-preserved c = c.loop-b.invariant ∙ bytes_on _ _ _ _ _ _ _ c.loop-b-test.true c.emit-to.ensures
 
 pub returns : goal.returns
-returns c = sym (c.loop-i.invariant.1 ∙ bytes_end _ _ _ _ _ c.loop-i-test.false)
+returns c = sym (c.loop-b.invariant ∙ bytes_end _ _ _ _ _ c.loop-b-test.false)

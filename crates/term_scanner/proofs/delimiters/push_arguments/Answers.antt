@@ -1,28 +1,26 @@
-use borrow.Author.Rules.{rules}
-use mathlib.Core.Path.{refl, sym, ◌∙◌}
-use native.Mathlib.Omega.{arith}
-use Rattle.term_scanner.proofs.delimiters.Laws.{pushed_none, pushed_more, room_more}
+use Rattle.std.proofs.Common.{◌∙◌, refl, sym, arith, rules}
+use Rattle.term_scanner.proofs.delimiters.Laws.{pushed_first, pushed_all, pushed_more, room_more}
 use Rattle.term_scanner.proofs.delimiters.push_arguments.Goals as goal
 
-pub loop-left-init : goal.loop-left-init
-loop-left-init c = (refl, c.requires.0, omega arith, c.requires.1, refl)
+pub loop-argument-init : goal.loop-argument-init
+loop-argument-init c = (refl, c.requires.0, omega arith, let h = c.requires.1 in omega arith, pushed_first _ _ _)
 
 pub push-r-requires : goal.push-r-requires
 push-r-requires c =
-    let inv = c.loop-left.invariant in
-    (inv.1, inv.2, let l = c.loop-left-test.true in let h = inv.3 in omega arith)
+    let inv = c.loop-argument.invariant in
+    (inv.1, inv.2, let l = c.loop-argument-test.true in let h = inv.3 in omega arith)
 
-pub loop-left-preserved : goal.loop-left-preserved
-loop-left-preserved c =
-    let inv = c.loop-left.invariant in (
+pub loop-argument-preserved : goal.loop-argument-preserved
+loop-argument-preserved c =
+    let inv = c.loop-argument.invariant in (
       search rules,
       c.push-r.ensures.0,
       omega arith,
-      room_more _ _ _ _ _ _ c.loop-left-test.true inv.3 c.push-r.auto.lent c.push-r.ensures.1,
-      inv.4 ∙ pushed_more _ _ _ _ c.loop-left-test.true c.push-r.ensures.1,
+      room_more _ _ _ _ _ _ _ c.loop-argument-test.true inv.3 c.push-r.auto.lent c.push-r.ensures.1,
+      inv.4 ∙ pushed_more _ _ _ _ _ c.loop-argument-test.true c.push-r.ensures.1,
     )
 
 pub returns : goal.returns
 returns c =
-    let inv = c.loop-left.invariant in
-    (inv.1, sym (inv.4 ∙ pushed_none _ _ _ c.loop-left-test.false))
+    let inv = c.loop-argument.invariant in
+    (inv.1, sym (inv.4 ∙ pushed_all _ _ _ _ c.loop-argument-test.false))

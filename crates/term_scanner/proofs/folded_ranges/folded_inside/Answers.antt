@@ -1,23 +1,14 @@
+use Rattle.std.proofs.Common.{◌∙◌, sym}
 use Rattle.term_scanner.proofs.folded_ranges.Laws.{folded_end, last_same, last_other}
-use borrow.Author.Rules.{rules}
-use mathlib.Core.Path.{◌∙◌, refl, sym}
 use Rattle.term_scanner.proofs.folded_ranges.folded_inside.Goals as goal
 
-pub loop-left-preserved : goal.loop-left-preserved
-loop-left-preserved c = (
-  search rules,
-  c.loop-left.invariant.1 ∙ last_same _ _ _ _ _ _ c.loop-left-test.true c.same_letter.ensures
-      c.if-same_letter.true,
-)
+pub returns-then-not-same_letter : goal.returns-then-not-same_letter
+returns-then-not-same_letter c =
+    sym (c.loop-k.invariant ∙ last_other _ _ _ _ _ _ c.loop-k-test.true c.same_letter.ensures c.if-not-same_letter.true)
 
-pub returns-else-same_letter : goal.returns-else-same_letter
-returns-else-same_letter c =
-    sym (c.loop-left.invariant.1 ∙ last_other _ _ _ _ _ _ c.loop-left-test.true c.same_letter.ensures
-    c.if-same_letter.false)
+pub loop-k-preserved : goal.loop-k-preserved
+loop-k-preserved c =
+    c.loop-k.invariant ∙ last_same _ _ _ _ _ _ c.loop-k-test.true c.same_letter.ensures c.if-not-same_letter.false
 
 pub returns : goal.returns
-returns c = sym (c.loop-left.invariant.1 ∙ folded_end _ _ _ _ _ c.loop-left-test.false)
-
-pub loop-left-init : goal.loop-left-init
-loop-left-init c =
-    (search rules, refl)
+returns c = sym (c.loop-k.invariant ∙ folded_end _ _ _ _ _ c.loop-k-test.false)

@@ -1,15 +1,6 @@
 use Rattle.sheet_format.specs.Bytes.{is_digit}
-use borrow.Author.Tests.{le-leb, lt-leb}
 use Rattle.term_scanner.proofs.tokens.is_digit.Goals as goal
-
-pub returns-then-b-lt48 : goal.returns-then-b-lt48
-unfolding is_digit
-returns-then-b-lt48 c = simp (lt-leb _ _ c.if-b-lt48.true)
-
-pub returns-then-b-gt57 : goal.returns-then-b-gt57
-unfolding is_digit
-returns-then-b-gt57 c = simp (le-leb _ _ c.if-b-lt48.false, lt-leb _ _ c.if-b-gt57.true)
 
 pub returns : goal.returns
 unfolding is_digit
-returns c = simp (le-leb _ _ c.if-b-lt48.false, le-leb _ _ c.if-b-gt57.false)
+returns c = c.is_ascii_digit.ensures.value

@@ -40,6 +40,7 @@ unfolding scan_number
 returns-then-is_digit c =
     simp (
       c.number_from.ensures,
+      c.from.ensures,
       scan_number,
       ← c.byte-b.ensures,
       ← c.is_digit.ensures,

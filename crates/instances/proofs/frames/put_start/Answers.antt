@@ -1,7 +1,0 @@
-use Rattle.memory.specs.Records.{put_field}
-use Rattle.instances.proofs.frames.put_start.Goals as goal
-
-pub returns : goal.returns
-unfolding put_field
-returns c =
-    simp (put_field, ← c.put.ensures, ← c.widen-2.ensures.0, ← c.widen.ensures.0)

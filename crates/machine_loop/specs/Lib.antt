@@ -1,0 +1,2 @@
+-- The acts of matching, by the mode.
+pub mod Modes

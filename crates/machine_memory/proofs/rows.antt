@@ -1,0 +1,2 @@
+-- Laws of numbers in a row.
+pub mod Laws

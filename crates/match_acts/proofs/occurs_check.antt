@@ -1,2 +1,0 @@
--- Laws of arithmetic that the proofs of these functions cite.
-pub mod Laws

@@ -1,5 +1,0 @@
-use Rattle.table_builder.proofs.symbols.put_symbol_field.Goals as goal
-
-pub returns : goal.returns
-returns c =
-    simp (← c.put.ensures, ← c.widen-w.ensures.0)

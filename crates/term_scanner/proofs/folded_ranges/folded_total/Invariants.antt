@@ -1,9 +1,0 @@
-use Rattle.scanning.specs.Ranges.{same_folded}
-use mathlib.Core.Path.{◌≡◌}
-use Rattle.term_scanner.proofs.folded_ranges.folded_total.Given as goal
-
-abbrev pub invariant-loop-left : goal.invariant-loop-left
-invariant-loop-left l = same_folded l.n l.a l.i l.b l.j ≡ same_folded l.left l.a l.p l.b l.q
-
-abbrev pub decreases-loop-left : goal.decreases-loop-left
-decreases-loop-left l = l.left
