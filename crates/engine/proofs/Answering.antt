@@ -26,7 +26,7 @@ use Rattle.node_table.specs.WellMade.{WellMade, Named}
 use Rattle.table_builder.specs.declared.node_info.Counts.{Counts}
 use Rattle.std.specs.Prelude.{Ok, Err}
 use Rattle.sheet_reader.specs.Reader.{Read, read_of, WellRead, NamedRead, ReadContract}
-use Rattle.machine.specs.Records.{Made, proved_mode}
+use Rattle.machine.specs.Records.{Made, proved_mode, no_mode}
 use Rattle.machine.specs.Machine.{start_memory, start_registers, run_machine}
 use Rattle.machine.specs.Simulation.{Reports}
 use Rattle.machine.proofs.Tables.{Table}
@@ -47,8 +47,7 @@ use Rattle.engine_spec.specs.EngineRun.{last_proof_units, answer_to, fit, run_sh
 use Rattle.engine_spec.specs.Promises.{outcome_number, handed_back}
 use Rattle.engine_spec.specs.Handed.{asked, handed}
 use Rattle.engine.specs.declared.listing.Query.{Query}
-use Rattle.engine.proofs.Modes.{due_not_proved, due_not_no}
-use Rattle.engine.specs.Answering.{is_proved, is_no, reported, Reply, reply, report_outcome, Answering}
+use Rattle.engine.specs.Answering.{reported, Reply, reply, report_outcome, Answering}
 use Rattle.engine.specs.Listing.{Listed, write_last, tell, report_proofs}
 use Rattle.engine.specs.Searching.{report_search}
 use Rattle.engine.proofs.ListedProofs.{EndsAs, ListedAs, write_listed}
@@ -148,7 +147,7 @@ module _ (bytes t : List ℕ) (k : Counts) (goal : ℕ) (table : WellMade t k.no
       (write_proof bytes t goal m i out).length ≡ reported_length text out) (sym acts) e in
       subst (λ (i : ℕ). Comes out (report_outcome bytes t goal budget m out)
       (fit (length out) (record { outcome = reported_proved; units = i; proofs = 1; text = text }))) acts
-      (rw (ap is_proved mode)
+      (rw (eq-eqb m.registers.mode proved_mode mode)
       (subst (λ (x : Fitted). Comes out (reply x.buffer (reported Proved a 1 x.length))
       (fit (length out) (record { outcome = reported_proved; units = a; proofs = 1; text = text }))) (sym e')
       (told_comes Proved reported_proved a 1 text out refl refl refl)))
@@ -164,8 +163,8 @@ module _ (bytes t : List ℕ) (k : Counts) (goal : ℕ) (table : WellMade t k.no
       rw (h.0, h.1, writes_no n out) (told_comes No reported_no n 0 (no_text n) out refl refl refl)
   outcome_told spent q h =
       rw (
-        due_not_proved m.registers.mode h,
-        due_not_no m.registers.mode h,
+        ne_eqb m.registers.mode proved_mode (λ e. omega arith),
+        ne_eqb m.registers.mode no_mode (λ e. omega arith),
         writes_spent budget out,
       ) (told_comes Spent reported_spent budget 0 (spent_text budget) out refl refl refl)
 
@@ -194,7 +193,7 @@ module _ (bytes t : List ℕ) (k : Counts) (goal : ℕ) (table : WellMade t k.no
     -- The position after the line is past the limit if it was before.
     last_past : limit < l.progress.at → limit < (write_last budget l.progress l.buffer limit).at
     unfolding write_last
-    last_past h = go (eqb l.progress.left 0) (is_no l.progress.registers.mode)
+    last_past h = go (eqb l.progress.left 0) (eqb l.progress.registers.mode no_mode)
       where
         at : ℕ
         at = l.progress.at
@@ -212,7 +211,7 @@ module _ (bytes t : List ℕ) (k : Counts) (goal : ℕ) (table : WellMade t k.no
     unfolding tell
     tell_long text h x q =
         subst (λ (v : List ℕ). Comes out (reply (reported_length v out).buffer (tell (query wanted) l.progress (reported_length v out).length))
-        (fit (length out) x)) q (go (eqb l.progress.left 0) (is_no l.progress.registers.mode))
+        (fit (length out) x)) q (go (eqb l.progress.left 0) (eqb l.progress.registers.mode no_mode))
       where
         long : text_limit out < length x.text
         long = subst (λ (v : List ℕ). text_limit out < length v) (sym q) h
@@ -283,7 +282,7 @@ module _ (bytes t : List ℕ) (k : Counts) (goal : ℕ) (table : WellMade t k.no
         let y = z.0 in
         let d = last_copied (no_text u) rest (ascii "R\tno\t") u refl h r own at
         (append_result (ascii "R\tno\t") u l.buffer limit l.progress.at) refl in
-        rw (ne_eqb l.progress.left 0 (λ i. omega arith), ap is_no z.1, z.2, d, f)
+        rw (ne_eqb l.progress.left 0 (λ i. omega arith), eq-eqb l.progress.registers.mode no_mode z.1, z.2, d, f)
         (told_comes No reported_no u (length e.found) (texts ++ no_text u) out refl refl refl)
     told_ended rest h r own at n units_spent z =
         let f : wanted - l.progress.left ≡ length e.found = omega arith in
@@ -291,7 +290,7 @@ module _ (bytes t : List ℕ) (k : Counts) (goal : ℕ) (table : WellMade t k.no
         let g = z.1 in
         let d = last_copied (spent_text budget) rest (ascii "R\tspent\t") budget refl h r own at
         (append_result (ascii "R\tspent\t") budget l.buffer limit l.progress.at) refl in
-        rw (ne_eqb l.progress.left 0 (λ i. omega arith), due_not_no l.progress.registers.mode z.1, d, f)
+        rw (ne_eqb l.progress.left 0 (λ i. omega arith), ne_eqb l.progress.registers.mode no_mode (λ i. omega arith), d, f)
         (told_comes Spent reported_spent budget (length e.found) (texts ++ spent_text budget) out refl refl refl)
 
     -- Whether or not they fit.

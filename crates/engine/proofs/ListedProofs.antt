@@ -6,7 +6,7 @@ use mathlib.Core.Bool.{Bool, true, false, ◌||◌}
 use mathlib.Core.List.{List, [], ◌∷◌, ◌++◌}
 use lib.Dec.{eqb, ltb}
 use lib.ListN.{length, drop, length-append}
-use borrow.Author.Tests.{ltb-true, ltb-false, lt-ltb, le-ltb, ne_eqb}
+use borrow.Author.Tests.{ltb-true, ltb-false, lt-ltb, le-ltb, eq-eqb, ne_eqb}
 use Rattle.search.specs.Configurations.{Configuration}
 use Rattle.enumeration.specs.Enumeration.{Proof, End, enough, exhausted, units_spent, Enumeration, Next, finds, none_left, runs_out, next_proof}
 use Rattle.enumeration.specs.Enumeration as level1
@@ -16,7 +16,7 @@ use Rattle.answer_texts.specs.Promises.{search_text}
 use Rattle.answer_texts.specs.Enumerations.{found_text, found_texts}
 use Rattle.node_table.specs.Decoding.{decode_sheet}
 use Rattle.node_table.specs.WellMade.{WellMade, Named}
-use Rattle.machine.specs.Records.{Made, made, proved_mode, no_mode, is_due}
+use Rattle.machine.specs.Records.{Made, made, proved_mode, no_mode}
 use Rattle.machine.specs.ChoicePoints.{failed}
 use Rattle.machine.specs.Machine.{run_acts}
 use Rattle.machine.proofs.Tables.{Table}
@@ -32,15 +32,13 @@ use Rattle.printing.proofs.Restored.{restores_after, restored_grows}
 use Rattle.engine_spec.specs.EngineRun.{last_proof_units}
 use Rattle.engine.specs.declared.listing.Query.{Query}
 use Rattle.engine.specs.declared.listing.Progress.{Progress}
-use Rattle.engine.proofs.Modes.{not_proved}
-use Rattle.engine.specs.Answering.{is_proved}
 use Rattle.engine.specs.Listing.{go_on, Listed, listed_at, write_proofs}
 
 -- How far writing came, by the end of the enumeration.
 unfoldable pub EndsAs : End → List Proof → Progress → Type 0
 EndsAs enough ps p = (p.left ≡ 0) × (p.registers.acts ≡ last_proof_units ps)
 EndsAs (exhausted n) ps p = (1 ≤ p.left) × (p.registers.mode ≡ no_mode) × (p.registers.acts ≡ n)
-EndsAs units_spent ps p = (1 ≤ p.left) × (is_due p.registers.mode ≡ true)
+EndsAs units_spent ps p = (1 ≤ p.left) × (p.registers.mode < 4)
 
 append_assoc : (x y z : List ℕ) → (x ++ y) ++ z ≡ x ++ (y ++ z)
 append_assoc [] y z = refl
@@ -66,7 +64,7 @@ ends_before units_spent p ps x k n h = h
 pub write_ended : (k : ℕ) (sheet t : List ℕ) (q : Query) (limit : ℕ) (m : Made) (own : List ℕ) (at : ℕ) → (m.registers.mode ≡ proved_mode → ⊥)
     → write_proofs (suc k) sheet t q limit m own at ≡ listed_at m own at (suc k)
 unfolding write_proofs
-write_ended k sheet t q limit m own at h = rw (write_proofs, not_proved m.registers.mode h)
+write_ended k sheet t q limit m own at h = rw (write_proofs, ne_eqb m.registers.mode proved_mode h)
 
 -- Where it does, the text is appended; then writing ends,
 pub write_stops : (k : ℕ) (sheet t : List ℕ) (q : Query) (limit : ℕ) (m : Made) (own : List ℕ) (at : ℕ) → m.registers.mode ≡ proved_mode
@@ -74,7 +72,7 @@ pub write_stops : (k : ℕ) (sheet t : List ℕ) (q : Query) (limit : ℕ) (m : 
     → let a = append_proof sheet t q.goal m m.registers.acts limit own at in
     write_proofs (suc k) sheet t q limit m own at ≡ listed_at (made a.memory m.registers) a.buffer a.length k
 unfolding write_proofs
-write_stops k sheet t q limit m own at h s = rw (write_proofs, ap is_proved h, s)
+write_stops k sheet t q limit m own at h s = rw (write_proofs, eq-eqb m.registers.mode proved_mode h, s)
 
 -- or it goes on.
 pub write_goes : (k : ℕ) (sheet t : List ℕ) (q : Query) (limit : ℕ) (m : Made) (own : List ℕ) (at : ℕ) → m.registers.mode ≡ proved_mode
@@ -83,7 +81,7 @@ pub write_goes : (k : ℕ) (sheet t : List ℕ) (q : Query) (limit : ℕ) (m : M
     write_proofs (suc k) sheet t q limit m own at
     ≡ write_proofs k sheet t q limit (go_on t q (made a.memory m.registers)) a.buffer a.length
 unfolding write_proofs
-write_goes k sheet t q limit m own at h s = rw (write_proofs, ap is_proved h, s)
+write_goes k sheet t q limit m own at h s = rw (write_proofs, eq-eqb m.registers.mode proved_mode h, s)
 
 -- The table stands for a sheet.
 module _ (sheet t : List ℕ) (symbols nodes : ℕ) (q : Query) (table : WellMade t nodes q.clauses q.goal) (named : Named t nodes symbols)
@@ -234,17 +232,17 @@ module _ (sheet t : List ℕ) (symbols nodes : ℕ) (q : Query) (table : WellMad
       (write_proofs (suc k) sheet t q limit m (front ++ rest) (length front))
   unfolding EndsAs
   no_listed k size m u front rest z h told =
-      rw (write_ended k sheet t q limit m (front ++ rest) (length front) (λ e. cc (e, told.0)))
+      rw (write_ended k sheet t q limit m (front ++ rest) (length front) (λ e. let a = told.0 in omega arith))
       (none_listed k size m front rest (exhausted u) z h (omega arith, told.0, told.1))
 
   -- No unit is left.
   spent_listed : (k size : ℕ) (m : Made) (front rest : List ℕ) → length (front ++ rest) ≡ size → length front ≤ limit
-      → is_due m.registers.mode ≡ true
+      → m.registers.mode < 4
       → ListedAs (suc k) size (record { found = []; end = units_spent }) front
       (write_proofs (suc k) sheet t q limit m (front ++ rest) (length front))
   unfolding EndsAs
   spent_listed k size m front rest z h told =
-      rw (write_ended k sheet t q limit m (front ++ rest) (length front) (λ e. let d : true ≡ is_due proved_mode = sym told ∙ ap is_due e in cc))
+      rw (write_ended k sheet t q limit m (front ++ rest) (length front) (λ e. omega arith))
       (none_listed k size m front rest units_spent z h (omega arith, told))
 
   -- From each verdict of the machine on, as many as k + 1 proofs being wanted.

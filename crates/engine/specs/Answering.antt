@@ -1,5 +1,5 @@
 -- The code's functions on lists; and what is promised of a run that passes refusals 1 to 5 and 13.
-use Rattle.std.specs.Prelude.{ℕ, ◌≡◌, Bool, true, false, cond, List, eqb, ltb, length, Option, Some, None}
+use Rattle.std.specs.Prelude.{ℕ, ◌≡◌, cond, List, eqb, ltb, length, Option, Some, None}
 use Rattle.outcomes.specs.declared.Outcome.{Outcome}
 use Rattle.outcomes.specs.declared.Outcome.TheVariants.{Proved, No, Spent}
 use Rattle.outcomes.specs.declared.Request.{Request}
@@ -10,9 +10,7 @@ use Rattle.outcomes.specs.Outcomes.{refused_run}
 use Rattle.sheet_format.specs.Limits.{max_sheet_bytes, table_numbers, max_budget, max_proofs}
 use Rattle.sheet_format.specs.Buffers.{demanded}
 use Rattle.sheet_format.specs.Sheets.{read_sheet}
-use Rattle.machine.specs.declared.modes.Mode.{Mode}
-use Rattle.machine.specs.declared.modes.Mode.TheVariants.{Take, Try, Compare, Check, Proved as AtProof, No as AtNo, Failed}
-use Rattle.machine.specs.Records.{Made}
+use Rattle.machine.specs.Records.{Made, proved_mode, no_mode}
 use Rattle.printing.specs.Writer.{write_proof, write_no, write_spent}
 use Rattle.engine_spec.specs.EngineRun.{run_sheet, answer_after}
 use Rattle.engine_spec.specs.Promises.{handed_back}
@@ -32,25 +30,6 @@ run_refusal sheet ask table work =
       | Some reason ↦ Some reason
       | None ↦ cond (ltb work (demanded ask.budget)) (Some WorkTooShort) None
     ]))
-
--- The machine stands at a proof; it has found that there is none.
-abbrev pub is_proved : Mode → Bool
-is_proved Take = false
-is_proved Try = false
-is_proved Compare = false
-is_proved Check = false
-is_proved AtProof = true
-is_proved AtNo = false
-is_proved Failed = false
-
-abbrev pub is_no : Mode → Bool
-is_no Take = false
-is_no Try = false
-is_no Compare = false
-is_no Check = false
-is_no AtProof = false
-is_no AtNo = true
-is_no Failed = false
 
 -- The answer, or refusal 12 where the text does not fit.
 unfoldable pub reported : Outcome → ℕ → ℕ → Option ℕ → Run
@@ -73,8 +52,8 @@ report_outcome sheet t goal budget m out =
     let p = write_proof sheet t goal m acts out in
     let n = write_no acts out in
     let s = write_spent budget out in
-    cond (is_proved m.registers.mode) (reply p.buffer (reported Proved acts 1 p.length))
-    (cond (is_no m.registers.mode) (reply n.buffer (reported No acts 0 n.length))
+    cond (eqb m.registers.mode proved_mode) (reply p.buffer (reported Proved acts 1 p.length))
+    (cond (eqb m.registers.mode no_mode) (reply n.buffer (reported No acts 0 n.length))
     (reply s.buffer (reported Spent budget 0 s.length)))
 
 -- Past refusals 1 to 5 and 13: what is handed back, and what the answer buffer then holds.

@@ -3,7 +3,7 @@ use Rattle.std.specs.Prelude.{ℕ, zero, suc, ◌-◌, true, false, ◌||◌, co
 use Rattle.outcomes.specs.declared.Outcome.TheVariants.{Proved, No, Spent}
 use Rattle.outcomes.specs.declared.Run.{Run}
 use Rattle.sheet_format.specs.Bytes.{ascii}
-use Rattle.machine.specs.Records.{Made, made}
+use Rattle.machine.specs.Records.{Made, made, proved_mode, no_mode}
 use Rattle.machine.specs.ChoicePoints.{failed}
 use Rattle.machine.specs.Machine.{run_acts}
 use Rattle.printing.specs.PathLinks.{clear_variables}
@@ -11,7 +11,7 @@ use Rattle.printing.specs.Output.{Written, written}
 use Rattle.printing.specs.Writer.{text_limit, own_bytes, append_proof, append_result, copied}
 use Rattle.engine.specs.declared.listing.Query.{Query}
 use Rattle.engine.specs.declared.listing.Progress.{Progress}
-use Rattle.engine.specs.Answering.{is_proved, is_no, reported, Reply, reply}
+use Rattle.engine.specs.Answering.{reported, Reply, reply}
 
 -- The search goes on after a proof, "as if it had failed", within the units left. The numbers that the proof's text gave to variables are
 -- cleared first.
@@ -38,7 +38,7 @@ listed_at m own at left = listed m.memory own (record { registers = m.registers;
 unfoldable pub write_proofs : ℕ → List ℕ → List ℕ → Query → ℕ → Made → List ℕ → ℕ → Listed
 write_proofs zero sheet t q limit m own at = listed_at m own at zero
 write_proofs (suc k) sheet t q limit m own at =
-    elim (is_proved m.registers.mode) [
+    elim (eqb m.registers.mode proved_mode) [
       | true ↦
           let a = append_proof sheet t q.goal m m.registers.acts limit own at in
           let n = made a.memory m.registers in
@@ -53,14 +53,14 @@ write_proofs (suc k) sheet t q limit m own at =
 unfoldable pub write_last : ℕ → Progress → List ℕ → ℕ → Written
 write_last budget p own limit =
     cond (eqb p.left 0) (written own p.at)
-    (cond (is_no p.registers.mode) (append_result (ascii "R\tno\t") p.registers.acts own limit p.at)
+    (cond (eqb p.registers.mode no_mode) (append_result (ascii "R\tno\t") p.registers.acts own limit p.at)
     (append_result (ascii "R\tspent\t") budget own limit p.at))
 
 -- Outcome and units of the last R line, and the number of proofs.
 unfoldable pub tell : Query → Progress → Option ℕ → Run
 tell q p n =
     cond (eqb p.left 0) (reported Proved p.registers.acts (q.proofs - p.left) n)
-    (cond (is_no p.registers.mode) (reported No p.registers.acts (q.proofs - p.left) n)
+    (cond (eqb p.registers.mode no_mode) (reported No p.registers.acts (q.proofs - p.left) n)
     (reported Spent q.budget (q.proofs - p.left) n))
 
 -- All of it, from the first verdict of the machine on.

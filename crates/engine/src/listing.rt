@@ -9,8 +9,7 @@ ghost use Rattle.engine.specs.Listing.{go_on, listed, write_proofs, write_last, 
 use super::report::fitting_run;
 use answer_printer::short_texts::{MAX_BYTES, append_result, text_limit};
 use answer_printer::{Room, append_proof, copy_out};
-use machine::Registers;
-use machine::modes::Mode;
+use machine::{Registers, modes};
 use machine_loop::run_acts;
 use machine_memory::choice_points::failed;
 use outcomes::{Outcome, Run};
@@ -62,7 +61,7 @@ fn write_proofs(
     let mut registers = from;
     let mut at: u32 = 0;
     let mut left = query.proofs;
-    while let Mode::Proved = registers.mode {
+    while registers.mode == modes::PROVED {
         at = append_proof(sheet, t, query.goal, w, registers, own, Room { limit, at });
         left -= 1;
         if left == 0 {
@@ -96,10 +95,10 @@ fn write_last(budget: u32, p: Progress, own: &mut [u8], limit: u32) -> u32
     if p.left == 0 {
         return at;
     }
-    match p.registers.mode {
-        Mode::No => append_result(b"R\tno\t", p.registers.acts, own, Room { limit, at }),
-        _ => append_result(b"R\tspent\t", budget, own, Room { limit, at }),
+    if p.registers.mode == modes::NO {
+        return append_result(b"R\tno\t", p.registers.acts, own, Room { limit, at });
     }
+    append_result(b"R\tspent\t", budget, own, Room { limit, at })
 }
 
 // Outcome and units of the last R line, and the number of proofs.
@@ -112,10 +111,10 @@ fn tell(query: Query, p: Progress, length: Option<u32>) -> Run
     if p.left == 0 {
         return fitting_run(Outcome::Proved, acts, found, length);
     }
-    match p.registers.mode {
-        Mode::No => fitting_run(Outcome::No, acts, found, length),
-        _ => fitting_run(Outcome::Spent, query.budget, found, length),
+    if p.registers.mode == modes::NO {
+        return fitting_run(Outcome::No, acts, found, length);
     }
+    fitting_run(Outcome::Spent, query.budget, found, length)
 }
 
 // The texts of all proofs that are wanted, from the first verdict on, and what is told of them.

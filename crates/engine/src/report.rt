@@ -3,8 +3,7 @@ ghost use Rattle.std.specs.Prelude.{◌≡◌, length};
 ghost use Rattle.machine.specs.Records.{made};
 ghost use Rattle.engine.specs.Answering.{reported, reply, report_outcome};
 
-use machine::Registers;
-use machine::modes::Mode;
+use machine::{Registers, modes};
 use outcomes::refusals::Reason;
 use outcomes::{Outcome, Refusal, Run};
 
@@ -38,18 +37,14 @@ pub fn report_outcome(
         (made w.old r) answer.old }
 {
     let acts = r.acts;
-    match r.mode {
-        Mode::Proved => {
-            let n = answer_printer::write_proof(sheet, t, goal, w, r, acts, answer);
-            fitting_run(Outcome::Proved, acts, 1, n)
-        }
-        Mode::No => {
-            let n = answer_printer::short_texts::write_no(acts, answer);
-            fitting_run(Outcome::No, acts, 0, n)
-        }
-        _ => {
-            let n = answer_printer::short_texts::write_spent(budget, answer);
-            fitting_run(Outcome::Spent, budget, 0, n)
-        }
+    if r.mode == modes::PROVED {
+        let n = answer_printer::write_proof(sheet, t, goal, w, r, acts, answer);
+        return fitting_run(Outcome::Proved, acts, 1, n);
     }
+    if r.mode == modes::NO {
+        let n = answer_printer::short_texts::write_no(acts, answer);
+        return fitting_run(Outcome::No, acts, 0, n);
+    }
+    let n = answer_printer::short_texts::write_spent(budget, answer);
+    fitting_run(Outcome::Spent, budget, 0, n)
 }

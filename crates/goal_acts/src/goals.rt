@@ -7,8 +7,7 @@ ghost use Rattle.machine_memory.specs.Settling.{settled};
 
 use super::path_lines::extend_path;
 use super::trying_order::first_member;
-use machine::modes::Mode;
-use machine::{Registers, fields, lines};
+use machine::{Registers, fields, lines, modes};
 use machine_memory::choice_points::fail;
 use machine_memory::registers::{with_goal, with_goals, with_mode};
 use memory::field;
@@ -32,7 +31,7 @@ pub fn proceed(w: &[u32], r: Registers) -> Registers
     ensures { result ≡ proceed w.now r }
 {
     if r.goals == 0 {
-        return with_mode(r, Mode::Proved);
+        return with_mode(r, modes::PROVED);
     }
     due_goal(w, r, r.goals - 1)
 }
@@ -51,7 +50,7 @@ pub fn try_from(c: u32, r: Registers) -> Registers
     ensures { (w : List ℕ) → settled w result ≡ try_from c w r }
 {
     if members_left(c, r) {
-        return with_mode(r, Mode::Try);
+        return with_mode(r, modes::TRY);
     }
     fail(r)
 }

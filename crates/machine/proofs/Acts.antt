@@ -1,8 +1,10 @@
 -- One act of the machine is one step of the search.
 use Prim.Native.Nat.{ℕ, suc, ◌*◌, ◌≤◌, ◌<◌}
-use mathlib.Core.Path.{◌≡◌, refl, ap}
+use native.Mathlib.Omega.{arith}
+use mathlib.Core.Path.{◌≡◌, refl}
 use mathlib.Core.List.{List, [], ◌∷◌, ◌++◌}
 use lib.ListN.{length}
+use borrow.Author.Tests.{eq-eqb, ne_eqb}
 use Rattle.sequents.specs.Sequents.{Sequent}
 use Rattle.unification.specs.Store.{Leaf, Store}
 use Rattle.unification.specs.Matching.{pairs, check, fail}
@@ -14,15 +16,10 @@ use Rattle.sheet_format.specs.Limits.{max_budget, numbers_per_unit}
 use Rattle.node_table.specs.Layout.{kind_of}
 use Rattle.node_table.proofs.Decoding.{GoalKind, atom_kind_lem, true_kind_lem, and_kind_lem, or_kind_lem, implies_kind_lem, exists_kind_lem, forall_kind_lem, goal_kind}
 use Rattle.machine.specs.declared.Registers.{Registers}
-use Rattle.machine.specs.declared.modes.Mode.{Mode}
-use Rattle.machine.specs.declared.modes.Mode.TheVariants.{Take, Try, Compare}
-use mathlib.Core.Bool.{true}
-use Rattle.machine.specs.Records.{Made, made, take_mode, try_mode, compare_mode, check_mode, proved_mode, is_due}
+use Rattle.machine.specs.Records.{Made, made, proved_mode, take_mode, try_mode, compare_mode}
 use Rattle.machine.specs.RegisterUpdates.{with_acts}
 use Rattle.machine.specs.Words.{increment}
 use Rattle.machine.specs.Goals.{take_goal}
-use Rattle.machine.specs.Matching.{compare_pair, check_node}
-use Rattle.machine.specs.Backchaining.{try_next}
 use Rattle.machine.specs.Machine.{due_act, act}
 use Rattle.machine.proofs.Tables.{Table}
 use Rattle.machine.proofs.Configurations.{store_of, position_same, CompareAt, ConfigurationAt}
@@ -30,28 +27,6 @@ use Rattle.machine.proofs.ChoicePoints.{StateAt, ResultAt}
 use Rattle.machine.proofs.MatchActs.{compare_act, check_act}
 use Rattle.machine.proofs.GoalActs.{take_true_lem, take_and_lem, take_or_lem, take_implies_lem, take_exists_lem, take_forall_lem}
 use Rattle.machine.proofs.BackchainingActs.{try_act, take_atom_lem}
-
--- The act that is due, by the mode.
-module _ (t : List ℕ) (c : ℕ) (w : List ℕ) (r : Registers) where
-  -- It depends on the mode and on what each act leaves.
-  act_in : Mode → Made
-  act_in m = elim m [ Take ↦ take_goal t c w r | Try ↦ try_next t c w r | Compare ↦ compare_pair t w r | _ ↦ check_node t w r ]
-
-  pub take_due : r.mode ≡ take_mode → due_act t c w r ≡ take_goal t c w r
-  unfolding due_act act_in
-  take_due e = ap act_in e
-
-  pub try_due : r.mode ≡ try_mode → due_act t c w r ≡ try_next t c w r
-  unfolding due_act act_in
-  try_due e = ap act_in e
-
-  pub compare_due : r.mode ≡ compare_mode → due_act t c w r ≡ compare_pair t w r
-  unfolding due_act act_in
-  compare_due e = ap act_in e
-
-  pub check_due : r.mode ≡ check_mode → due_act t c w r ≡ check_node t w r
-  unfolding due_act act_in
-  check_due e = ap act_in e
 
 module _ (T : Table) where
   -- Counting the act changes nothing else.
@@ -86,13 +61,13 @@ module _ (T : Table) where
 
   -- An act is due, unless the search has come to its end.
   pub mode_due : (n : ℕ) (w : List ℕ) (r : Registers) (c : Configuration) → ConfigurationAt T n w r c → (r.mode ≡ proved_mode → ⊥)
-      → is_due r.mode ≡ true
+      → r.mode < 4
   unfolding ConfigurationAt CompareAt
-  mode_due n w r (take s g b) h d = ap is_due h.0
-  mode_due n w r (try s a m ms k b) h d = ap is_due h.mode
+  mode_due n w r (take s g b) h d = let e = h.0 in omega arith
+  mode_due n w r (try s a m ms k b) h d = let e = h.mode in omega arith
   mode_due n w r (match (pairs s []) b) h d = absurd h
-  mode_due n w r (match (pairs s (p ∷ ps)) b) h d = ap is_due h.mode
-  mode_due n w r (match (check s y t z ns ps) b) h d = ap is_due h.mode
+  mode_due n w r (match (pairs s (p ∷ ps)) b) h d = let e = h.mode in omega arith
+  mode_due n w r (match (check s y t z ns ps) b) h d = let e = h.mode in omega arith
   mode_due n w r (match fail b) h d = absurd h
   mode_due n w r (done s ls) h d = absurd (d h.0)
 
@@ -123,18 +98,24 @@ module _ (T : Table) where
     -- The act that is due, by the configuration.
     due_act_lem : (c : Configuration) → Invariant c → (r.mode ≡ proved_mode → ⊥) → StateAt T r.acts w r c ds
         → ResultAt T (suc r.acts) (due_act T.numbers T.clauses w r) (level1.step r.acts c ++ ds)
-    unfolding level1.step Invariant ConfigurationAt CompareAt
-    due_act_lem (take s g b) i d st = rw (take_due T.numbers T.clauses w r st.front.0) (take_act s g b i.formed i.extra.0.0 st)
+    unfolding due_act level1.step Invariant ConfigurationAt CompareAt
+    due_act_lem (take s g b) i d st = rw (eq-eqb r.mode take_mode st.front.0) (take_act s g b i.formed i.extra.0.0 st)
     due_act_lem (try s a m ms k b) i d st =
-        rw (try_due T.numbers T.clauses w r st.front.mode)
+        let e = st.front.mode in
+        rw (ne_eqb r.mode take_mode (λ z. omega arith), eq-eqb r.mode try_mode e)
         (try_act T w r b ds room small s a m ms k i.formed i.extra.members.0 st)
     due_act_lem (match (pairs s []) b) i d st = absurd st.front
     due_act_lem (match (pairs s (p ∷ ps)) b) i d st =
-        rw (compare_due T.numbers T.clauses w r st.front.mode)
+        let e = st.front.mode in
+        rw (ne_eqb r.mode take_mode (λ z. omega arith), ne_eqb r.mode try_mode (λ z. omega arith), eq-eqb r.mode compare_mode e)
         (compare_act T w r b ds room small s p ps i st)
     due_act_lem (match (check s y t z ns ps) b) i d st =
-        rw (check_due T.numbers T.clauses w r st.front.mode)
-        (check_act T w r b ds room small s y t z ns ps i st)
+        let e = st.front.mode in
+        rw (
+          ne_eqb r.mode take_mode (λ z. omega arith),
+          ne_eqb r.mode try_mode (λ z. omega arith),
+          ne_eqb r.mode compare_mode (λ z. omega arith),
+        ) (check_act T w r b ds room small s y t z ns ps i st)
     due_act_lem (match fail b) i d st = absurd st.front
     due_act_lem (done s ls) i d st = absurd (d st.front.0)
 

@@ -3,16 +3,14 @@ use Prim.Native.Nat.{ℕ, zero, suc, ◌+◌, ◌-◌, ◌/◌, ◌%◌, min}
 use mathlib.Core.Bool.{Bool, true, false, cond}
 use mathlib.Core.Path.{◌≡◌, refl, ap, ◌∙◌}
 use mathlib.Core.List.{List, [], ◌∷◌}
-use lib.Dec.{eqb, leb}
+use lib.Dec.{eqb, ltb, leb}
 use lib.ListN.{length}
 use Rattle.sheet_format.specs.Limits.{variable_names}
 use Rattle.node_table.specs.Layout.{kind_of, label_of, implies_kind}
 use Rattle.machine.specs.declared.Registers.{Registers}
-use Rattle.machine.specs.declared.modes.Mode.{Mode}
-use Rattle.machine.specs.declared.modes.Mode.TheVariants.{Take, Try, Compare, Check, Proved, No, Failed}
 use Rattle.machine.specs.Fields as fields
 use Rattle.machine.specs.Records.{level_of, put_cell, put_level, Made, made, put_entry, put_goal, put_assumption, put_path, put_use, put_pairs}
-use Rattle.machine.specs.Records.{put_nodes, is_due}
+use Rattle.machine.specs.Records.{put_nodes, proved_mode, compare_mode, try_mode, take_mode}
 use Rattle.machine.specs.Words.{increment, tag_of, name_of, node_of, frame_of, slot_of, variable_word, constant_word, constant_tag}
 use Rattle.machine.specs.Words.{variable_tag, binding_of}
 use Rattle.machine.specs.Trail.{lower_to, bind_to, old_level, effect, undo_entry, undo}
@@ -273,26 +271,17 @@ length_try_found t c w r m =
 pub length_act : (t : List ℕ) (c : ℕ) (w : List ℕ) (r : Registers) → length (act t c w r).memory ≡ length w
 unfolding act due_act try_next compare_pair check_node
 length_act t c w r =
-    go r.mode
-  where
-    M : Mode → Made
-    M m = elim m [ Take ↦ take_goal t c w r | Try ↦ try_next t c w r | Compare ↦ compare_pair t w r | _ ↦ check_node t w r ]
-
-    go : (m : Mode) → length (M m).memory ≡ length w
-    go Take = length_take t c w r
-    go Try = length_try_found t c w r _
-    go Compare = length_compare_sides t w r _ _
-    go Check = length_check_word t w r _
-    go Proved = length_check_word t w r _
-    go No = length_check_word t w r _
-    go Failed = length_check_word t w r _
+    made_either (eqb r.mode take_mode) (take_goal t c w r) _ w (length_take t c w r)
+    (made_either (eqb r.mode try_mode) (try_next t c w r) _ w (length_try_found t c w r _)
+    (made_either (eqb r.mode compare_mode) (compare_pair t w r) (check_node t w r) w (length_compare_sides t w r _ _)
+    (length_check_word t w r _)))
 
 -- Any number of acts keeps the length.
 pub keeps_length : KeepsLength
 unfolding run_acts
 keeps_length zero t c w r = refl
 keeps_length (suc n) t c w r =
-    go (is_due r.mode) (keeps_length n t c (act t c w r).memory (act t c w r).registers ∙ length_act t c w r)
+    go (ltb r.mode proved_mode) (keeps_length n t c (act t c w r).memory (act t c w r).registers ∙ length_act t c w r)
   where
     R : Made
     R = run_acts n t c (act t c w r).memory (act t c w r).registers

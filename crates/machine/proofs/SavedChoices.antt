@@ -10,7 +10,6 @@ use Rattle.search.specs.Configurations.{Configuration}
 use Rattle.machine.specs.declared.Registers.{Registers}
 use Rattle.machine.specs.Fields as fields
 use Rattle.machine.specs.Records.{put_choice, put_chosen, put_position}
-use Rattle.machine.specs.Records.{take_mode, try_mode}
 use Rattle.machine.specs.RegisterUpdates.{with_mode, with_next, with_trail, with_choice, with_goals, with_path, with_goal, with_member}
 use Rattle.machine.specs.ChoicePoints.{save_choice, resume_goal, resume_member, resume_branch, resume}
 use Rattle.machine.proofs.Tables.{Table}
@@ -43,7 +42,7 @@ resumed r q =
     with_mode (with_member
     (with_goal (with_path (with_goals (with_choice (with_trail (with_next r q.next) q.trail) q.choice) q.goals) q.path q.line)
     q.node q.frame q.program q.level)
-    q.hypothesis q.clause q.member q.place) (cond (eqb q.place 0) take_mode try_mode)
+    q.hypothesis q.clause q.member q.place) (cond (eqb q.place 0) 0 1)
 
 -- A record that holds them.
 abbrev pub SavedAt : List ℕ → ℕ → Registers → Type 0

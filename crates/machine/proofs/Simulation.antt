@@ -4,7 +4,9 @@ use native.Mathlib.Omega.{arith}
 use mathlib.Core.Bool.{Bool, true, false}
 use mathlib.Core.Path.{◌≡◌, refl, sym, ap, ◌∙◌, subst}
 use mathlib.Core.List.{List, [], ◌∷◌, ◌++◌}
+use lib.Dec.{ltb}
 use lib.ListN.{length}
+use borrow.Author.Tests.{ltb-true, ltb-false, lt-ltb, le-ltb}
 use Rattle.terms.specs.Lists.{All}
 use Rattle.terms.proofs.Lists.{all_append}
 use Rattle.formulas.specs.Formulas.{Goal, Clause}
@@ -19,7 +21,7 @@ use Rattle.sheet_format.specs.Limits.{max_budget, numbers_per_unit}
 use Rattle.formulas.specs.Rules.{Rules, rules}
 use Rattle.node_table.specs.Decoding.{clauses_from, goal_at, order_of}
 use Rattle.machine.specs.declared.Registers.{Registers}
-use Rattle.machine.specs.Records.{Made, made, no_mode, proved_mode, is_due}
+use Rattle.machine.specs.Records.{Made, made, no_mode, proved_mode}
 use Rattle.machine.specs.RegisterUpdates.{with_acts}
 use Rattle.machine.specs.ChoicePoints.{failed}
 use Rattle.machine.specs.Machine.{act, run_acts, start_memory, start_registers, run_machine}
@@ -34,21 +36,17 @@ use Rattle.machine.proofs.Acts.{mode_due, act_result}
 use Rattle.machine.proofs.Start.{start_result}
 use Rattle.machine.proofs.Standing.{failed_acts, stands_at, stands}
 
--- An act is due or none is.
-apart : {b : Bool} → b ≡ false → b ≡ true → ⊥
-apart e q = cc (e, q)
-
 -- Turns of the run.
-run_ended : (n : ℕ) (t : List ℕ) (c : ℕ) (w : List ℕ) (r : Registers) → is_due r.mode ≡ false → run_acts n t c w r ≡ made w r
+run_ended : (n : ℕ) (t : List ℕ) (c : ℕ) (w : List ℕ) (r : Registers) → 4 ≤ r.mode → run_acts n t c w r ≡ made w r
 unfolding run_acts
 run_ended zero t c w r h = refl
-run_ended (suc n) t c w r h = rw (run_acts, h)
+run_ended (suc n) t c w r h = rw (run_acts, le-ltb r.mode proved_mode h)
 
 -- An act is due.
-run_due : (n : ℕ) (t : List ℕ) (c : ℕ) (w : List ℕ) (r : Registers) → is_due r.mode ≡ true
+run_due : (n : ℕ) (t : List ℕ) (c : ℕ) (w : List ℕ) (r : Registers) → r.mode < 4
     → run_acts (suc n) t c w r ≡ run_acts n t c (act t c w r).memory (act t c w r).registers
 unfolding run_acts
-run_due n t c w r h = rw (run_acts, h)
+run_due n t c w r h = rw (run_acts, lt-ltb r.mode proved_mode h)
 
 -- The start keeps the length.
 pub start_length : (w : List ℕ) → length (start_memory w) ≡ length w
@@ -61,21 +59,23 @@ unfolding run_acts
 resumes t c zero m w r = let e : 0 + m ≡ m = omega arith in ap (λ (k : ℕ). run_acts k t c w r) e
 resumes t c (suc n) m w r =
     let e : suc n + m ≡ suc (n + m) = omega arith in ap (λ (k : ℕ). run_acts k t c w r) e
-    ∙ go (is_due r.mode) refl (λ w' r'. resumes t c n m w' r')
+    ∙ go (ltb r.mode proved_mode) refl (λ w' r'. resumes t c n m w' r')
   where
     Rest : Type 0
     Rest =
         (w' : List ℕ) (r' : Registers) → run_acts (n + m) t c w' r' ≡ run_acts m t c (run_acts n t c w' r').memory
         (run_acts n t c w' r').registers
 
-    go : (b : Bool) → is_due r.mode ≡ b → Rest
+    go : (b : Bool) → ltb r.mode proved_mode ≡ b → Rest
         → run_acts (suc (n + m)) t c w r ≡ run_acts m t c (run_acts (suc n) t c w r).memory (run_acts (suc n) t c w r).registers
     go true q ih =
-        run_due (n + m) t c w r q ∙ ih (act t c w r).memory (act t c w r).registers
-        ∙ ap (λ (x : Made). run_acts m t c x.memory x.registers) (sym (run_due n t c w r q))
+        let l = ltb-true r.mode proved_mode q in
+        run_due (n + m) t c w r l ∙ ih (act t c w r).memory (act t c w r).registers
+        ∙ ap (λ (x : Made). run_acts m t c x.memory x.registers) (sym (run_due n t c w r l))
     go false q ih =
-        run_ended (suc (n + m)) t c w r q ∙ sym (run_ended m t c w r q)
-        ∙ ap (λ (x : Made). run_acts m t c x.memory x.registers) (sym (run_ended (suc n) t c w r q))
+        let l = ltb-false r.mode proved_mode q in
+        run_ended (suc (n + m)) t c w r l ∙ sym (run_ended m t c w r l)
+        ∙ ap (λ (x : Made). run_acts m t c x.memory x.registers) (sym (run_ended (suc n) t c w r l))
 
 module _ (T : Table) where
   -- The table.
@@ -89,29 +89,29 @@ module _ (T : Table) where
 
   -- With u acts done, the act that is due makes one step of the search.
   acted : (u : ℕ) (w : List ℕ) (r : Registers) (c : Configuration) (ds : List Configuration) → r.acts ≡ u
-      → numbers_per_unit * suc u ≤ length w → u < max_budget → Invariant c → is_due r.mode ≡ true → StateAt T u w r c ds
+      → numbers_per_unit * suc u ≤ length w → u < max_budget → Invariant c → r.mode < 4 → StateAt T u w r c ds
       → ResultAt T (suc u) (act T.numbers T.clauses w r) (step u c ++ ds)
   acted u w r c ds e l b i d st =
       subst (λ (n : ℕ). ResultAt T (suc n) (act t T.clauses w r) (step n c ++ ds)) e
-      (act_result T w r ds (rw e l) (rw e b) c i (λ q. apart (ap is_due q) d) (subst (λ (n : ℕ). StateAt T n w r c ds) (sym e) st))
+      (act_result T w r ds (rw e l) (rw e b) c i (λ q. omega arith) (subst (λ (n : ℕ). StateAt T n w r c ds) (sym e) st))
 
   -- After n acts from the start: the state of the search, and n acts counted while one is due.
   pub record Following (n : ℕ) (m : Made) (ds : List Configuration) : Type 0 where
     pub result : ResultAt T m.registers.acts m ds
-    pub counted : is_due m.registers.mode ≡ true → m.registers.acts ≡ n
+    pub counted : m.registers.mode < 4 → m.registers.acts ≡ n
     pub few : m.registers.acts ≤ n
 
   -- A search that has come to its end stays there.
-  ended : (n : ℕ) (w : List ℕ) (r : Registers) (c : Configuration) (ds : List Configuration) → is_due r.mode ≡ false → r.acts ≤ n
+  ended : (n : ℕ) (w : List ℕ) (r : Registers) (c : Configuration) (ds : List Configuration) → 4 ≤ r.mode → r.acts ≤ n
       → StateAt T r.acts w r c ds → Following (suc n) (made w r) (step n c ++ ds)
   unfolding ConfigurationAt CompareAt step ResultAt
-  ended n w r (take s g b) ds d few st = absurd (apart d (ap is_due st.front.0))
-  ended n w r (try s a m ms k b) ds d few st = absurd (apart d (ap is_due st.front.mode))
+  ended n w r (take s g b) ds d few st = absurd (let e = st.front.0 in omega arith)
+  ended n w r (try s a m ms k b) ds d few st = absurd (let e = st.front.mode in omega arith)
   ended n w r (match (pairs s []) b) ds d few st = absurd st.front
-  ended n w r (match (pairs s (p ∷ ps)) b) ds d few st = absurd (apart d (ap is_due st.front.mode))
-  ended n w r (match (check s y v x ns ps) b) ds d few st = absurd (apart d (ap is_due st.front.mode))
+  ended n w r (match (pairs s (p ∷ ps)) b) ds d few st = absurd (let e = st.front.mode in omega arith)
+  ended n w r (match (check s y v x ns ps) b) ds d few st = absurd (let e = st.front.mode in omega arith)
   ended n w r (match fail b) ds d few st = absurd st.front
-  ended n w r (done s ls) ds d few st = record { result = st; counted = λ q. absurd (apart d q); few = omega arith }
+  ended n w r (done s ls) ds d few st = record { result = st; counted = λ q. absurd (omega arith); few = omega arith }
 
   -- One act more follows one step more of the search.
   follow : (n : ℕ) (w : List ℕ) (r : Registers) (ds : List Configuration) → numbers_per_unit * suc n ≤ length w → n < max_budget
@@ -120,24 +120,26 @@ module _ (T : Table) where
   unfolding advance ResultAt run_acts act
   follow n w r [] l b i f =
       let e = f.result in
-      subst (λ (m : Made). Following (suc n) m []) (sym (run_ended 1 t T.clauses w r (ap is_due e)))
-      (record { result = e; counted = λ q. absurd (apart (ap is_due e) q); few = let k = f.few in omega arith })
-  follow n w r (c ∷ ds) l b i f = go (is_due r.mode) refl
+      subst (λ (m : Made). Following (suc n) m []) (sym (run_ended 1 t T.clauses w r (omega arith)))
+      (record { result = e; counted = λ q. absurd (omega arith); few = let k = f.few in omega arith })
+  follow n w r (c ∷ ds) l b i f = go (ltb r.mode proved_mode) refl
     where
-      go : (x : Bool) → is_due r.mode ≡ x → Following (suc n) (run_acts 1 t T.clauses w r) (step n c ++ ds)
+      go : (x : Bool) → ltb r.mode proved_mode ≡ x → Following (suc n) (run_acts 1 t T.clauses w r) (step n c ++ ds)
       go true q =
-          let e = f.counted q in
+          let d = ltb-true r.mode proved_mode q in
+          let e = f.counted d in
           let k = act_counts w r (omega arith) in
-          let R = acted n w r c ds e l b i.0 q (subst (λ (j : ℕ). StateAt T j w r c ds) e f.result) in
-          subst (λ (m : Made). Following (suc n) m (step n c ++ ds)) (sym (run_due 0 t T.clauses w r q))
+          let R = acted n w r c ds e l b i.0 d (subst (λ (j : ℕ). StateAt T j w r c ds) e f.result) in
+          subst (λ (m : Made). Following (suc n) m (step n c ++ ds)) (sym (run_due 0 t T.clauses w r d))
           (record {
             result = subst (λ (j : ℕ). ResultAt T j (act t T.clauses w r) (step n c ++ ds)) (sym (k ∙ ap suc e)) R;
             counted = λ z. k ∙ ap suc e;
             few = omega arith;
           })
       go false q =
-          subst (λ (m : Made). Following (suc n) m (step n c ++ ds)) (sym (run_ended 1 t T.clauses w r q))
-          (ended n w r c ds q f.few f.result)
+          let d = ltb-false r.mode proved_mode q in
+          subst (λ (m : Made). Following (suc n) m (step n c ++ ds)) (sym (run_ended 1 t T.clauses w r d))
+          (ended n w r c ds d f.few f.result)
 
   -- The sheet that the table holds.
   abbrev clauses : Rules Clause
@@ -177,7 +179,7 @@ module _ (T : Table) where
   unfoldable pub ToldNext : Made → ℕ → Next → Type 0
   ToldNext m all (finds left p ds) = FoundAt m all left p ds
   ToldNext m all (none_left n) = (m.registers.mode ≡ no_mode) × (m.registers.acts ≡ n)
-  ToldNext m all runs_out = is_due m.registers.mode ≡ true
+  ToldNext m all runs_out = m.registers.mode < 4
 
   -- That is what was stated of the first verdict.
   pub next_tells : (m : Made) (all : ℕ) (n : Next) → ToldNext m all n → Reports T.numbers m (outcome_of n)
@@ -185,7 +187,7 @@ module _ (T : Table) where
   next_tells m all (finds left p ds) h =
       let e = h.acts in
       let st = subst (λ (k : ℕ). StateAt T k m.memory m.registers (done p.store p.path) ds) (sym e) h.state in
-      (stands_at T m.memory m.registers p.store ds p.path proved_mode st.front.0 st.shared st.front.1, e)
+      (stands_at T m.memory m.registers p.store ds p.path 4 st.front.0 st.shared st.front.1, e)
   next_tells m all (none_left n) h = h
   next_tells m all runs_out h = h
 
@@ -194,13 +196,13 @@ module _ (T : Table) where
       → r.mode ≡ proved_mode → ⊥
   unfolding ConfigurationAt CompareAt
   match_due (pairs s []) b h q = h.front
-  match_due (pairs s (p ∷ ps)) b h q = cc (h.front.mode, q)
-  match_due (check s y v x ns ps) b h q = cc (h.front.mode, q)
+  match_due (pairs s (p ∷ ps)) b h q = let d = h.front.mode in omega arith
+  match_due (check s y v x ns ps) b h q = let d = h.front.mode in omega arith
   match_due fail b h q = h.front
 
   -- If an act is due, the run tells what it tells after that act.
   go_on_lem : (f u all : ℕ) (w : List ℕ) (r : Registers) (c : Configuration) (ds : List Configuration) → r.acts ≡ u → u + suc f ≡ all
-      → all ≤ max_budget → numbers_per_unit * all ≤ length w → All Invariant (c ∷ ds) → StateAt T u w r c ds → is_due r.mode ≡ true
+      → all ≤ max_budget → numbers_per_unit * all ≤ length w → All Invariant (c ∷ ds) → StateAt T u w r c ds → r.mode < 4
       → ((w' : List ℕ) (r' : Registers) (ds' : List Configuration) → 1 ≤ suc u → r'.acts ≡ suc u → suc u + f ≡ all → all ≤ max_budget
       → numbers_per_unit * all ≤ length w' → All Invariant ds' → ResultAt T (suc u) (made w' r') ds'
       → ToldNext (run_acts f T.numbers T.clauses w' r') all (next_proof f (suc u) ds'))
@@ -219,25 +221,25 @@ module _ (T : Table) where
       → ToldNext (run_acts f T.numbers T.clauses w r) all (next_proof f u ds)
   unfolding run_acts next_proof reaches alternatives verdict_of advance ToldNext ResultAt ConfigurationAt CompareAt store_of
   tells zero u all w r [] j e z b l i h = (h, e)
-  tells zero u all w r (take s g x ∷ ds) j e z b l i h = ap is_due h.front.0
-  tells zero u all w r (try s a m ms k x ∷ ds) j e z b l i h = ap is_due h.front.mode
+  tells zero u all w r (take s g x ∷ ds) j e z b l i h = let d = h.front.0 in omega arith
+  tells zero u all w r (try s a m ms k x ∷ ds) j e z b l i h = let d = h.front.mode in omega arith
   tells zero u all w r (match m x ∷ ds) j e z b l i h = mode_due T u w r (match m x) h.front (λ q. match_due m x h q)
   tells zero u all w r (done s ls ∷ ds) j e z b l i h = record { first = j; state = h; acts = e; units = z; invariant = i }
   tells (suc f) u all w r [] j e z b l i h =
       subst (λ (m : Made). (m.registers.mode ≡ no_mode) × (m.registers.acts ≡ u))
-      (sym (run_ended (suc f) t T.clauses w r (ap is_due h))) (h, e)
+      (sym (run_ended (suc f) t T.clauses w r (omega arith))) (h, e)
   tells (suc f) u all w r (take s g x ∷ ds) j e z b l i h =
-      go_on_lem f u all w r (take s g x) ds e z b l i h (ap is_due h.front.0)
+      go_on_lem f u all w r (take s g x) ds e z b l i h (let d = h.front.0 in omega arith)
       (λ w' r' ds' o a y c d q k. tells f (suc u) all w' r' ds' o a y c d q k)
   tells (suc f) u all w r (try s a m ms k x ∷ ds) j e z b l i h =
-      go_on_lem f u all w r (try s a m ms k x) ds e z b l i h (ap is_due h.front.mode)
+      go_on_lem f u all w r (try s a m ms k x) ds e z b l i h (let d = h.front.mode in omega arith)
       (λ w' r' ds' o a y c d q k. tells f (suc u) all w' r' ds' o a y c d q k)
   tells (suc f) u all w r (match m x ∷ ds) j e z b l i h =
       go_on_lem f u all w r (match m x) ds e z b l i h (mode_due T u w r (match m x) h.front (λ q. match_due m x h q))
       (λ w' r' ds' o a y c d q k. tells f (suc u) all w' r' ds' o a y c d q k)
   tells (suc f) u all w r (done s ls ∷ ds) j e z b l i h =
       subst (λ (m : Made). FoundAt m all (suc f) (proof_of u s ls) ds)
-      (sym (run_ended (suc f) t T.clauses w r (ap is_due h.front.0)))
+      (sym (run_ended (suc f) t T.clauses w r (let d = h.front.0 in omega arith)))
       (record { first = j; state = h; acts = e; units = z; invariant = i })
 
   -- From the start, the machine tells the first verdict of the walk.
@@ -245,12 +247,12 @@ module _ (T : Table) where
       → ToldNext (run_machine budget T.numbers T.clauses T.goal w) budget
       (next_proof budget 0 (start (rules (order_of T.numbers) (clauses_from T.numbers T.clauses 0)) (goal_at T.numbers T.goal)))
   unfolding run_machine run_acts ToldNext start verdict_of advance next_proof start_registers ResultAt
-  told zero b w l = refl
+  told zero b w l = omega arith
   told (suc f) b w l =
       let n = start_length w in
       let q = start_result T w (omega arith) in
       go_on_lem f 0 (suc f) (start_memory w) (start_registers T.goal) _ _ refl (omega arith) b (omega arith) (start_invariant clauses goal) q
-      refl (λ w' r' ds' o a y c d j k. tells f 1 (suc f) w' r' ds' o a y c d j k)
+      (omega arith) (λ w' r' ds' o a y c d j k. tells f 1 (suc f) w' r' ds' o a y c d j k)
 
   -- It goes on after a proof, "as if it had failed", in a memory that has what the search reads.
   pub goes_on : (m : Made) (all left : ℕ) (p : Proof) (ds : List Configuration) (w : List ℕ) → all ≤ max_budget

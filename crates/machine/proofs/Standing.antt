@@ -12,8 +12,7 @@ use Rattle.unification.specs.Matching.{pairs, check, fail}
 use Rattle.search.specs.Configurations.{Branch, branch, Configuration, take, try, match, done}
 use Rattle.sheet_format.specs.Limits.{max_budget}
 use Rattle.machine.specs.declared.Registers.{Registers}
-use Rattle.machine.specs.declared.modes.Mode.{Mode}
-use Rattle.machine.specs.Records.{made, take_mode, try_mode, compare_mode, check_mode, proved_mode, no_mode}
+use Rattle.machine.specs.Records.{made, no_mode}
 use Rattle.machine.specs.RegisterUpdates.{with_mode, with_next, with_trail, with_choice, with_goals, with_path, with_goal, with_member}
 use Rattle.machine.specs.ChoicePoints.{resume_goal, resume_member, resume_branch, resume, backtrack, failed}
 use Rattle.machine.specs.ReadingStates.{open_goals, goal_due}
@@ -42,7 +41,7 @@ module _ (T : Table) where
   t = T.numbers
 
   -- The mode, the store and the path.
-  pub stands_at : (w : List ℕ) (r : Registers) (s : Store) (ds : List Configuration) (ls : List (Line Leaf)) (k : Mode) → r.mode ≡ k
+  pub stands_at : (w : List ℕ) (r : Registers) (s : Store) (ds : List Configuration) (ls : List (Line Leaf)) (k : ℕ) → r.mode ≡ k
       → SharedAt T r.acts w r.next r.trail r.choice s ds → PathAt r.acts s.next ls w r.path r.line
       → StandsAt T.numbers (made w r) k s ls
   stands_at w r s ds ls k e sh p = record {
@@ -52,7 +51,7 @@ module _ (T : Table) where
   }
 
   -- The open goals with them.
-  stands_at_branch : (w : List ℕ) (r : Registers) (s : Store) (ds : List Configuration) (b : Branch) (k : Mode) → r.mode ≡ k
+  stands_at_branch : (w : List ℕ) (r : Registers) (s : Store) (ds : List Configuration) (b : Branch) (k : ℕ) → r.mode ≡ k
       → SharedAt T r.acts w r.next r.trail r.choice s ds → BranchAt T r.acts s.next w r.goals r.path r.line b
       → StandsAtBranch T.numbers T.clauses (made w r) k s b
   unfolding open_goals
@@ -66,23 +65,23 @@ module _ (T : Table) where
       → StateAt T r.acts w r x ds → StandsAtConfiguration T.numbers T.clauses (made w r) x
   unfolding StandsAtConfiguration ConfigurationAt CompareAt store_of goal_due GoalsAt
   stands_at_configuration w r (take s g b) ds few h = (
-    stands_at_branch w r s ds b take_mode h.front.0 h.shared h.front.2,
+    stands_at_branch w r s ds b 0 h.front.0 h.shared h.front.2,
     sequent_read T w r r.node r.frame r.program r.level g h.front.1,
   )
   stands_at_configuration w r (try s a e es k b) ds few h = (
-    stands_at_branch w r s ds b try_mode h.front.mode h.shared h.front.branch,
+    stands_at_branch w r s ds b 1 h.front.mode h.shared h.front.branch,
     atom_read T s.next w r a h.front.atom,
     position_read T w r (e ∷ es) h.front.position,
     h.front.place,
   )
   stands_at_configuration w r (match (pairs s []) b) ds few h = absurd h.front
   stands_at_configuration w r (match (pairs s (p ∷ ps)) b) ds few h = (
-    stands_at_branch w r s ds b compare_mode h.front.mode h.shared h.front.branch,
+    stands_at_branch w r s ds b 2 h.front.mode h.shared h.front.branch,
     due_pair_read T s.next p ps w r b few h.front,
   )
   stands_at_configuration w r (match (check s y v n ns ps) b) ds few h =
       let z = due_read T s.next n ns w r few h.front.nodes in (
-        stands_at_branch w r s ds b check_mode h.front.mode h.shared h.front.branch,
+        stands_at_branch w r s ds b 3 h.front.mode h.shared h.front.branch,
         record {
           variable = word_term T r.acts s.next w {s = leaf (var y)} (word_variable h.front.variable);
           value = word_term T r.acts s.next w h.front.value;
@@ -93,7 +92,7 @@ module _ (T : Table) where
       )
   stands_at_configuration w r (match fail b) ds few h = h.front
   stands_at_configuration w r (done s ls) ds few h =
-      stands_at_branch w r s ds (branch [] ls) proved_mode h.front.0 h.shared
+      stands_at_branch w r s ds (branch [] ls) 4 h.front.0 h.shared
       (record { waiting = rw h.front.2 tt; taken = h.front.1 })
 
   -- The whole state: each alternative is what failing there comes to.

@@ -1,9 +1,8 @@
 -- One act of the machine, and at most so many acts from any registers.
-use Rattle.std.specs.Prelude.{ℕ, zero, suc, true, false, List}
+use Rattle.std.specs.Prelude.{ℕ, zero, suc, true, false, cond, List, eqb, ltb}
 use Rattle.sheet_format.specs.Limits.{variable_names}
 use Rattle.machine.specs.declared.Registers.{Registers}
-use Rattle.machine.specs.declared.modes.Mode.TheVariants.{Take, Try, Compare}
-use Rattle.machine.specs.Records.{Made, made, take_mode, is_due}
+use Rattle.machine.specs.Records.{Made, made, take_mode, proved_mode, try_mode, compare_mode}
 use Rattle.machine.specs.RegisterUpdates.{with_acts}
 use Rattle.machine.specs.Words.{increment}
 use Rattle.machine.specs.Frames.{put_variables}
@@ -14,12 +13,8 @@ use Rattle.machine.specs.Backchaining.{try_next}
 -- The act that is due: t is the table, c the number of the sheet's clauses.
 unfoldable pub due_act : List ℕ → ℕ → List ℕ → Registers → Made
 due_act t c w r =
-    elim r.mode [
-      | Take ↦ take_goal t c w r
-      | Try ↦ try_next t c w r
-      | Compare ↦ compare_pair t w r
-      | _ ↦ check_node t w r
-    ]
+    cond (eqb r.mode take_mode) (take_goal t c w r)
+    (cond (eqb r.mode try_mode) (try_next t c w r) (cond (eqb r.mode compare_mode) (compare_pair t w r) (check_node t w r)))
 
 -- "Each of these four acts takes one unit", and so does following a binding (request W-206).
 unfoldable pub act : List ℕ → ℕ → List ℕ → Registers → Made
@@ -31,7 +26,7 @@ act t c w r =
 unfoldable pub run_acts : ℕ → List ℕ → ℕ → List ℕ → Registers → Made
 run_acts zero t c w r = made w r
 run_acts (suc n) t c w r =
-    elim (is_due r.mode) [ true ↦ run_acts n t c (act t c w r).memory (act t c w r).registers | false ↦ made w r ]
+    elim (ltb r.mode proved_mode) [ true ↦ run_acts n t c (act t c w r).memory (act t c w r).registers | false ↦ made w r ]
 
 -- The start: the eight variables of the goal's names are made, the goal is due.
 unfoldable pub start_memory : List ℕ → List ℕ

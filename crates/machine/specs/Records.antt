@@ -1,39 +1,27 @@
 -- The work buffer: records of 64 numbers (memory/specs/Records), with the fields of Fields.
-use Rattle.std.specs.Prelude.{ℕ, ◌+◌, ◌/◌, ◌%◌, Bool, true, false, List}
+use Rattle.std.specs.Prelude.{ℕ, ◌+◌, ◌/◌, ◌%◌, List}
 use Rattle.machine.specs.declared.Registers.{Registers}
-use Rattle.machine.specs.declared.modes.Mode.{Mode}
-use Rattle.machine.specs.declared.modes.Mode.TheVariants.{Take, Try, Compare, Check, Proved, No, Failed}
 use Rattle.machine.specs.Fields as fields
 use Rattle.memory.specs.Records.{field, put_field}
 
 -- Modes: the act that is due, or the verdict.
-abbrev pub take_mode : Mode
-take_mode = Take
+abbrev pub take_mode : ℕ
+take_mode = 0
 
-abbrev pub try_mode : Mode
-try_mode = Try
+abbrev pub try_mode : ℕ
+try_mode = 1
 
-abbrev pub compare_mode : Mode
-compare_mode = Compare
+abbrev pub compare_mode : ℕ
+compare_mode = 2
 
-abbrev pub check_mode : Mode
-check_mode = Check
+abbrev pub check_mode : ℕ
+check_mode = 3
 
-abbrev pub proved_mode : Mode
-proved_mode = Proved
+abbrev pub proved_mode : ℕ
+proved_mode = 4
 
-abbrev pub no_mode : Mode
-no_mode = No
-
--- An act is due, and there is no verdict yet. `Failed` is a mode of the code alone: the crate machine_memory says what it stands for.
-abbrev pub is_due : Mode → Bool
-is_due Take = true
-is_due Try = true
-is_due Compare = true
-is_due Check = true
-is_due Proved = false
-is_due No = false
-is_due Failed = false
+abbrev pub no_mode : ℕ
+no_mode = 5
 
 -- Lines of the path.
 abbrev pub true_line : ℕ

@@ -1,11 +1,10 @@
 -- Changes of the registers, a few at a time.
 use Rattle.std.specs.Prelude.{ℕ}
 use Rattle.machine.specs.declared.Registers.{Registers}
-use Rattle.machine.specs.declared.modes.Mode.{Mode}
 use Rattle.machine.specs.Records.{check_mode, compare_mode, take_mode}
 
 -- All registers, in the order of the struct.
-abbrev pub registers : ℕ → Mode → ℕ → ℕ → ℕ → ℕ → ℕ → ℕ → ℕ → ℕ → ℕ → ℕ → ℕ → ℕ → ℕ → ℕ → ℕ → ℕ → ℕ → ℕ → Registers
+abbrev pub registers : ℕ → ℕ → ℕ → ℕ → ℕ → ℕ → ℕ → ℕ → ℕ → ℕ → ℕ → ℕ → ℕ → ℕ → ℕ → ℕ → ℕ → ℕ → ℕ → ℕ → Registers
 registers acts mode next trail choice goals path line node frame program level hypothesis clause member place left right pairs nodes =
     record {
       acts = acts;
@@ -37,7 +36,7 @@ with_acts r a =
     r.hypothesis r.clause r.member r.place r.left r.right r.pairs r.nodes
 
 -- The act that is due, or the verdict.
-unfoldable pub with_mode : Registers → Mode → Registers
+unfoldable pub with_mode : Registers → ℕ → Registers
 with_mode r m =
     registers r.acts m r.next r.trail r.choice r.goals r.path r.line r.node r.frame r.program r.level
     r.hypothesis r.clause r.member r.place r.left r.right r.pairs r.nodes

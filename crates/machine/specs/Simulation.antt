@@ -1,5 +1,5 @@
 -- What is proved of the machine: it does the search of level 1, act for act, whatever the lent buffer held before.
-use Rattle.std.specs.Prelude.{ℕ, ◌+◌, ◌*◌, ◌≤◌, ◌≡◌, true, List, [], ◌∷◌, length}
+use Rattle.std.specs.Prelude.{ℕ, ◌+◌, ◌*◌, ◌≤◌, ◌<◌, ◌≡◌, List, [], ◌∷◌, length}
 use Rattle.terms.specs.Terms.{Term, leaf}
 use Rattle.sequents.specs.Sequents.{Line}
 use Rattle.unification.specs.Store.{Leaf, var, Store}
@@ -11,8 +11,7 @@ use Rattle.formulas.specs.Rules.{rules}
 use Rattle.node_table.specs.Decoding.{clauses_from, goal_at, order_of}
 use Rattle.node_table.specs.WellMade.{WellMade}
 use Rattle.machine.specs.declared.Registers.{Registers}
-use Rattle.machine.specs.declared.modes.Mode.{Mode}
-use Rattle.machine.specs.Records.{Made, proved_mode, check_mode, compare_mode, try_mode, take_mode, no_mode, is_due}
+use Rattle.machine.specs.Records.{Made, proved_mode, check_mode, compare_mode, try_mode, take_mode, no_mode}
 use Rattle.machine.specs.Words.{term_of}
 use Rattle.machine.specs.ChoicePoints.{failed}
 use Rattle.machine.specs.Machine.{run_acts, run_machine}
@@ -20,13 +19,13 @@ use Rattle.machine.specs.Reading.{Holds, path_from}
 use Rattle.machine.specs.ReadingStates.{open_goals, goal_due, atom_due, members_due, pair_due, pairs_next, pairs_left, node_due, nodes_left}
 
 -- The registers and the memory stand at a branch with this mode, store and path.
-pub record StandsAt (t : List ℕ) (m : Made) (due : Mode) (s : Store) (ls : List (Line Leaf)) : Type 0 where
+pub record StandsAt (t : List ℕ) (m : Made) (due : ℕ) (s : Store) (ls : List (Line Leaf)) : Type 0 where
   pub mode : m.registers.mode ≡ due
   pub store : Holds t m.memory m.registers s
   pub path : path_from m.registers.acts m.memory m.registers.path m.registers.line ≡ ls
 
 -- They stand at this branch: its open goals, with their programs, environments and levels, and its path.
-pub record StandsAtBranch (t : List ℕ) (c : ℕ) (m : Made) (due : Mode) (s : Store) (b : Branch) : Type 0 where
+pub record StandsAtBranch (t : List ℕ) (c : ℕ) (m : Made) (due : ℕ) (s : Store) (b : Branch) : Type 0 where
   pub at : StandsAt t m due s b.path
   pub goals : open_goals t c m ≡ b.goals
 
@@ -58,7 +57,7 @@ Stands t c m (x ∷ cs) = StandsAtConfiguration t c m x × Stands t c (failed m.
 unfoldable pub Reports : List ℕ → Made → SearchOutcome → Type 0
 Reports t m (ends (proved s ls) n) = StandsAt t m proved_mode s ls × (m.registers.acts ≡ n)
 Reports t m (ends no_proof n) = (m.registers.mode ≡ no_mode) × (m.registers.acts ≡ n)
-Reports t m spent = is_due m.registers.mode ≡ true
+Reports t m spent = m.registers.mode < proved_mode
 
 -- Within a permitted budget, with 64 numbers for each unit: outcome, units, bindings, levels and path are level 1's.
 abbrev pub Simulates : Type 0

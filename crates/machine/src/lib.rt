@@ -6,8 +6,6 @@ pub mod lines;
 pub mod modes;
 pub mod tags;
 
-use modes::Mode;
-
 // All of the machine's state that is not in the work buffer. A pointer is the number of a record plus 1, and 0 for none: pointers, words and
 // lines are numbers here as they lie in lent memory.
 #[derive(Clone, Copy)]
@@ -15,7 +13,7 @@ pub struct Registers {
     // The number of acts done, which is the number of the record that the next act may write.
     pub acts: u32,
     // The act that is due, or the verdict (module `modes`).
-    pub mode: Mode,
+    pub mode: u32,
     // The number of variables made.
     pub next: u32,
     // Pointers: the latest trail entry, the latest choice point, the goals that wait, the path.

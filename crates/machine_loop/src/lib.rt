@@ -3,16 +3,14 @@
 // of them, and some only read the buffer, so a struct of all would be no plainer.
 #![tactic(auto)]
 
-ghost use Rattle.std.specs.Prelude.{ℕ, ◌≡◌, true, false};
-ghost use Rattle.machine.specs.Records.{made, is_due};
+ghost use Rattle.std.specs.Prelude.{ℕ, ◌≤◌, ◌<◌, ◌≡◌};
+ghost use Rattle.machine.specs.Records.{made};
 ghost use Rattle.machine.specs.Machine.{act, run_acts, start_memory, start_registers, run_machine};
-ghost use Rattle.machine_loop.specs.Modes.{is_matching};
 ghost use Rattle.machine_memory.specs.Settling.{settled};
 
 use clause_acts::backchaining::try_next;
 use goal_acts::take_goal;
-use machine::Registers;
-use machine::modes::Mode;
+use machine::{Registers, modes};
 use machine_memory::choice_points::settle;
 use machine_memory::frames::put_variables;
 use machine_memory::registers::with_acts;
@@ -21,44 +19,30 @@ use match_acts::comparing::compare_pair;
 use match_acts::range_check::check_node;
 use sheet_format::limits;
 
-// Whether an act is due, and there is no verdict yet.
-fn is_due(mode: Mode) -> bool
-    ensures { result ≡ is_due mode }
-{
-    matches!(mode, Mode::Take | Mode::Try | Mode::Compare | Mode::Check)
-}
-
-// Whether that act is of an argument pair, or of a node in a range check.
-fn is_matching(mode: Mode) -> bool
-    ensures { result ≡ is_matching mode }
-{
-    matches!(mode, Mode::Compare | Mode::Check)
-}
-
 // One act, counted: a goal is taken or a member tried. Apart from `match_act`, so that each act has one call in the loop below.
 #[tactic(auto, using(crate::proofs::Laws::act_counted), unfolding(machine::specs::Machine::due_act))]
 fn goal_act(t: &[u32], c: u32, w: &mut [u32], r: Registers) -> Registers
-    requires { (is_due r.mode ≡ true) × (is_matching r.mode ≡ false) }
+    requires { r.mode ≤ 1 }
     ensures { settled w.new result ≡ act t.now c w.old r }
 {
     let u = increment(r.acts);
-    match r.mode {
-        Mode::Take => with_acts(take_goal(t, c, w, r), u),
-        _ => with_acts(try_next(t, c, w, r), u),
+    if r.mode == modes::TAKE {
+        return with_acts(take_goal(t, c, w, r), u);
     }
+    with_acts(try_next(t, c, w, r), u)
 }
 
 // One act, counted: of an argument pair, or of a node in a range check. It does not depend on the number of clauses.
 #[tactic(auto, using(crate::proofs::Laws::act_counted), unfolding(machine::specs::Machine::due_act))]
 fn match_act(t: &[u32], w: &mut [u32], r: Registers) -> Registers
-    requires { is_matching r.mode ≡ true }
+    requires { (1 < r.mode) × (r.mode ≤ 3) }
     ensures { (c : ℕ) → settled w.new result ≡ act t.now c w.old r }
 {
     let u = increment(r.acts);
-    match r.mode {
-        Mode::Compare => with_acts(compare_pair(t, w, r), u),
-        _ => with_acts(check_node(t, w, r), u),
+    if r.mode == modes::COMPARE {
+        return with_acts(compare_pair(t, w, r), u);
     }
+    with_acts(check_node(t, w, r), u)
 }
 
 // At most n acts, each of which takes one of the units left. Members are tried in turn: the inner loop compares the argument pairs of
@@ -69,25 +53,28 @@ fn match_act(t: &[u32], w: &mut [u32], r: Registers) -> Registers
 pub fn run_acts(n: u32, t: &[u32], c: u32, w: &mut [u32], from: Registers) -> Registers
     ensures { made w.new result ≡ run_acts n t.now c w.old from }
 {
-    if !is_due(from.mode) {
+    if modes::CHECK < from.mode {
         return from;
     }
     let mut r = from;
     let mut left = n;
     'members: loop {
         r = settle(w, r);
-        while is_matching(r.mode) {
+        while modes::TRY < r.mode {
+            if modes::CHECK < r.mode {
+                return r;
+            }
             if left == 0 {
                 return r;
             }
             r = match_act(t, w, r);
             left -= 1; // a pair compared, a node looked at or a binding followed
             // A mismatch: the next member is due.
-            if r.mode == Mode::Failed {
+            if r.mode == modes::FAILED {
                 continue 'members;
             }
         }
-        if left == 0 || !is_due(r.mode) {
+        if left == 0 {
             return r;
         }
         r = goal_act(t, c, w, r);
@@ -109,7 +96,7 @@ pub fn start_registers(goal: u32) -> Registers
 {
     Registers {
         acts: 0,
-        mode: Mode::Take,
+        mode: modes::TAKE,
         next: limits::VARIABLE_NAMES,
         trail: 0,
         choice: 0,

@@ -8,8 +8,7 @@ ghost use Rattle.machine_memory.specs.Settling.{settled};
 use super::registers::with_mode;
 use super::rows::row;
 use super::trail::undo;
-use machine::modes::Mode;
-use machine::{Registers, fields};
+use machine::{Registers, fields, modes};
 use memory::field;
 
 // Restores what the choice point in record q has: the branch and what was open before it, the goal or atom, the member. Place 0 stands for
@@ -34,7 +33,7 @@ pub fn resume(w: &[u32], r: Registers, q: u32) -> Registers
         place,
     ] = row::<14>(w, q, fields::VARIABLES);
     Registers {
-        mode: if place == 0 { Mode::Take } else { Mode::Try },
+        mode: if place == 0 { modes::TAKE } else { modes::TRY },
         next,
         trail,
         choice,
@@ -72,7 +71,7 @@ pub fn failed(w: &mut [u32], r: Registers) -> Registers
 {
     let choice = r.choice;
     if choice == 0 {
-        return with_mode(r, Mode::No);
+        return with_mode(r, modes::NO);
     }
     backtrack(w, r, choice - 1)
 }
@@ -81,15 +80,15 @@ pub fn failed(w: &mut [u32], r: Registers) -> Registers
 pub fn fail(r: Registers) -> Registers
     ensures { (w : List ℕ) → settled w result ≡ failed w r }
 {
-    with_mode(r, Mode::Failed)
+    with_mode(r, modes::FAILED)
 }
 
 // Goes on with the latest choice point if the registers have failed.
 pub fn settle(w: &mut [u32], r: Registers) -> Registers
     ensures { made w.new result ≡ settled w.old r }
 {
-    match r.mode {
-        Mode::Failed => failed(w, r),
-        _ => r,
+    if r.mode == modes::FAILED {
+        return failed(w, r);
     }
+    r
 }

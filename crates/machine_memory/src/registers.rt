@@ -7,8 +7,7 @@ ghost use Rattle.machine.specs.RegisterUpdates.{with_member, with_pairs, with_si
 ghost use Rattle.machine.specs.ChoicePoints.{save_choice};
 
 use super::rows::put_row;
-use machine::modes::Mode;
-use machine::{Registers, fields};
+use machine::{Registers, fields, modes};
 
 // One more act is done.
 #[tactic(auto, unfolding(machine::specs::RegisterUpdates::with_acts))]
@@ -20,7 +19,7 @@ pub fn with_acts(r: Registers, a: u32) -> Registers
 
 // The act that is due, or the verdict.
 #[tactic(auto, unfolding(machine::specs::RegisterUpdates::with_mode))]
-pub fn with_mode(r: Registers, m: Mode) -> Registers
+pub fn with_mode(r: Registers, m: u32) -> Registers
     ensures { result ≡ with_mode r m }
 {
     Registers { mode: m, ..r }
@@ -76,7 +75,7 @@ pub fn with_goal(r: Registers, n: u32, f: u32, h: u32, i: u32) -> Registers
     ensures { result ≡ with_goal r n f h i }
 {
     Registers {
-        mode: Mode::Take,
+        mode: modes::TAKE,
         node: n,
         frame: f,
         program: h,
@@ -105,7 +104,7 @@ pub fn with_pairs(r: Registers, a: u32) -> Registers
     ensures { result ≡ with_pairs r a }
 {
     Registers {
-        mode: Mode::Compare,
+        mode: modes::COMPARE,
         left: 0,
         pairs: a,
         ..r
@@ -130,7 +129,7 @@ pub fn with_check(r: Registers, a: u32, x: u32, v: u32) -> Registers
     ensures { result ≡ with_check r a x v }
 {
     Registers {
-        mode: Mode::Check,
+        mode: modes::CHECK,
         node: v,
         left: x,
         right: v,

@@ -1,8 +1,8 @@
 // Comparing a pair of arguments, and following a binding of one of its sides: the goal's side first. Each function is a definition of
 // the crate machine, and its contract says so.
-ghost use Rattle.std.specs.Prelude.{◌≡◌, false};
+ghost use Rattle.std.specs.Prelude.{◌≡◌, ◌<◌};
 ghost use Rattle.machine.specs.Matching.{compare_closures, compare_leaves, compare_words, left_word, right_word, compare_sides, compare_pair};
-ghost use Rattle.machine_memory.specs.Settling.{has_failed, settled};
+ghost use Rattle.machine_memory.specs.Settling.{settled};
 
 use super::pairs::{due_pairs, pairs_after, pairs_from, word_due};
 use machine::{Registers, fields, tags};
@@ -74,7 +74,7 @@ pub fn right_word(t: &[u32], w: &[u32], r: Registers) -> u32
 // clause's side; where neither side is bound, it compares them.
 #[tactic(auto, using(crate::proofs::Laws::settled_acts), unfolding(machine::specs::Matching::compare_sides))]
 pub fn compare_sides(t: &[u32], w: &mut [u32], r: Registers, x: u32, y: u32) -> Registers
-    requires { has_failed r.mode ≡ false }
+    requires { r.mode < 6 }
     ensures { settled w.new result ≡ compare_sides t.now w.old r x y }
 {
     let p = binding_of(w, x);
@@ -92,7 +92,7 @@ pub fn compare_sides(t: &[u32], w: &mut [u32], r: Registers, x: u32, y: u32) -> 
 // One act: the pair that is due.
 #[tactic(auto, unfolding(machine::specs::Matching::compare_pair))]
 pub fn compare_pair(t: &[u32], w: &mut [u32], r: Registers) -> Registers
-    requires { has_failed r.mode ≡ false }
+    requires { r.mode < 6 }
     ensures { settled w.new result ≡ compare_pair t.now w.old r }
 {
     let x = left_word(t, w, r);

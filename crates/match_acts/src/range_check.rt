@@ -1,9 +1,9 @@
 // A range check, one node of the term at a time, and following a binding of a node. Each function is a definition of the crate machine,
 // and its contract says so. That the registers have not failed is a clause here and in comparing: a type for such registers would be no
 // plainer, since each act would have to make it anew from the registers that it goes on with.
-ghost use Rattle.std.specs.Prelude.{◌≡◌, false};
+ghost use Rattle.std.specs.Prelude.{◌≡◌, ◌<◌};
 ghost use Rattle.machine.specs.Matching.{visit_closure, visit_word, due_word, nodes_after, check_word, check_node};
-ghost use Rattle.machine_memory.specs.Settling.{has_failed, settled};
+ghost use Rattle.machine_memory.specs.Settling.{settled};
 ghost use Rattle.match_acts.specs.Visits.{passed};
 
 use super::occurs_check::{Visit, pass_node, visit_constant, visit_variable};
@@ -60,7 +60,7 @@ pub fn nodes_after(t: &[u32], w: &[u32], a: u32) -> u32
 // One act on the node of the word x: it follows one binding (request W-206), or looks at the node where it is not bound.
 #[tactic(auto, using(crate::proofs::Laws::settled_acts), unfolding(machine::specs::Matching::check_word, crate::specs::Visits::passed))]
 pub fn check_word(t: &[u32], w: &mut [u32], r: Registers, x: u32) -> Registers
-    requires { has_failed r.mode ≡ false }
+    requires { r.mode < 6 }
     ensures { settled w.new result ≡ check_word t.now w.old r x }
 {
     let p = binding_of(w, x);
@@ -77,7 +77,7 @@ pub fn check_word(t: &[u32], w: &mut [u32], r: Registers, x: u32) -> Registers
 // One act: the node of a range check that is due.
 #[tactic(auto, unfolding(machine::specs::Matching::check_node))]
 pub fn check_node(t: &[u32], w: &mut [u32], r: Registers) -> Registers
-    requires { has_failed r.mode ≡ false }
+    requires { r.mode < 6 }
     ensures { settled w.new result ≡ check_node t.now w.old r }
 {
     let x = due_word(t, w, r);

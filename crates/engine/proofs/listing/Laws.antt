@@ -18,8 +18,7 @@ use Rattle.std.specs.Prelude.{Option}
 use Rattle.printing.specs.Writer.{fitted, text_limit, own_bytes, Answered, answered, append_proof, append_result, copied}
 use Rattle.engine.specs.declared.listing.Query.{Query}
 use Rattle.engine.specs.declared.listing.Progress.{Progress}
-use Rattle.engine.proofs.Modes.{not_no}
-use Rattle.engine.specs.Answering.{is_no, reply}
+use Rattle.engine.specs.Answering.{reply}
 use Rattle.engine.specs.Listing.{go_on, listed, write_proofs, write_last, tell, report_proofs}
 use Rattle.engine.proofs.ListedProofs.{write_ended, write_stops, write_goes}
 
@@ -95,12 +94,12 @@ module _ (budget : ℕ) (p : Progress) (own : List ℕ) (limit : ℕ) where
   pub last_no : (own' : List ℕ) (n : ℕ) → (p.left ≡ 0 → ⊥) → p.registers.mode ≡ no_mode
       → written own' n ≡ append_result (ascii "R\tno\t") p.registers.acts own limit p.at → written own' n ≡ write_last budget p own limit
   unfolding write_last
-  last_no own' n h m e = rw (ne_eqb p.left 0 h, ap is_no m) e
+  last_no own' n h m e = rw (ne_eqb p.left 0 h, eq-eqb p.registers.mode no_mode m) e
 
   pub last_spent : (own' : List ℕ) (n : ℕ) → (p.left ≡ 0 → ⊥) → (p.registers.mode ≡ no_mode → ⊥)
       → written own' n ≡ append_result (ascii "R\tspent\t") budget own limit p.at → written own' n ≡ write_last budget p own limit
   unfolding write_last
-  last_spent own' n h m e = rw (ne_eqb p.left 0 h, not_no p.registers.mode m) e
+  last_spent own' n h m e = rw (ne_eqb p.left 0 h, ne_eqb p.registers.mode no_mode m) e
 
 -- All of it.
 pub reports : (sheet t : List ℕ) (q : Query) (w w' : List ℕ) (r : Registers) (limit : ℕ) (own own₁ own₂ out out' : List ℕ) (p : Progress)

@@ -2,6 +2,7 @@
 use Prim.Native.Nat.{ℕ}
 use mathlib.Core.Path.{◌≡◌, ◌∙◌}
 use mathlib.Core.List.{List}
+use borrow.Author.Tests.{eq-eqb}
 use Rattle.machine.specs.declared.Registers.{Registers}
 use Rattle.machine.specs.Records.{made}
 use Rattle.machine.specs.RegisterUpdates.{with_mode, with_next, with_trail, with_choice, with_goals, with_path, with_goal, with_member}
@@ -15,4 +16,4 @@ failure_settled r s e w = rw e
 
 pub settled_here : (w w' : List ℕ) (r s : Registers) → r.mode ≡ failed_mode → made w' s ≡ failed w r → made w' s ≡ settled w r
 unfolding settled
-settled_here w w' r s z e = e ∙ rw z
+settled_here w w' r s z e = e ∙ rw (eq-eqb _ _ z)

@@ -1,6 +1,3 @@
-use mathlib.Core.Path.{ap}
-use Rattle.engine.proofs.Modes.{not_no}
-use Rattle.engine.specs.Answering.{is_no}
 use borrow.Author.Tests.{eq-eqb, ne_eqb}
 use Rattle.engine.specs.Listing.{tell}
 use Rattle.engine.proofs.listing.tell.Goals as goal
@@ -9,22 +6,22 @@ pub returns-then-p-eq0 : goal.returns-then-p-eq0
 unfolding tell
 returns-then-p-eq0 c = simp (tell, ← c.fitting_run.ensures, eq-eqb _ _ c.if-p-eq0.true)
 
-pub returns-in-No : goal.returns-in-No
+pub returns-then-p-eq-NO : goal.returns-then-p-eq-NO
 unfolding tell
-returns-in-No c =
+returns-then-p-eq-NO c =
     simp (
       tell,
-      ← c.fitting_run-in-No.ensures,
+      ← c.fitting_run-then-p-eq-NO.ensures,
       ne_eqb _ _ c.if-p-eq0.false,
-      ap is_no c.in-No.is,
+      eq-eqb _ _ c.if-p-eq-NO.true,
     )
 
-pub returns-in_default : goal.returns-in_default
+pub returns : goal.returns
 unfolding tell
-returns-in_default c =
+returns c =
     simp (
       tell,
-      ← c.fitting_run-in_default.ensures,
+      ← c.fitting_run-2.ensures,
       ne_eqb _ _ c.if-p-eq0.false,
-      not_no _ c.in_default.not-No,
+      ne_eqb _ _ c.if-p-eq-NO.false,
     )

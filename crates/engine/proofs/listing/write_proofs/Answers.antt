@@ -15,7 +15,7 @@ pub returns-then-left-eq0 : goal.returns-then-left-eq0
 returns-then-left-eq0 c =
     let inv = c.loop-registers.invariant in
     let few = inv.3 in record {
-      result_after = sym (inv.4 ∙ proofs_last _ _ _ _ _ _ _ _ _ _ _ c.in-Proved.is c.append_proof-at.ensures _ inv.2 c.if-left-eq0.true);
+      result_after = sym (inv.4 ∙ proofs_last _ _ _ _ _ _ _ _ _ _ _ c.loop-registers-test.true c.append_proof-at.ensures _ inv.2 c.if-left-eq0.true);
       left_le_proofs = omega arith;
     }
 
@@ -23,7 +23,7 @@ pub returns-then-limit-at : goal.returns-then-limit-at
 returns-then-limit-at c =
     let inv = c.loop-registers.invariant in
     let few = inv.3 in record {
-      result_after = sym (inv.4 ∙ proofs_long _ _ _ _ _ _ _ _ _ _ _ c.in-Proved.is c.append_proof-at.ensures _ inv.2 c.if-limit-at.true);
+      result_after = sym (inv.4 ∙ proofs_long _ _ _ _ _ _ _ _ _ _ _ c.loop-registers-test.true c.append_proof-at.ensures _ inv.2 c.if-limit-at.true);
       left_le_proofs = omega arith;
     }
 
@@ -36,11 +36,11 @@ loop-registers-preserved c =
       search rules,
       omega arith,
       omega arith,
-      inv.4 ∙ proofs_more _ _ _ _ _ _ _ _ _ _ _ c.in-Proved.is c.append_proof-at.ensures _ _ _ inv.2 c.if-left-eq0.false
+      inv.4 ∙ proofs_more _ _ _ _ _ _ _ _ _ _ _ c.loop-registers-test.true c.append_proof-at.ensures _ _ _ inv.2 c.if-left-eq0.false
           c.if-limit-at.false c.go_on-registers.ensures,
     )
 
 pub returns : goal.returns
 returns c =
     let inv = c.loop-registers.invariant in
-    record { result_after = sym (inv.4 ∙ proofs_ended _ _ _ _ _ _ _ _ _ inv.2 c.in_default.not-Proved); left_le_proofs = inv.3 }
+    record { result_after = sym (inv.4 ∙ proofs_ended _ _ _ _ _ _ _ _ _ inv.2 c.loop-registers-test.false); left_le_proofs = inv.3 }

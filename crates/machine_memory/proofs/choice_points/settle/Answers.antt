@@ -1,9 +1,10 @@
-use Rattle.machine_memory.proofs.Settling.{not_failed, settled_kept}
+use Rattle.machine_memory.proofs.Settling.{settled_kept}
 use Rattle.machine_memory.proofs.choice_points.Laws.{settled_here}
 use Rattle.machine_memory.proofs.choice_points.settle.Goals as goal
 
-pub returns-in-Failed : goal.returns-in-Failed
-returns-in-Failed c = settled_here _ _ _ _ c.in-Failed.is c.failed.ensures
+pub returns-then-r-eq-FAILED : goal.returns-then-r-eq-FAILED
+returns-then-r-eq-FAILED c =
+    settled_here _ _ _ _ c.if-r-eq-FAILED.true c.failed.ensures
 
-pub returns-in_default : goal.returns-in_default
-returns-in_default c = settled_kept _ _ (not_failed _ c.in_default.not-Failed)
+pub returns : goal.returns
+returns c = settled_kept _ _ c.if-r-eq-FAILED.false

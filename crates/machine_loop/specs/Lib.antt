@@ -1,2 +1,0 @@
--- The acts of matching, by the mode.
-pub mod Modes
