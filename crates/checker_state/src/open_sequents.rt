@@ -4,7 +4,7 @@ ghost use Rattle.std.specs.Prelude.{◌≡◌, ◌-◌};
 ghost use Rattle.line_checking.specs.Sequents.{put_sequent, open_sequent, next_sequent, put_hypothesis};
 
 use super::registers::{with_sequent, with_stage};
-use line_checking::{Registers, TextStage};
+use line_checking::{Registers, text_stages};
 use memory::{field, put_field};
 use scanning::fields;
 
@@ -45,7 +45,7 @@ pub fn next_sequent(w: &[u32], r: Registers) -> Registers
 {
     let rest = r.rest;
     if rest == 0 {
-        return with_stage(r, TextStage::Done);
+        return with_stage(r, text_stages::DONE);
     }
     open_sequent(w, r, rest - 1)
 }

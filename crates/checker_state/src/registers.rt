@@ -4,7 +4,7 @@ ghost use Rattle.std.specs.Prelude.{◌≡◌, List, ℕ, ◌-◌};
 ghost use Rattle.line_checking.specs.Sequents.{made, start, with_stage, broken, with_binding, with_sequent, with_counts, free_from, bound_from};
 ghost use Rattle.line_checking.specs.Sequents.{bound};
 
-use line_checking::{Registers, TextStage};
+use line_checking::{Registers, text_stages};
 use node_table::{bit_of, mask};
 use sheet_format::limits;
 
@@ -13,7 +13,7 @@ pub fn start() -> Registers
     ensures { result ≡ start }
 {
     Registers {
-        stage: TextStage::Opening,
+        stage: text_stages::OPENING,
         node: 0,
         frame: 0,
         hypotheses: 0,
@@ -25,17 +25,17 @@ pub fn start() -> Registers
 }
 
 // What is due.
-pub fn with_stage(r: Registers, stage: TextStage) -> Registers
-    ensures { result ≡ with_stage r stage }
+pub fn with_stage(r: Registers, k: u32) -> Registers
+    ensures { result ≡ with_stage r k }
 {
-    Registers { stage, ..r }
+    Registers { stage: k, ..r }
 }
 
 // The line was wrong.
 pub fn broken(r: Registers) -> Registers
     ensures { (w : List ℕ) → made w result ≡ broken w r }
 {
-    with_stage(r, TextStage::Broken)
+    with_stage(r, text_stages::BROKEN)
 }
 
 // A B line for variable v is due.
@@ -43,7 +43,7 @@ pub fn with_binding(r: Registers, v: u32, f: u32) -> Registers
     ensures { result ≡ with_binding r v f }
 {
     Registers {
-        stage: TextStage::Binding,
+        stage: text_stages::BINDING,
         node: v,
         frame: f,
         hypotheses: 0,
@@ -58,7 +58,7 @@ pub fn with_sequent(r: Registers, n: u32, f: u32, h: u32, i: u32, q: u32) -> Reg
     ensures { result ≡ with_sequent r n f h i q }
 {
     Registers {
-        stage: TextStage::Deriving,
+        stage: text_stages::SEQUENT,
         node: n,
         frame: f,
         hypotheses: h,

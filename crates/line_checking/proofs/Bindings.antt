@@ -45,7 +45,7 @@ use Rattle.scanning.proofs.Frames.{frame_bind}
 use Rattle.scanning.proofs.InstanceSpelling.{Frame, frame_fewer}
 use Rattle.line_checking.specs.declared.Registers.{Registers}
 use Rattle.line_checking.specs.Sequents.{Made, made, broken, with_binding, with_sequent, free_from as nextFree, bound_from, bound}
-use Rattle.line_checking.specs.declared.TextStage.TheVariants.{Broken}
+use Rattle.line_checking.specs.Sequents.{broken_stage}
 use Rattle.line_checking.specs.Bindings.{begins_with, check_result_with, check_units, check_result, bind_with, bind_term, binds_variable}
 use Rattle.line_checking.specs.Bindings.{bind_line}
 use Rattle.line_checking.proofs.Lines.{bytes_result, bytes_binding, decimal_one, is_word, word_byte}
@@ -60,11 +60,11 @@ use Rattle.line_checking.proofs.Terms.{scan_at, TermCase, is_term, no_term, term
 -- registers after B lines
 
 -- The stage after B lines is not the broken stage.
-pub bound_stage_lem : (t : List ℕ) (goal : ℕ) (r : Registers) (v f : ℕ) → (bound t goal r v f).stage ≡ Broken → ⊥
+pub bound_stage_lem : (t : List ℕ) (goal : ℕ) (r : Registers) (v f : ℕ) → (bound t goal r v f).stage ≡ broken_stage → ⊥
 unfolding bound bound_from with_binding with_sequent
 bound_stage_lem t goal r v f =
-    either_side (λ (s : Registers). s.stage ≡ Broken → ⊥) (ltb (nextFree (8 - v) (mask_of t goal) v) 8) _ _ (λ h e. cc)
-    (λ h e. cc)
+    either_side (λ (s : Registers). s.stage ≡ broken_stage → ⊥) (ltb (nextFree (8 - v) (mask_of t goal) v) 8) _ _ (λ h e. omega arith)
+    (λ h e. omega arith)
 
 -- The count of made constants stays after B lines.
 pub bound_made : (t : List ℕ) (goal : ℕ) (r : Registers) (v f : ℕ) → (bound t goal r v f).made ≡ r.made

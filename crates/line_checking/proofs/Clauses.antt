@@ -47,8 +47,7 @@ use Rattle.answer_texts.specs.Capitals.{small_from}
 use Rattle.scanning.proofs.Folding.{folded_both, number_folded, atoms_folded}
 use Rattle.line_checking.specs.declared.Registers.{Registers}
 use Rattle.std.specs.Prelude.{Some, None}
-use Rattle.line_checking.specs.Sequents.{Made, made, broken, with_sequent}
-use Rattle.line_checking.specs.declared.TextStage.TheVariants.{Broken}
+use Rattle.line_checking.specs.Sequents.{Made, made, broken, with_sequent, broken_stage}
 use Rattle.line_checking.specs.Members.{Place, place_from}
 use Rattle.line_checking.specs.Bindings.{begins_with}
 use Rattle.line_checking.specs.Clauses.{Read, prefix_from, with_body, use_member, use_terms, use_found, use_place, use_place_at, clause_fields}
@@ -312,10 +311,10 @@ module _ (c : Setting) (filled : Filled c) (q : ℕ) (w : List ℕ) (room : Room
               body_free z a = or_right (free_ts (arguments_at t (head_of t F.leaf)) z) (free_b (body_of t F.leaf) z) (rw y a)
 
       -- The stage after the line is not the broken stage.
-      body_stage : (with_body t w₂ r q F.leaf).stage ≡ Broken → ⊥
+      body_stage : (with_body t w₂ r q F.leaf).stage ≡ broken_stage → ⊥
       unfolding with_body with_sequent
       body_stage =
-          either_side (λ (s : Registers). s.stage ≡ Broken → ⊥) (eqb (kind_of t F.leaf) implies_kind) _ _ (λ a b. cc)
+          either_side (λ (s : Registers). s.stage ≡ broken_stage → ⊥) (eqb (kind_of t F.leaf) implies_kind) _ _ (λ a b. omega arith)
           (λ a. proceed_stage w₂ r)
 
       -- The count of made constants stays after the line.

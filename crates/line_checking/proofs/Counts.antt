@@ -20,9 +20,7 @@ use Rattle.scanning.specs.BriefComparisons.{same_atoms}
 use Rattle.line_checking.specs.declared.Registers.{Registers}
 use Rattle.std.specs.Prelude.{Some, None}
 use Rattle.line_checking.specs.Sequents.{Made, made, broken, with_stage, with_binding, with_sequent, free_from, bound_from, bound, put_sequent}
-use Rattle.line_checking.specs.Sequents.{open_sequent, next_sequent, put_hypothesis}
-use Rattle.line_checking.specs.declared.TextStage.{TextStage}
-use Rattle.line_checking.specs.declared.TextStage.TheVariants.{Opening, Binding, Deriving, Done, Broken}
+use Rattle.line_checking.specs.Sequents.{open_sequent, next_sequent, put_hypothesis, result_stage, binding_stage, sequent_stage}
 use Rattle.line_checking.specs.HypothesisChains.{links_after, put_links}
 use Rattle.line_checking.specs.Members.{Place, start_after, place_from}
 use Rattle.line_checking.specs.Bindings.{begins_with, is_line, check_result_with, check_units, check_result, bind_with, bind_term, binds_variable}
@@ -65,7 +63,7 @@ module _ (r : Registers) where
   unfolding next_sequent open_sequent with_sequent with_stage
   next w w' = go (eqb r.rest 0)
     where
-      go : (b : Bool) → SameCounts r (made w (cond b (with_stage r Done) (open_sequent w' r (r.rest - 1))))
+      go : (b : Bool) → SameCounts r (made w (cond b (with_stage r 3) (open_sequent w' r (r.rest - 1))))
       go true = record { same_made_lem = refl; same_leftover_lem = refl }
       go false = record { same_made_lem = refl; same_leftover_lem = refl }
 
@@ -165,21 +163,9 @@ module _ (r : Registers) where
   pub stage_same : (b t : List ℕ) (symbols clauses goal : ℕ) (x w : List ℕ) (q i e : ℕ)
       → SameCounts r (stage_line b t symbols clauses goal x w r q i e)
   unfolding stage_line sequent_line true_line
-  stage_same b t symbols clauses goal x w q i e = go r.stage
-    where
-      go : (s : TextStage)
-          → SameCounts r (elim s as (λ z. Made) [
-            | Opening ↦ check_result t goal x w r i e
-            | Binding ↦ bind_line b t symbols goal x w r q i e
-            | Deriving ↦ sequent_line b t symbols clauses x w r q i e
-            | Done ↦ broken w r
-            | Broken ↦ broken w r
-          ])
-      go Opening = result_same t goal x w i e
-      go Binding = bind_same b t symbols goal x w q i e
-      go Deriving =
-          either (eqb (kind_of t r.node) atom_kind) _ _ (clause_same b t symbols clauses x w q i e)
-          (either (eqb (kind_of t r.node) true_kind) _ _ (either (is_line (ascii "D\ttrue") x i e) _ _ (next w w) (stops w))
-          (connective_same b t symbols clauses x w q i e))
-      go Done = stops w
-      go Broken = stops w
+  stage_same b t symbols clauses goal x w q i e =
+      either (eqb r.stage result_stage) _ _ (result_same t goal x w i e)
+      (either (eqb r.stage binding_stage) _ _ (bind_same b t symbols goal x w q i e)
+      (either (eqb r.stage sequent_stage) _ _ (either (eqb (kind_of t r.node) atom_kind) _ _ (clause_same b t symbols clauses x w q i e)
+      (either (eqb (kind_of t r.node) true_kind) _ _ (either (is_line (ascii "D\ttrue") x i e) _ _ (next w w) (stops w))
+      (connective_same b t symbols clauses x w q i e))) (stops w)))

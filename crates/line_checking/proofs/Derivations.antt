@@ -15,8 +15,7 @@ use Rattle.answer_texts.specs.Spelled.{WritableLine, Writable, sequents}
 use Rattle.text_judging.specs.Judging.{infer, allow}
 use Rattle.text_judging.proofs.Reading.{line_bytes}
 use Rattle.line_checking.specs.declared.Registers.{Registers}
-use Rattle.line_checking.specs.Sequents.{Made, with_stage, broken, with_sequent, open_sequent, next_sequent}
-use Rattle.line_checking.specs.declared.TextStage.TheVariants.{Broken}
+use Rattle.line_checking.specs.Sequents.{Made, with_stage, broken, with_sequent, open_sequent, next_sequent, broken_stage}
 use Rattle.line_checking.proofs.Representation.{Setting, declared, sheet_of, SequentsAt, Holds}
 use Rattle.line_checking.proofs.Results.{Result, is_wrong, either_side}
 
@@ -34,10 +33,10 @@ proceed_holds c k w r (g ∷ gs) h =
     rw (e, ne_eqb (suc p) 0 (λ q. omega arith), z) (refl, h.3, h.4)
 
 -- The stage after `next_sequent` is not the broken stage.
-pub proceed_stage : (w : List ℕ) (r : Registers) → (next_sequent w r).stage ≡ Broken → ⊥
+pub proceed_stage : (w : List ℕ) (r : Registers) → (next_sequent w r).stage ≡ broken_stage → ⊥
 unfolding next_sequent with_stage open_sequent with_sequent
 proceed_stage w r =
-    either_side (λ (s : Registers). s.stage ≡ Broken → ⊥) (eqb r.rest 0) _ _ (λ h e. cc) (λ h e. cc)
+    either_side (λ (s : Registers). s.stage ≡ broken_stage → ⊥) (eqb r.rest 0) _ _ (λ h e. omega arith) (λ h e. omega arith)
 
 -- The count of made constants stays after `next_sequent`.
 pub proceed_made : (w : List ℕ) (r : Registers) → (next_sequent w r).made ≡ r.made
@@ -79,7 +78,7 @@ module _ (c : Setting) (q : ℕ) (l : List ℕ) (g : Sequent Symbol) (gs : List 
   pub right_line_lem : (r : Registers) (m : Made) (d : Line Symbol) (new : List (Sequent Symbol))
       → l ≡ line_bytes (declared c) (derivation_line d) → WritableLine (declared c) d
       → inferred d ≡ some new → Holds c (suc q) m.memory m.registers (sequents (new ++ gs))
-      → (m.registers.stage ≡ Broken → ⊥) → m.registers.made ≡ r.made
+      → (m.registers.stage ≡ broken_stage → ⊥) → m.registers.made ≡ r.made
       → m.registers.leftover ≡ r.leftover → Result c q l (sequents (g ∷ gs)) r m
   unfolding Writable
   right_line_lem r m d new p y k h z a b = inl (record {

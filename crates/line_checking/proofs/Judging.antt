@@ -6,8 +6,10 @@ use mathlib.Core.Bool.{Bool, true, false, cond}
 use mathlib.Core.List.{List, [], ◌∷◌, ◌++◌, append-nil}
 use mathlib.Core.Option.{Option, none, some}
 use mathlib.Core.Logic.{inl, inr}
+use lib.Dec.{eqb}
 use lib.ListN.{length, take, drop, length-append, take-append-drop}
 use lib.Seq.{length-take-le, drop-append_seam}
+use borrow.Author.Tests.{ne_eqb}
 use Rattle.sequents.specs.Symbols.{Symbol}
 use Rattle.sheet_format.specs.Bytes.{lf, fields, folded, folded_name}
 use Rattle.sheet_format.specs.Sheets.{Sheet}
@@ -32,13 +34,11 @@ use Rattle.terms.proofs.Lists.{map_append}
 use Rattle.text_judging.proofs.SmallLines.{small_twice}
 use Rattle.scanning.proofs.Folding.{starts_folded}
 use Rattle.line_checking.specs.declared.Registers.{Registers}
-use Rattle.line_checking.specs.Sequents.{Made, made, with_stage, broken, with_counts, is_broken}
-use Rattle.line_checking.specs.declared.TextStage.{TextStage}
-use Rattle.line_checking.specs.declared.TextStage.TheVariants.{Broken}
+use Rattle.line_checking.specs.Sequents.{Made, made, with_stage, broken, with_counts, broken_stage}
 use Rattle.line_checking.specs.Judging.{stage_line, count_line, order_line, judge_line}
 use Rattle.line_checking.proofs.Lines.{line_starts}
 use Rattle.line_checking.proofs.Representation.{Setting, declared, sheet_of, Filled, names_of_lem, Holds}
-use Rattle.line_checking.proofs.Results.{Right, Wrong, Result, not_broken}
+use Rattle.line_checking.proofs.Results.{Right, Wrong, Result}
 use Rattle.line_checking.proofs.FoldedLines.{LineAt, same_size}
 use Rattle.line_checking.proofs.Stages.{stage_result}
 
@@ -52,8 +52,8 @@ pub record State (c : Setting) (q i : ℕ) (w : List ℕ) (r : Registers) (p : P
 
 -- A line that breaks stops; one that does not goes on.
 abbrev pub Judges : Setting → ℕ → ℕ → Made → Option Progress → Type 0
-Judges c q i a none = a.registers.stage ≡ Broken
-Judges c q i a (some p) = (a.registers.stage ≡ Broken → ⊥) × State c q i a.memory a.registers p
+Judges c q i a none = a.registers.stage ≡ broken_stage
+Judges c q i a (some p) = (a.registers.stage ≡ broken_stage → ⊥) × State c q i a.memory a.registers p
 
 -- Other counts do not change the stage that is held.
 counts_hold : (c : Setting) (k : ℕ) (w : List ℕ) (r : Registers) (m l : ℕ) (a : Stage) → Holds c k w r a → Holds c k w (with_counts r m l) a
@@ -78,20 +78,20 @@ module _ (c : Setting) (filled : Filled c) (q : ℕ) (w : List ℕ) (room : Room
   -- numbering is checked where the line is right so far
 
   -- The numbering is not checked where the line broke.
-  order_stops : (m : Made) → m.registers.stage ≡ Broken → order_line c.text m i e ≡ m
+  order_stops : (m : Made) → m.registers.stage ≡ broken_stage → order_line c.text m i e ≡ m
   unfolding order_line
-  order_stops m h = ap (λ (z : TextStage). cond (is_broken z) m (count_line c.text m i e)) h
+  order_stops m h = ap (λ (z : ℕ). cond (eqb z 4) m (count_line c.text m i e)) h
 
   -- The numbering is checked where the line did not break.
-  order_goes : (m : Made) → (m.registers.stage ≡ Broken → ⊥) → order_line c.text m i e ≡ count_line c.text m i e
+  order_goes : (m : Made) → (m.registers.stage ≡ broken_stage → ⊥) → order_line c.text m i e ≡ count_line c.text m i e
   unfolding order_line
-  order_goes m h = ap (λ (b : Bool). cond b m (count_line c.text m i e)) (not_broken m.registers.stage h)
+  order_goes m h = ap (λ (b : Bool). cond b m (count_line c.text m i e)) (ne_eqb m.registers.stage broken_stage h)
 
   -- Checking the numbering writes nothing.
   order_memory : (m : Made) → (order_line c.text m i e).memory ≡ m.memory
   unfolding order_line count_line broken
   order_memory m =
-      go (is_broken m.registers.stage) (check_numbering (e - i) c.text i m.registers.made m.registers.leftover)
+      go (eqb m.registers.stage broken_stage) (check_numbering (e - i) c.text i m.registers.made m.registers.leftover)
     where
       go : (b : Bool) (o : SymbolCounts)
           → (cond b m (elim o as (λ z. Made) [

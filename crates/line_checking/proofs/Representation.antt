@@ -23,7 +23,7 @@ use Rattle.answer_texts.specs.Spelled.{Stage, opening, bindings, sequents}
 use Rattle.scanning.specs.Fields as fields
 use Rattle.scanning.proofs.InstanceSpelling.{Frame}
 use Rattle.line_checking.specs.declared.Registers.{Registers}
-use Rattle.line_checking.specs.declared.TextStage.TheVariants.{Opening, Binding, Deriving, Done}
+use Rattle.line_checking.specs.Sequents.{sequent_stage, done_stage, result_stage, binding_stage}
 use Rattle.line_checking.specs.HypothesisChains.{saturate, next_of, jump_of, passed_of}
 use Rattle.line_checking.specs.Members.{sheet_members}
 use Rattle.memory.specs.Records.{field}
@@ -137,7 +137,7 @@ module _ (c : Setting) where
 
   -- B lines are due for v and the free variables after it; those before it have their terms in the frame.
   pub record BindingAt (k : ℕ) (w : List ℕ) (r : Registers) (v : ℕ) (vs : List ℕ) (e : Environment Symbol) : Type 0 where
-    pub stage : r.stage ≡ Binding
+    pub stage : r.stage ≡ binding_stage
     pub variable : r.node ≡ v
     pub small : v < variable_names
     pub later : (n : ℕ) → v + suc n ≡ variable_names → vs ≡ free_from n (suc v) (goal_at c.table c.goal)
@@ -146,9 +146,9 @@ module _ (c : Setting) where
 
   -- A stage after k lines.
   unfoldable pub Holds : ℕ → List ℕ → Registers → Stage → Type 0
-  Holds k w r opening = r.stage ≡ Opening
+  Holds k w r opening = r.stage ≡ result_stage
   Holds k w r (bindings [] e) = ⊥
   Holds k w r (bindings (v ∷ vs) e) = BindingAt k w r v vs e
-  Holds k w r (sequents []) = r.stage ≡ Done
+  Holds k w r (sequents []) = r.stage ≡ done_stage
   Holds k w r (sequents (g ∷ gs)) =
-      (r.stage ≡ Deriving) × SequentAt k w r.node r.frame r.hypotheses r.level g × SequentsAt k w r.rest gs
+      (r.stage ≡ sequent_stage) × SequentAt k w r.node r.frame r.hypotheses r.level g × SequentsAt k w r.rest gs

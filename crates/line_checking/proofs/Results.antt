@@ -26,9 +26,7 @@ use Rattle.scanning.proofs.Positions.{drop_past}
 use Rattle.scanning.proofs.Ranges.{begins, begins_rest, rest_begins, range_begins, number_to, read_number}
 use Rattle.scanning.proofs.TermsInText.{split_lf}
 use Rattle.line_checking.specs.declared.Registers.{Registers}
-use Rattle.line_checking.specs.Sequents.{Made, with_stage, broken, is_broken}
-use Rattle.line_checking.specs.declared.TextStage.{TextStage}
-use Rattle.line_checking.specs.declared.TextStage.TheVariants.{Opening, Binding, Deriving, Done, Broken}
+use Rattle.line_checking.specs.Sequents.{Made, with_stage, broken, broken_stage}
 use Rattle.line_checking.specs.Bindings.{begins_with, is_line}
 use Rattle.line_checking.proofs.Lines.{is_word, word_solid, word_without}
 use Rattle.line_checking.proofs.Representation.{Setting, declared, sheet_of, Holds}
@@ -42,13 +40,13 @@ module _ (c : Setting) where
     pub after : Stage
     pub allowed : allow (sheet_of c) line a ≡ some after
     pub holds : Holds c (suc q) m.memory m.registers after
-    pub goes_on : m.registers.stage ≡ Broken → ⊥
+    pub goes_on : m.registers.stage ≡ broken_stage → ⊥
     pub same_made_lem : m.registers.made ≡ r.made
     pub same_leftover_lem : m.registers.leftover ≡ r.leftover
 
   -- It breaks.
   pub record Wrong (l : List ℕ) (a : Stage) (m : Made) : Type 0 where
-    pub stops : m.registers.stage ≡ Broken
+    pub stops : m.registers.stage ≡ broken_stage
     pub unfit : (line : TextLine) → l ≡ line_bytes (declared c) line → Writable (declared c) line → allow (sheet_of c) line a ≡ none
 
   -- One of the two.
@@ -61,14 +59,6 @@ module _ (c : Setting) where
       → Result q l a r (broken w s)
   unfolding broken with_stage
   is_wrong q l a w r s h = inr (record { stops = refl; unfit = h })
-
--- A stage other than the broken one.
-pub not_broken : (s : TextStage) → (s ≡ Broken → ⊥) → is_broken s ≡ false
-not_broken Broken h = absurd (h refl)
-not_broken Opening h = refl
-not_broken Binding h = refl
-not_broken Deriving h = refl
-not_broken Done h = refl
 
 -- What holds on both sides of a test holds of the value chosen.
 pub either_side : {A : Type 0} (P : A → Type 0) (b : Bool) (x y : A) → (b ≡ true → P x) → (b ≡ false → P y) → P (cond b x y)

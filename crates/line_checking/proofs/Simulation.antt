@@ -6,6 +6,7 @@ use mathlib.Core.Path.{◌≡◌, refl, sym, ap, ◌∙◌, subst, ap₂}
 use mathlib.Core.Bool.{Bool, cond}
 use mathlib.Core.List.{List, [], ◌∷◌, ◌++◌, append_assoc, map}
 use mathlib.Core.Option.{Option, none, some}
+use lib.Dec.{eqb}
 use lib.ListN.{length, drop, length-append}
 use lib.Seq.{drop-drop}
 use borrow.Author.Tests.{eq-eqb, ne_eqb, lt-ltb, le-ltb}
@@ -30,10 +31,8 @@ use Rattle.scanning.proofs.Records.{Kept}
 use Rattle.scanning.proofs.SymbolsInText.{starts_in}
 use Rattle.node_table.specs.Decoding.{decode_sheet}
 use Rattle.line_checking.specs.declared.Registers.{Registers}
-use Rattle.line_checking.specs.Sequents.{Made, start, is_broken, is_done}
-use Rattle.line_checking.specs.declared.TextStage.{TextStage}
+use Rattle.line_checking.specs.Sequents.{Made, start, broken_stage, done_stage}
 use Rattle.std.specs.Prelude.{Some, None}
-use Rattle.line_checking.proofs.Results.{not_broken}
 use Rattle.line_checking.specs.Judging.{judge_line, Judged, judged, end_verdict, judge_from, judge_text}
 use Rattle.line_checking.specs.Simulation.{judgement_of, line_feeds, Simulates}
 use Rattle.line_checking.proofs.Representation.{Setting, sheet_of, Filled, Holds}
@@ -68,13 +67,13 @@ module _ (c : Setting) (q i : ℕ) (w : List ℕ) (r : Registers) where
   ends_open b bs (sequents (g ∷ gs)) = refl
 
   -- If no byte is left, the text is valid exactly if no line is due.
-  ends_here : (a : Stage) → Holds c q w r a → judgement_of (cond (is_done r.stage) None (Some (suc q))) ≡ judge_end a [] (suc q)
+  ends_here : (a : Stage) → Holds c q w r a → judgement_of (cond (eqb r.stage done_stage) None (Some (suc q))) ≡ judge_end a [] (suc q)
   unfolding judge_end judgement_of Holds
-  ends_here opening h = ap (λ (z : TextStage). judgement_of (cond (is_done z) None (Some (suc q)))) h
+  ends_here opening h = ap (λ (z : ℕ). judgement_of (cond (eqb z 3) None (Some (suc q)))) h
   ends_here (bindings [] e) h = absurd h
-  ends_here (bindings (v ∷ vs) e) h = ap (λ (z : TextStage). judgement_of (cond (is_done z) None (Some (suc q)))) h.stage
-  ends_here (sequents []) h = ap (λ (z : TextStage). judgement_of (cond (is_done z) None (Some (suc q)))) h
-  ends_here (sequents (g ∷ gs)) h = ap (λ (z : TextStage). judgement_of (cond (is_done z) None (Some (suc q)))) h.0
+  ends_here (bindings (v ∷ vs) e) h = ap (λ (z : ℕ). judgement_of (cond (eqb z 3) None (Some (suc q)))) h.stage
+  ends_here (sequents []) h = ap (λ (z : ℕ). judgement_of (cond (eqb z 3) None (Some (suc q)))) h
+  ends_here (sequents (g ∷ gs)) h = ap (λ (z : ℕ). judgement_of (cond (eqb z 3) None (Some (suc q)))) h.0
 
   -- The verdict at the end is that of `judge_end`, whether or not bytes are left.
   ends : (rest : List ℕ) (a : Stage) → i + length rest ≡ length c.text → Holds c q w r a
@@ -147,11 +146,11 @@ module _ (c : Setting) (filled : Filled c) where
       -- After the line, whatever it left, the machine's verdict is the judgement.
       step : (m : Made) → Kept q w m.memory → (o : Option Progress) → JudgesLine c (suc q) (e + 1) m o → Later
           → Goes c (q + suc (length ls)) w
-          (cond (is_broken m.registers.stage) (judged m.memory (Some (q + 1))) (run n m.memory m.registers (q + 1) (e + 1)))
+          (cond (eqb m.registers.stage broken_stage) (judged m.memory (Some (q + 1))) (run n m.memory m.registers (q + 1) (e + 1)))
           (elim o as (λ z. Judgement) [ none ↦ invalid (suc q) | some p' ↦ judgeLines (sheet_of c) (map small_line ls) (small_line rest) (suc (suc q)) p' ])
       step m kept none h ih =
           subst (λ (z : Judged). Goes c (q + suc (length ls)) w z (invalid (suc q)))
-          (sym (ap (λ (z : TextStage). cond (is_broken z) (judged m.memory (Some (q + 1))) (run n m.memory m.registers (q + 1) (e + 1))) h))
+          (sym (ap (λ (z : ℕ). cond (eqb z 4) (judged m.memory (Some (q + 1))) (run n m.memory m.registers (q + 1) (e + 1))) h))
           (record {
             verdict = ap (λ (z : ℕ). judgement_of (Some z)) (add-one q);
             same_length = kept.size;
@@ -164,7 +163,7 @@ module _ (c : Setting) (filled : Filled c) where
           let z = ih m.memory m.registers p' (omega arith) h.1 in
           subst (λ (k : Judged). Goes c (q + suc (length ls)) w k (judgeLines (sheet_of c) (map small_line ls) (small_line rest) (suc (suc q)) p'))
           (sym (ap (λ (k : Bool). cond k (judged m.memory (Some (q + 1))) (run n m.memory m.registers (q + 1) (e + 1)))
-          (not_broken m.registers.stage h.0)
+          (ne_eqb m.registers.stage broken_stage h.0)
           ∙ ap (λ (k : ℕ). run n m.memory m.registers k (e + 1)) (add-one q)))
           (record {
             verdict = z.verdict;

@@ -1,8 +1,10 @@
 -- A line at any stage.
 use Prim.Native.Nat.{ℕ, ◌+◌, ◌<◌}
 use mathlib.Core.Path.{◌≡◌, refl, sym, ap, subst}
+use mathlib.Core.Bool.{cond}
 use mathlib.Core.List.{List, [], ◌∷◌}
 use mathlib.Core.Option.{none}
+use lib.Dec.{eqb}
 use lib.ListN.{length}
 use Rattle.sequents.specs.Symbols.{Symbol}
 use Rattle.sequents.specs.Sequents.{Sequent}
@@ -17,8 +19,6 @@ use Rattle.text_judging.proofs.Reading.{line_bytes}
 use Rattle.scanning.proofs.Records.{Room, Kept, kept_self}
 use Rattle.line_checking.specs.declared.Registers.{Registers}
 use Rattle.line_checking.specs.Sequents.{Made, broken}
-use Rattle.line_checking.specs.declared.TextStage.{TextStage}
-use Rattle.line_checking.specs.declared.TextStage.TheVariants.{Opening, Binding, Deriving, Done, Broken}
 use Rattle.line_checking.specs.Bindings.{check_result, bind_line}
 use Rattle.line_checking.specs.Judging.{quantifier_line, connective_line, sequent_line, stage_line}
 use Rattle.line_checking.proofs.Representation.{Setting, declared, sheet_of, Filled, SequentAt, SequentsAt, Holds}
@@ -38,20 +38,20 @@ module _ (c : Setting) (filled : Filled c) (q : ℕ) (w : List ℕ) (room : Room
   t = c.table
 
   -- What a line does, and where it writes.
-  abbrev pub Effect : Stage → Made → Type 0
-  Effect a m = Result c q l a r m × Kept q w m.memory
+  abbrev pub Done : Stage → Made → Type 0
+  Done a m = Result c q l a r m × Kept q w m.memory
 
   -- A D line is found right or wrong by the kind of the goal, and writes only record q.
   sequent_result : (g : Sequent Symbol) (gs : List (Sequent Symbol)) → SequentAt c q w r.node r.frame r.hypotheses r.level g
       → SequentsAt c q w r.rest gs
-      → Effect (sequents (g ∷ gs)) (sequent_line c.bytes t c.symbols c.clauses c.text w r q i e)
+      → Done (sequents (g ∷ gs)) (sequent_line c.bytes t c.symbols c.clauses c.text w r q i e)
   unfolding sequent_line connective_line quantifier_line
   sequent_result g gs at others = go (goal_kind (kind_of t r.node) node.least node.most)
     where
       node : GoalNode t r.node
       node = (nodes_of_lem t c.nodes c.clauses c.goal filled.well_made).goal r.node at.node at.is
 
-      go : GoalKind (kind_of t r.node) → Effect (sequents (g ∷ gs)) (sequent_line c.bytes t c.symbols c.clauses c.text w r q i e)
+      go : GoalKind (kind_of t r.node) → Done (sequents (g ∷ gs)) (sequent_line c.bytes t c.symbols c.clauses c.text w r q i e)
       go (atom_kind_lem k) =
           rw (sequent_line, k) (
             clause_result c filled q w room r g gs at others l rest i e here end k,
@@ -89,40 +89,36 @@ module _ (c : Setting) (filled : Filled c) (q : ℕ) (w : List ℕ) (room : Room
           )
 
   -- The stage decides which line is due.
-  abbrev at_stage : TextStage → Made
-  at_stage s =
-      elim s as (λ z. Made) [
-        | Opening ↦ check_result t c.goal c.text w r i e
-        | Binding ↦ bind_line c.bytes t c.symbols c.goal c.text w r q i e
-        | Deriving ↦ sequent_line c.bytes t c.symbols c.clauses c.text w r q i e
-        | Done ↦ broken w r
-        | Broken ↦ broken w r
-      ]
-
-  -- At a stage, `stage_line` is that.
-  due : (s : TextStage) → r.stage ≡ s → stage_line c.bytes t c.symbols c.clauses c.goal c.text w r q i e ≡ at_stage s
+  due : (s : ℕ) → r.stage ≡ s
+      → stage_line c.bytes t c.symbols c.clauses c.goal c.text w r q i e
+      ≡ cond (eqb s 0) (check_result t c.goal c.text w r i e)
+      (cond (eqb s 1) (bind_line c.bytes t c.symbols c.goal c.text w r q i e)
+      (cond (eqb s 2) (sequent_line c.bytes t c.symbols c.clauses c.text w r q i e) (broken w r)))
   unfolding stage_line
-  due s h = ap at_stage h
+  due s h =
+      ap (λ (z : ℕ). cond (eqb z 0) (check_result t c.goal c.text w r i e)
+      (cond (eqb z 1) (bind_line c.bytes t c.symbols c.goal c.text w r q i e)
+      (cond (eqb z 2) (sequent_line c.bytes t c.symbols c.clauses c.text w r q i e) (broken w r)))) h
 
   -- A line at the stage that is held.
-  pub stage_result : (a : Stage) → Holds c q w r a → Effect a (stage_line c.bytes t c.symbols c.clauses c.goal c.text w r q i e)
+  pub stage_result : (a : Stage) → Holds c q w r a → Done a (stage_line c.bytes t c.symbols c.clauses c.goal c.text w r q i e)
   unfolding Holds allow broken
   stage_result opening h =
-      subst (Effect opening) (sym (due Opening h)) (
+      subst (Done opening) (sym (due 0 h)) (
         open_result c filled q w l rest i e r here end,
         open_kept q w c.bytes t c.symbols c.text r i e c.goal,
       )
   stage_result (bindings [] f) h = absurd h
   stage_result (bindings (v ∷ vs) f) h =
-      subst (Effect (bindings (v ∷ vs) f)) (sym (due Binding h.stage)) (
+      subst (Done (bindings (v ∷ vs) f)) (sym (due 1 h.stage)) (
         bind_result c filled q w room r v vs f h l rest i e here end,
         binding_kept q w c.bytes t c.symbols c.text r i e c.goal (subst (λ (z : ℕ). z < 8) (sym h.variable) h.small),
       )
-  stage_result (sequents []) h = subst (Effect (sequents [])) (sym (due Done h)) (is_wrong c q l (sequents []) w r r surplus, kept_self q w)
+  stage_result (sequents []) h = subst (Done (sequents [])) (sym (due 3 h)) (is_wrong c q l (sequents []) w r r surplus, kept_self q w)
     where
       surplus : (line : TextLine) → l ≡ line_bytes (declared c) line → Writable (declared c) line
           → allow (sheet_of c) line (sequents []) ≡ none
       surplus (result_line n) p y = refl
       surplus (binding_line v u) p y = refl
       surplus (derivation_line d) p y = refl
-  stage_result (sequents (g ∷ gs)) h = subst (Effect (sequents (g ∷ gs))) (sym (due Deriving h.0)) (sequent_result g gs h.1 h.2)
+  stage_result (sequents (g ∷ gs)) h = subst (Done (sequents (g ∷ gs))) (sym (due 2 h.0)) (sequent_result g gs h.1 h.2)

@@ -5,8 +5,8 @@ use Rattle.std.specs.Prelude.{Some, None}
 use Rattle.scanning.specs.Ranges.{text_line_end}
 use Rattle.scanning.specs.Numbering.{check_numbering}
 use Rattle.line_checking.specs.declared.Registers.{Registers}
-use Rattle.line_checking.specs.Sequents.{Made, made, start, broken, with_counts, is_broken, is_done}
-use Rattle.line_checking.specs.declared.TextStage.TheVariants.{Opening, Binding, Deriving, Done, Broken}
+use Rattle.line_checking.specs.Sequents.{Made, made, start, broken, with_counts, broken_stage, done_stage, sequent_stage, binding_stage}
+use Rattle.line_checking.specs.Sequents.{result_stage}
 use Rattle.line_checking.specs.Bindings.{check_result, bind_line}
 use Rattle.line_checking.specs.Rules.{true_line, and_line, or_line, assume_line, some_line, all_line}
 use Rattle.line_checking.specs.Clauses.{clause_line}
@@ -35,13 +35,9 @@ sequent_line b t symbols clauses x w r q i e =
 -- A line, by the stage; where no line is due it is a surplus one.
 unfoldable pub stage_line : List ℕ → List ℕ → ℕ → ℕ → ℕ → List ℕ → List ℕ → Registers → ℕ → ℕ → ℕ → Made
 stage_line b t symbols clauses goal x w r q i e =
-    elim r.stage [
-      | Opening ↦ check_result t goal x w r i e
-      | Binding ↦ bind_line b t symbols goal x w r q i e
-      | Deriving ↦ sequent_line b t symbols clauses x w r q i e
-      | Done ↦ broken w r
-      | Broken ↦ broken w r
-    ]
+    cond (eqb r.stage result_stage) (check_result t goal x w r i e)
+    (cond (eqb r.stage binding_stage) (bind_line b t symbols goal x w r q i e)
+    (cond (eqb r.stage sequent_stage) (sequent_line b t symbols clauses x w r q i e) (broken w r)))
 
 -- The symbols in the line are numbered by first showing.
 unfoldable pub count_line : List ℕ → Made → ℕ → ℕ → Made
@@ -53,7 +49,7 @@ count_line x a i e =
 
 -- The numbering is checked unless the line has broken already.
 unfoldable pub order_line : List ℕ → Made → ℕ → ℕ → Made
-order_line x a i e = cond (is_broken a.registers.stage) a (count_line x a i e)
+order_line x a i e = cond (eqb a.registers.stage broken_stage) a (count_line x a i e)
 
 -- A line is judged at its stage, then by its numbering.
 unfoldable pub judge_line : List ℕ → List ℕ → ℕ → ℕ → ℕ → List ℕ → List ℕ → Registers → ℕ → ℕ → ℕ → Made
@@ -70,7 +66,7 @@ judged w v = record { memory = w; verdict = v }
 
 -- No LF from i on: right if no byte is left and no line is due.
 unfoldable pub end_verdict : List ℕ → Registers → ℕ → ℕ → Option ℕ
-end_verdict x r q i = cond (eqb i (length x)) (cond (is_done r.stage) None (Some (q + 1))) (Some (q + 1))
+end_verdict x r q i = cond (eqb i (length x)) (cond (eqb r.stage done_stage) None (Some (q + 1))) (Some (q + 1))
 
 -- At most n lines from line q on, which starts at i.
 unfoldable pub judge_from : ℕ → List ℕ → List ℕ → ℕ → ℕ → ℕ → List ℕ → List ℕ → Registers → ℕ → ℕ → Judged
@@ -79,7 +75,7 @@ judge_from (suc n) b t symbols clauses goal x w r q i =
     let e = text_line_end x i in
     let a = judge_line b t symbols clauses goal x w r q i e in
     cond (ltb e (length x))
-    (cond (is_broken a.registers.stage) (judged a.memory (Some (q + 1)))
+    (cond (eqb a.registers.stage broken_stage) (judged a.memory (Some (q + 1)))
     (judge_from n b t symbols clauses goal x a.memory a.registers (q + 1) (e + 1)))
     (judged w (end_verdict x r q i))
 

@@ -1,28 +1,30 @@
 -- The stages of a text, the sequent that is due, and the sequents left, in registers and records.
-use Rattle.std.specs.Prelude.{ℕ, zero, suc, ◌+◌, ◌-◌, Bool, true, false, cond, List, eqb, ltb}
+use Rattle.std.specs.Prelude.{ℕ, zero, suc, ◌+◌, ◌-◌, cond, List, eqb, ltb}
 use Rattle.formulas.specs.Formulas.{variable_names}
 use Rattle.node_table.specs.Layout.{mask_of, bit_of}
 use Rattle.scanning.specs.Fields as fields
 use Rattle.line_checking.specs.declared.Registers.{Registers}
-use Rattle.line_checking.specs.declared.TextStage.{TextStage}
-use Rattle.line_checking.specs.declared.TextStage.TheVariants.{Opening, Binding, Deriving, Done, Broken}
 use Rattle.memory.specs.Records.{field, put_field}
 
--- A stage says what is due; at this one a line was wrong.
-abbrev pub is_broken : TextStage → Bool
-is_broken Broken = true
-is_broken Opening = false
-is_broken Binding = false
-is_broken Deriving = false
-is_broken Done = false
+-- A stage says what is due; at this one the R line is due.
+abbrev pub result_stage : ℕ
+result_stage = 0
+
+-- At this stage a B line is due.
+abbrev pub binding_stage : ℕ
+binding_stage = 1
+
+-- At this stage a D line is due.
+abbrev pub sequent_stage : ℕ
+sequent_stage = 2
 
 -- At this stage no line is due.
-abbrev pub is_done : TextStage → Bool
-is_done Done = true
-is_done Opening = false
-is_done Binding = false
-is_done Deriving = false
-is_done Broken = false
+abbrev pub done_stage : ℕ
+done_stage = 3
+
+-- At this stage a line was wrong.
+abbrev pub broken_stage : ℕ
+broken_stage = 4
 
 -- What a line leaves: the work buffer and the registers.
 pub record Made : Type 0 where
@@ -35,10 +37,10 @@ made w r = record { memory = w; registers = r }
 
 -- Before the first line.
 unfoldable pub start : Registers
-start = record { stage = Opening; node = 0; frame = 0; hypotheses = 0; level = 0; rest = 0; made = 0; leftover = 0 }
+start = record { stage = result_stage; node = 0; frame = 0; hypotheses = 0; level = 0; rest = 0; made = 0; leftover = 0 }
 
 -- The line was wrong, or no line is due.
-unfoldable pub with_stage : Registers → TextStage → Registers
+unfoldable pub with_stage : Registers → ℕ → Registers
 with_stage r s =
     record {
       stage = s;
@@ -53,17 +55,17 @@ with_stage r s =
 
 -- The line was wrong.
 unfoldable pub broken : List ℕ → Registers → Made
-broken w r = made w (with_stage r Broken)
+broken w r = made w (with_stage r broken_stage)
 
 -- A B line for variable v is due.
 unfoldable pub with_binding : Registers → ℕ → ℕ → Registers
 with_binding r v f =
-    record { stage = Binding; node = v; frame = f; hypotheses = 0; level = 0; rest = 0; made = r.made; leftover = r.leftover }
+    record { stage = binding_stage; node = v; frame = f; hypotheses = 0; level = 0; rest = 0; made = r.made; leftover = r.leftover }
 
 -- A sequent is due.
 unfoldable pub with_sequent : Registers → ℕ → ℕ → ℕ → ℕ → ℕ → Registers
 with_sequent r n f h i q =
-    record { stage = Deriving; node = n; frame = f; hypotheses = h; level = i; rest = q; made = r.made; leftover = r.leftover }
+    record { stage = sequent_stage; node = n; frame = f; hypotheses = h; level = i; rest = q; made = r.made; leftover = r.leftover }
 
 -- So many symbols have shown.
 unfoldable pub with_counts : Registers → ℕ → ℕ → Registers
@@ -107,7 +109,7 @@ open_sequent w r q =
 
 -- The next of the sequents left is due, if there is one.
 unfoldable pub next_sequent : List ℕ → Registers → Registers
-next_sequent w r = cond (eqb r.rest 0) (with_stage r Done) (open_sequent w r (r.rest - 1))
+next_sequent w r = cond (eqb r.rest 0) (with_stage r done_stage) (open_sequent w r (r.rest - 1))
 
 -- A hypothesis, in record q, with its start (request W-207).
 unfoldable pub put_hypothesis : List ℕ → ℕ → ℕ → ℕ → ℕ → ℕ → List ℕ

@@ -1,46 +1,14 @@
 // The checker's judgement of an answer text on flat memory: see specs/ for the definitions, proofs/ for the simulation.
 #![tactic(auto)]
 
-ghost use Rattle.std.specs.Prelude.{◌≡◌};
-ghost use Rattle.line_checking.specs.Sequents.{is_broken, is_done};
-
-// What is due: the R line, a B line, a D line, no line; or a line was wrong.
-#[derive(Clone, Copy)]
-pub enum TextStage {
-    Opening,
-    Binding,
-    Deriving,
-    Done,
-    Broken,
-}
-
-impl TextStage {
-    // Whether a line was wrong.
-    pub fn is_broken(self) -> bool
-        ensures { result ≡ is_broken self }
-    {
-        match self {
-            TextStage::Broken => true,
-            _ => false,
-        }
-    }
-
-    // Whether no line is due.
-    pub fn is_done(self) -> bool
-        ensures { result ≡ is_done self }
-    {
-        match self {
-            TextStage::Done => true,
-            _ => false,
-        }
-    }
-}
+pub mod text_stages;
 
 // All of the checker's state that is not in the work buffer. A pointer is the number of a record plus 1, and 0 for none, as it
 // lies in lent memory.
 #[derive(Clone, Copy)]
 pub struct Registers {
-    pub stage: TextStage,
+    // What is due (module `text_stages`).
+    pub stage: u32,
     // The node of the sequent's goal, or the variable of the B line that is due.
     pub node: u32,
     // The frame, the hypotheses and the level of the sequent.

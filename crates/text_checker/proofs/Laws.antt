@@ -2,7 +2,7 @@
 use Prim.Native.Nat.{ℕ, zero, suc, ◌+◌, ◌-◌, ◌≤◌, ◌<◌}
 use native.Mathlib.Omega.{arith}
 use mathlib.Core.Path.{◌≡◌, refl, sym, ap, ◌∙◌, subst}
-use mathlib.Core.Bool.{Bool, true, false, cond, true≢false}
+use mathlib.Core.Bool.{Bool, true, false, cond}
 use mathlib.Core.List.{List}
 use lib.Dec.{eqb, ltb}
 use lib.ListN.{length, get_or, replicate, length-replicate, get_or-replicate, get_or-eq_default}
@@ -14,9 +14,8 @@ use Rattle.scanning.specs.Numbering.{is_symbol, check_numbering}
 use Rattle.numbering_check.specs.LevelCache.{CacheValid, ValidAfter}
 use Rattle.numbering_check.proofs.LevelCache.{none_valid, start_valid}
 use Rattle.line_checking.specs.declared.Registers.{Registers}
-use Rattle.line_checking.specs.Sequents.{Made, made, start, broken, with_stage, with_counts, is_broken, is_done}
-use Rattle.line_checking.specs.declared.TextStage.{TextStage}
-use Rattle.line_checking.specs.declared.TextStage.TheVariants.{Opening, Binding, Deriving, Done, Broken}
+use Rattle.line_checking.specs.Sequents.{Made, made, start, broken, with_stage, with_counts, broken_stage, done_stage, result_stage, binding_stage}
+use Rattle.line_checking.specs.Sequents.{sequent_stage}
 use Rattle.line_checking.specs.Bindings.{check_result, bind_line}
 use Rattle.line_checking.specs.Judging.{sequent_line, stage_line, count_line, order_line, judge_line, Judged, judged, end_verdict, judge_from}
 use Rattle.line_checking.specs.Judging.{judge_text}
@@ -28,39 +27,29 @@ use Rattle.text_checker.specs.Levels.{ValidUnlessBroken}
 
 module _ (b t : List ℕ) (symbols clauses goal : ℕ) (x w : List ℕ) (r : Registers) (q i e : ℕ) (m : Made) where
   -- What is done at a stage.
-  abbrev at_stage : TextStage → Made
+  abbrev at_stage : ℕ → Made
   at_stage s =
-      elim s as (λ z. Made) [
-        | Opening ↦ check_result t goal x w r i e
-        | Binding ↦ bind_line b t symbols goal x w r q i e
-        | Deriving ↦ sequent_line b t symbols clauses x w r q i e
-        | Done ↦ broken w r
-        | Broken ↦ broken w r
-      ]
+      cond (eqb s result_stage) (check_result t goal x w r i e)
+      (cond (eqb s binding_stage) (bind_line b t symbols goal x w r q i e)
+      (cond (eqb s sequent_stage) (sequent_line b t symbols clauses x w r q i e) (broken w r)))
 
-  pub open_due : r.stage ≡ Opening → m ≡ check_result t goal x w r i e → m ≡ stage_line b t symbols clauses goal x w r q i e
+  pub open_due : r.stage ≡ result_stage → m ≡ check_result t goal x w r i e → m ≡ stage_line b t symbols clauses goal x w r q i e
   unfolding stage_line
   open_due h em = em ∙ sym (ap at_stage h)
 
-  pub bind_due : r.stage ≡ Binding → m ≡ bind_line b t symbols goal x w r q i e → m ≡ stage_line b t symbols clauses goal x w r q i e
+  pub bind_due : r.stage ≡ binding_stage → m ≡ bind_line b t symbols goal x w r q i e → m ≡ stage_line b t symbols clauses goal x w r q i e
   unfolding stage_line
   bind_due h em = em ∙ sym (ap at_stage h)
 
-  pub sequent_due : r.stage ≡ Deriving → m ≡ sequent_line b t symbols clauses x w r q i e → m ≡ stage_line b t symbols clauses goal x w r q i e
+  pub sequent_due : r.stage ≡ sequent_stage → m ≡ sequent_line b t symbols clauses x w r q i e
+      → m ≡ stage_line b t symbols clauses goal x w r q i e
   unfolding stage_line
   sequent_due h em = em ∙ sym (ap at_stage h)
 
-  pub none_due : (r.stage ≡ Opening → ⊥) → (r.stage ≡ Binding → ⊥) → (r.stage ≡ Deriving → ⊥) → m ≡ broken w r
+  pub none_due : (r.stage ≡ result_stage → ⊥) → (r.stage ≡ binding_stage → ⊥) → (r.stage ≡ sequent_stage → ⊥) → m ≡ broken w r
       → m ≡ stage_line b t symbols clauses goal x w r q i e
   unfolding stage_line
-  none_due n₀ n₁ n₂ em = go r.stage refl
-    where
-      go : (s : TextStage) → r.stage ≡ s → m ≡ at_stage s
-      go Opening h = absurd (n₀ h)
-      go Binding h = absurd (n₁ h)
-      go Deriving h = absurd (n₂ h)
-      go Done h = em
-      go Broken h = em
+  none_due n₀ n₁ n₂ em = rw (ne_eqb _ _ n₀, ne_eqb _ _ n₁, ne_eqb _ _ n₂) em
 
 -- the numbering
 
@@ -83,15 +72,15 @@ module _ (x w : List ℕ) (r : Registers) (i e : ℕ) where
 
     pub broken_valid : made w s ≡ broken w r → ValidUnlessBroken x v e s
     unfolding broken with_stage
-    broken_valid ea = λ b. absurd (true≢false (sym (ap (λ (z : Made). is_broken z.registers.stage) ea) ∙ b))
+    broken_valid ea = λ b. absurd (b (ap (λ (z : Made). z.registers.stage) ea))
 
-  pub order_broken : is_broken r.stage ≡ true → made w r ≡ order_line x (made w r) i e
+  pub order_broken : r.stage ≡ broken_stage → made w r ≡ order_line x (made w r) i e
   unfolding order_line
-  order_broken h = rw h refl
+  order_broken h = rw (eq-eqb _ _ h)
 
-  pub order_counted : (a : Made) → is_broken r.stage ≡ false → a ≡ count_line x (made w r) i e → a ≡ order_line x (made w r) i e
+  pub order_counted : (a : Made) → (r.stage ≡ broken_stage → ⊥) → a ≡ count_line x (made w r) i e → a ≡ order_line x (made w r) i e
   unfolding order_line
-  order_counted a h ea = rw h ea
+  order_counted a h ea = rw (ne_eqb _ _ h) ea
 
 pub line_judged : (b t : List ℕ) (symbols clauses goal : ℕ) (x w w' : List ℕ) (r s : Registers) (q i e : ℕ) (m : Made)
     → made w' s ≡ stage_line b t symbols clauses goal x w r q i e → m ≡ order_line x (made w' s) i e
@@ -112,13 +101,13 @@ staged_valid b t symbols clauses goal x w w' v r s q i e es valid =
 -- the end
 
 module _ (x : List ℕ) (r : Registers) (q i : ℕ) where
-  pub end_valid : i ≡ length x → is_done r.stage ≡ true → None ≡ end_verdict x r q i
+  pub end_valid : i ≡ length x → r.stage ≡ done_stage → None ≡ end_verdict x r q i
   unfolding end_verdict
-  end_valid h k = rw (eq-eqb _ _ h, k) refl
+  end_valid h k = rw (eq-eqb _ _ h, eq-eqb _ _ k)
 
-  pub end_due : i ≡ length x → is_done r.stage ≡ false → Some (q + 1) ≡ end_verdict x r q i
+  pub end_due : i ≡ length x → (r.stage ≡ done_stage → ⊥) → Some (q + 1) ≡ end_verdict x r q i
   unfolding end_verdict
-  end_due h k = rw (eq-eqb _ _ h, k) refl
+  end_due h k = rw (eq-eqb _ _ h, ne_eqb _ _ k)
 
   pub end_bytes : (i ≡ length x → ⊥) → Some (q + 1) ≡ end_verdict x r q i
   unfolding end_verdict
@@ -192,15 +181,15 @@ module _ (v : Judged) (b t : List ℕ) (symbols clauses goal : ℕ) (x w : List 
       go (suc n) h ev = ev ∙ simp (judge_from, ← he, le-ltb _ _ l, ← eu)
 
   module _ (w' : List ℕ) (s : Registers) (es : made w' s ≡ judge_line b t symbols clauses goal x w r q i e) (l : e < length x) where
-    pub text_breaks : Rest v b t symbols clauses goal x w r q i → is_broken s.stage ≡ true → v ≡ judged w' (Some (q + 1))
+    pub text_breaks : Rest v b t symbols clauses goal x w r q i → s.stage ≡ broken_stage → v ≡ judged w' (Some (q + 1))
     unfolding judge_from
     text_breaks a k = go a.turns a.enough a.same
       where
         go : (n : ℕ) → length x < i + n → v ≡ judge_from n b t symbols clauses goal x w r q i → v ≡ judged w' (Some (q + 1))
         go zero h ev = absurd (omega arith)
-        go (suc n) h ev = ev ∙ simp (judge_from, ← he, lt-ltb _ _ l, ← es, k)
+        go (suc n) h ev = ev ∙ simp (judge_from, ← he, lt-ltb _ _ l, ← es, eq-eqb _ _ k)
 
-    pub text_on : Rest v b t symbols clauses goal x w r q i → is_broken s.stage ≡ false
+    pub text_on : Rest v b t symbols clauses goal x w r q i → (s.stage ≡ broken_stage → ⊥)
         → Rest v b t symbols clauses goal x w' s (q + 1) (e + 1)
     unfolding judge_from
     text_on a k = go a.turns a.enough a.same
@@ -212,5 +201,5 @@ module _ (v : Judged) (b t : List ℕ) (symbols clauses goal : ℕ) (x w : List 
             record {
               turns = n;
               enough = omega (arith, h, end_after x i e he);
-              same = ev ∙ simp (judge_from, ← he, lt-ltb _ _ l, ← es, k);
+              same = ev ∙ simp (judge_from, ← he, lt-ltb _ _ l, ← es, ne_eqb _ _ k);
             }

@@ -13,7 +13,7 @@ ghost use Rattle.text_checker.specs.Levels.{ValidUnlessBroken};
 use checker_state::registers::{broken, start, with_counts};
 use checker_state::{CheckInput, Line, Shape};
 use derivation_lines::sequent_line;
-use line_checking::{Registers, TextStage};
+use line_checking::{Registers, text_stages};
 use line_rules::binding_lines::bind_line;
 use line_rules::result_lines::check_result;
 use numbering_check::check_numbering;
@@ -30,9 +30,9 @@ fn stage_line(input: CheckInput<'_>, w: &mut [u32], r: Registers, line: Line) ->
         input.entry.shape.goal input.entry.text.now w.old r line.number line.at line.end }
 {
     match r.stage {
-        TextStage::Opening => check_result(input.table, input.shape.goal, input.text, r, line),
-        TextStage::Binding => bind_line(input, w, r, line),
-        TextStage::Deriving => sequent_line(input, w, r, line),
+        text_stages::OPENING => check_result(input.table, input.shape.goal, input.text, r, line),
+        text_stages::BINDING => bind_line(input, w, r, line),
+        text_stages::SEQUENT => sequent_line(input, w, r, line),
         _ => broken(r),
     }
 }
@@ -56,7 +56,7 @@ fn order_line(text: &[u8], levels: &mut [u16], r: Registers, line: Line) -> Regi
     ensures { ((w : List ℕ) → made w result ≡ order_line text.now (made w r) line.at line.end)
         × ValidUnlessBroken text.now levels.new line.end result }
 {
-    if r.stage.is_broken() {
+    if r.stage == text_stages::BROKEN {
         return r;
     }
     count_line(text, levels, r, line)
@@ -67,7 +67,7 @@ pub fn end_verdict(text: &[u8], r: Registers, q: u32, i: usize) -> Option<u32>
     requires { q + 1 < 4294967296 }
     ensures { result ≡ end_verdict text.now r q i }
 {
-    if i == text.len() && r.stage.is_done() {
+    if i == text.len() && r.stage == text_stages::DONE {
         return None;
     }
     Some(q + 1)
@@ -100,7 +100,8 @@ pub fn judge_text(sheet: &[u8], t: &[u32], shape: Shape, text: &[u8], w: &mut [u
         };
         let s = stage_line(input, w, r, line);
         r = order_line(text, &mut levels, s, line);
-        if r.stage.is_broken() {
+        let stage = r.stage;
+        if stage == text_stages::BROKEN {
             return Some(q + 1);
         }
         q += 1;

@@ -5,8 +5,7 @@ use mathlib.Core.List.{List}
 use borrow.Author.Tests.{eq-eqb, ne_eqb}
 use Rattle.scanning.specs.Fields as fields
 use Rattle.line_checking.specs.declared.Registers.{Registers}
-use Rattle.line_checking.specs.Sequents.{with_stage, with_sequent, open_sequent, next_sequent}
-use Rattle.line_checking.specs.declared.TextStage.TheVariants.{Done}
+use Rattle.line_checking.specs.Sequents.{with_stage, with_sequent, open_sequent, next_sequent, done_stage}
 use Rattle.memory.specs.Records.{field}
 
 -- the next sequent
@@ -17,7 +16,7 @@ pub sequent_due : (w : List ℕ) (r s : Registers) (q n f h i m : ℕ) → n ≡
 unfolding open_sequent
 sequent_due w r s q n f h i m en ef eh ei em es = rw (es, en, ef, eh, ei, em)
 
-pub all_done : (w : List ℕ) (r s : Registers) → r.rest ≡ 0 → s ≡ with_stage r Done → s ≡ next_sequent w r
+pub all_done : (w : List ℕ) (r s : Registers) → r.rest ≡ 0 → s ≡ with_stage r done_stage → s ≡ next_sequent w r
 unfolding next_sequent
 all_done w r s z es = rw (es, eq-eqb _ _ z)
 

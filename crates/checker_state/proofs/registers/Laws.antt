@@ -9,10 +9,9 @@ use borrow.Author.Tests.{lt-ltb, le-ltb, eq-eqb, ne_eqb, ltb-true, ltb-false}
 use Rattle.sheet_format.specs.Limits.{variable_names}
 use Rattle.node_table.specs.Layout.{mask_of, bit_of}
 use Rattle.line_checking.specs.declared.Registers.{Registers}
-use Rattle.line_checking.specs.Sequents.{made, with_stage, broken, with_binding, with_sequent, free_from, bound_from, bound}
-use Rattle.line_checking.specs.declared.TextStage.TheVariants.{Broken}
+use Rattle.line_checking.specs.Sequents.{made, with_stage, broken, with_binding, with_sequent, free_from, bound_from, bound, broken_stage}
 
-pub line_wrong : (r s : Registers) → s ≡ with_stage r Broken → (w : List ℕ) → made w s ≡ broken w r
+pub line_wrong : (r s : Registers) → s ≡ with_stage r broken_stage → (w : List ℕ) → made w s ≡ broken w r
 unfolding broken
 line_wrong r s e w = rw e
 

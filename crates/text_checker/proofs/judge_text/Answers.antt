@@ -1,6 +1,6 @@
 use Prim.Native.Nat.{ℕ}
 use native.Mathlib.Omega.{arith}
-use mathlib.Core.Path.{sym, ◌∙◌}
+use mathlib.Core.Path.{sym}
 use lib.ListN.{length-replicate}
 use Rattle.text_checker.proofs.Laws.{end_after, line_judged, next_valid, staged_valid, text_start, text_ends, text_breaks, text_on}
 use Rattle.text_checker.proofs.Laws.{text_valid}
@@ -32,11 +32,11 @@ order_line-r-requires c = (
   staged_valid _ _ _ _ _ _ _ _ _ _ _ _ _ _ c.stage_line-s.ensures c.loop-e.invariant.6,
 )
 
-pub returns-then-is_broken : goal.returns-then-is_broken
-returns-then-is_broken c =
+pub returns-then-stage-eq-BROKEN : goal.returns-then-stage-eq-BROKEN
+returns-then-stage-eq-BROKEN c =
     let judged = line_judged _ _ _ _ _ _ _ _ _ _ _ _ _ _ c.stage_line-s.ensures (c.order_line-r.ensures.0 _) in
     sym (text_breaks _ _ _ _ _ _ _ _ _ _ _ _ c.loop-e.invariant.1 c.loop-e.invariant.3 _ _ judged
-    c.loop-e-test.true c.loop-e.invariant.4 (sym c.is_broken.ensures ∙ c.if-is_broken.true))
+    c.loop-e-test.true c.loop-e.invariant.4 c.if-stage-eq-BROKEN.true)
 
 pub loop-e-smaller : goal.loop-e-smaller
 loop-e-smaller c =
@@ -51,10 +51,10 @@ loop-e-preserved c =
       omega arith,
       c.text_line_end-e-in-loop-e.ensures,
       text_on _ _ _ _ _ _ _ _ _ _ _ _ c.loop-e.invariant.1 c.loop-e.invariant.3 _ _ judged c.loop-e-test.true
-          c.loop-e.invariant.4 (sym c.is_broken.ensures ∙ c.if-is_broken.false),
+          c.loop-e.invariant.4 c.if-stage-eq-BROKEN.false,
       search rules,
       next_valid c.args.text.now _ _ _ _ _ c.loop-e.invariant.3 c.loop-e.invariant.1 c.loop-e-test.true
-          (c.order_line-r.ensures.1 (sym c.is_broken.ensures ∙ c.if-is_broken.false)),
+          (c.order_line-r.ensures.1 c.if-stage-eq-BROKEN.false),
     )
 
 pub returns : goal.returns
