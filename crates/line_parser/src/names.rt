@@ -45,7 +45,11 @@ fn is_name(f: &[u8]) -> bool
     let [first, rest @ ..] = f else {
         return false;
     };
-    is_letter(*first) && name_bytes(rest) && f.len() <= limits::MAX_NAME
+    // Before any byte is looked at, since a field may be as long as the sheet.
+    if limits::MAX_NAME < f.len() {
+        return false;
+    }
+    is_letter(*first) && name_bytes(rest)
 }
 
 // The first field of s, as a part of s, if it is a name; otherwise the empty part.

@@ -13,6 +13,7 @@ use memory::field;
 
 // Restores what the choice point in record q has: the branch and what was open before it, the goal or atom, the member. Place 0 stands for
 // a goal to take.
+#[inline(always)]
 pub fn resume(w: &[u32], r: Registers, q: u32) -> Registers
     ensures { result ≡ resume w.now r q }
 {
@@ -54,6 +55,7 @@ pub fn resume(w: &[u32], r: Registers, q: u32) -> Registers
 
 // The choice point in record q is taken up, with all bindings and levels as they were.
 #[tactic(auto, unfolding(machine::specs::ChoicePoints::backtrack))]
+#[inline(always)]
 pub fn backtrack(w: &mut [u32], r: Registers, q: u32) -> Registers
     ensures { made w.new result ≡ backtrack w.old r q }
 {
@@ -66,6 +68,7 @@ pub fn backtrack(w: &mut [u32], r: Registers, q: u32) -> Registers
 
 // Failure: the latest choice point, or no.
 #[tactic(auto, unfolding(machine::specs::ChoicePoints::failed))]
+#[inline(always)]
 pub fn failed(w: &mut [u32], r: Registers) -> Registers
     ensures { made w.new result ≡ failed w.old r }
 {

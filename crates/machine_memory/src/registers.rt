@@ -161,6 +161,7 @@ pub fn with_nodes(r: Registers, a: u32) -> Registers
 
 // A choice point in record u: what the registers go on with later.
 #[tactic(auto, unfolding(machine::specs::ChoicePoints::save_choice, machine::specs::Records::put_choice, machine::specs::Records::put_chosen, machine::specs::Records::put_position, crate::specs::Rows::put_row))]
+#[inline(always)]
 pub fn save_choice(w: &mut [u32], u: u32, r: Registers)
     ensures { w.new ≡ save_choice w.old u r }
 {

@@ -9,6 +9,7 @@ use memory::{RECORD_NUMBERS, get, put, widen};
 const LAST: usize = RECORD_NUMBERS - 1;
 
 // The numbers of record u from field f on.
+#[inline(always)]
 pub fn row<const N: usize>(w: &[u32], u: u32, f: u32) -> [u32; N]
     requires { f + N ≤ 64 }
     ensures { result ≡ row N w.now u f }
@@ -27,6 +28,7 @@ pub fn row<const N: usize>(w: &[u32], u: u32, f: u32) -> [u32; N]
 }
 
 // Numbers to the fields of record u, the first to field f.
+#[inline(always)]
 pub fn put_row(w: &mut [u32], u: u32, f: u32, numbers: &[u32])
     requires { f + length numbers.now ≤ 64 }
     ensures { w.new ≡ put_row numbers.now w.old u f }

@@ -1,5 +1,6 @@
 // Declaring symbols: F and P lines.
-ghost use Rattle.std.specs.Prelude.{◌≡◌, ◌+◌, ◌*◌, ◌<◌, ◌≤◌, length};
+ghost use Rattle.std.specs.Prelude.{◌≡◌, ◌+◌, ◌*◌, ◌<◌, ◌≤◌, eqb, length};
+ghost use Rattle.sheet_format.specs.Bytes.{folded};
 ghost use Rattle.table_builder.specs.Nodes.{made};
 ghost use Rattle.table_builder.specs.Symbols.{symbol_written, same_at, name_is, find_name, symbol_word, StandsAt, insert_declaration};
 
@@ -20,6 +21,13 @@ fn put_symbol(t: &mut [u32], i: u32, start: u32, name: u32, word: u32)
     put(t, at + layout::ARITY, word);
 }
 
+// Whether two bytes are equal but for the case of letters. A name is mostly spelled as declared, so equal bytes are tried before folded ones.
+fn same_byte(b: u8, c: u8) -> bool
+    ensures { result ≡ eqb (folded b) (folded c) }
+{
+    b == c || same_letter(b, c)
+}
+
 // Whether the name stands on the sheet at `at`, whatever the case of its letters.
 fn same_at(sheet: &[u8], at: usize, name: &[u8]) -> bool
     requires { at < 4294967296 }
@@ -27,7 +35,7 @@ fn same_at(sheet: &[u8], at: usize, name: &[u8]) -> bool
 {
     for i in 0..name.len() {
         let b = byte(sheet, at + i);
-        if !same_letter(b, name[i]) {
+        if !same_byte(b, name[i]) {
             return false;
         }
     }

@@ -8,7 +8,7 @@ use mathlib.Core.Path.{◌≡◌, refl, sym, ap, ◌∙◌}
 use mathlib.Core.List.{List, [], ◌∷◌}
 use lib.Dec.{eqb, leb}
 use lib.ListN.{length, drop, take, get_or}
-use borrow.Author.Tests.{lt-leb, ne_eqb}
+use borrow.Author.Tests.{le-leb, lt-leb, ne_eqb}
 use Rattle.sheet_format.specs.Limits.{max_name}
 use Rattle.sheet_format.specs.Bytes.{is_digit, is_small, is_capital, is_letter, is_name_byte, name_bytes, is_name}
 use Rattle.line_parser.specs.Fields.{is_other_name_byte, field_len, first_field, first_name}
@@ -85,24 +85,25 @@ unfolding is_name
 name_empty [] h = refl
 name_empty (c ∷ cs) h = absurd (omega arith)
 
+-- A field of more than 16 bytes is no name.
+pub name_long : (f : List ℕ) → max_name < length f → is_name f ≡ false
+unfolding is_name
+name_long [] h = refl
+name_long (c ∷ cs) h = rw (lt-leb (length (c ∷ cs)) max_name h) (and_false (is_letter c && name_bytes cs))
+
 -- A field that does not begin with a letter is no name.
 pub name_other : (f : List ℕ) → is_letter (get_or f 0 0) ≡ false → is_name f ≡ false
 unfolding is_name
 name_other [] e = refl
 name_other (c ∷ cs) e = rw e
 
--- A field with a byte after its first that may not stand in a name is none.
-pub name_broken : (f : List ℕ) → name_bytes (take (length f - 1) (drop 1 f)) ≡ false → is_name f ≡ false
+-- A short field that begins with a letter is a name exactly if its other bytes are name bytes.
+pub name_letter : (f : List ℕ) → (length f ≡ 0 → ⊥) → length f ≤ max_name → is_letter (get_or f 0 0) ≡ true
+    → is_name f ≡ name_bytes (take (length f - 1) (drop 1 f))
 unfolding is_name
-name_broken [] e = refl
-name_broken (c ∷ cs) e = rw (ap name_bytes (sym (rest_part 1 (c ∷ cs))) ∙ e, and_false (is_letter c))
-
--- A field that begins with a letter, with name bytes after it, is a name exactly if it is short.
-pub name_letter : (f : List ℕ) → 1 ≤ length f → is_letter (get_or f 0 0) ≡ true
-    → name_bytes (take (length f - 1) (drop 1 f)) ≡ true → leb (length f) max_name ≡ is_name f
-unfolding is_name
-name_letter [] n h e = absurd (omega arith)
-name_letter (c ∷ cs) n h e = rw (h, ap name_bytes (sym (rest_part 1 (c ∷ cs))) ∙ e)
+name_letter [] n h e = absurd (n refl)
+name_letter (c ∷ cs) n h e =
+    rw (rest_part 1 (c ∷ cs)) (rw (e, le-leb (length (c ∷ cs)) max_name h) (and_true (name_bytes cs)))
 
 -- These laws give the first name of s, where t tells whether the first field, of length n, is a name.
 module _ (s : List ℕ) (n : ℕ) (t : Bool) where
